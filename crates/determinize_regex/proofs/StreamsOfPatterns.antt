@@ -1,11 +1,12 @@
 -- A search in pieces over an NFA of patterns, in words of the patterns.
--- Main statements: stream_of, fed_by, part_fed_by, few_by, next_by, none_by, keeps_by, finished_by, streaming_by, streaming_new.
+-- Main statements: stream_of, fed_by, few_by, next_by, keeps_by, block_by, finished_by, streaming_by, streaming_new.
 -- Used by: the calls of `Stream`.
 -- Idea: the matches of the runs are those of the patterns, so what keeps the list of the one keeps that of the other.
 use Rattle.std.specs.Prelude.{IfOk, OnErr, OnOk, Option, Result, option_to_list}
-use Rattle.std.specs.Option.{IfNone}
-use Rattle.std.proofs.Common.{◌≡◌, ◌≤◌, ◌++◌, ℕ, [], Bool, List, None, Some, arith, cond, false, length}
+use Rattle.std.specs.Option.{IfNone, IfSome}
+use Rattle.std.proofs.Common.{◌≡◌, ◌≤◌, ◌++◌, ◌∷◌, ◌⊎◌, ℕ, [], Bool, List, None, Some, arith, cond, false, inl, inr, length}
 use Rattle.std.proofs.Common.{refl, subst, sym, take, true}
+use Rattle.std.proofs.lemmas.Option.{IfSome_then}
 use Rattle.std.proofs.lemmas.Result.{IfOk-weaker, on_err_weaker, on_ok_weaker}
 use Rattle.determinize_below.specs.Nfa.{IsAccepted}
 use Rattle.determinize_below.specs.Semantics.{Nfa}
@@ -13,15 +14,15 @@ use Rattle.determinize_below.specs.declared.search.Match.{Match}
 use Rattle.determinize_find.proofs.matches.InputMatches.{each_input_has_matches}
 use Rattle.determinize_find.specs.Matches.{from}
 use Rattle.determinize_find.specs.Regexes.{RegexValue as Searched}
-use Rattle.determinize_find.specs.Streams.{IsAdvance, IsFed, IsFeeding, IsFinished, IsFrontFed, IsPartFed, IsSearching, IsStream}
-use Rattle.determinize_find.specs.Streams.{KeepsFew, KeptFewInBlocks, Streamed, before, place, whole}
+use Rattle.determinize_find.specs.Streams.{IsAdvance, IsFed, IsFeeding, IsFinished, IsFoundInBlock, IsFrontFed, IsPartFed}
+use Rattle.determinize_find.specs.Streams.{IsSearching, IsStream, KeepsFew, KeptFewInBlocks, Streamed, before, place, whole}
 use Rattle.determinize_pattern.specs.declared.pattern.Pattern.{Pattern}
 use Rattle.determinize_regex.proofs.FoundByRegex.{all_of, matches_by_runs, matches_of}
 use Rattle.determinize_regex.specs.Private.Searched.{IsSearchOf, IsStreaming}
 use Rattle.determinize_regex.specs.Regexes.{RegexValue}
-use Rattle.determinize_regex.specs.Streams.{BeginAll, IsFedOf, IsFinishedOf, IsFrontFedOf, IsPartFedOf, IsStreamOf, KeepsFewOf, KeptFewOf}
-use Rattle.determinize_regex.specs.Streams.{StreamValue}
-use Rattle.ordered_reach.proofs.Cases.{some_injective}
+use Rattle.determinize_regex.specs.Streams.{BeginAll, IsFedOf, IsFinishedOf, IsFoundInBlockOf, IsFrontFedOf, IsPartFedOf}
+use Rattle.determinize_regex.specs.Streams.{IsStreamOf, KeepsFewOf, KeptFewOf, StreamValue}
+use Rattle.ordered_reach.proofs.Cases.{by_cases, some_injective}
 
 -- a match that ended where the search begins ended at the place
 before_is : (s : Streamed) (last : ℕ) → before s ≡ Some last → last ≡ place s
@@ -103,12 +104,17 @@ module _ (patterns : List Pattern) (terminator : ℕ) (search : Searched) (old :
 
   module _ (now : Searched) (new : Streamed) (kept : now ≡ search) where
     -- where these bytes were read
+    fed_from : (from : Streamed) (list after : List Match) (more : List ℕ) → IsFed search.nfa from new more list after
+        → IsFedOf (value_of patterns terminator search from) (value_of patterns terminator now new) more list after
+    fed_from from list after more h =
+        subst (λ v. IsFedOf (value_of patterns terminator search from) (value_of patterns terminator v new) more list
+        after) (sym kept)
+        (fed_of (value_of patterns terminator search old).regex search is.regex is.accepted from new more list after h)
+
     one_fed : (list after : List Match) (more : List ℕ) → IsFed search.nfa old new more list after
         → IsFedOf seen (value_of patterns terminator now new) more list after
     one_fed list after more h = subst (λ v. IsFedOf v (value_of patterns terminator now new) more list after) same
-        (subst (λ v. IsFedOf (value_of patterns terminator search old) (value_of patterns terminator v new) more list
-        after) (sym kept)
-        (fed_of (value_of patterns terminator search old).regex search is.regex is.accepted old new more list after h))
+        (fed_from old list after more h)
 
     front_fed : {piece rest : List ℕ} {found : List Match} → IsFrontFed search.nfa old new piece rest found
         → IsFrontFedOf seen (value_of patterns terminator now new) piece rest found
@@ -132,9 +138,12 @@ module _ (patterns : List Pattern) (terminator : ℕ) (search : Searched) (old :
       pub advancing_by : IsStreaming patterns terminator now new
       advancing_by = streaming (read is.under_way).searching
 
+    keeps_few : KeepsFew search.nfa new → KeepsFewOf (value_of patterns terminator now new)
+    keeps_few k = record { nfa = search.nfa; means = is.regex.means; apart = is.regex.apart; few = k }
+
     none_keeps : (next : Option Match) → IfNone next (KeepsFew search.nfa new)
         → IfNone next (KeepsFewOf (value_of patterns terminator now new))
-    none_keeps None k = record { nfa = search.nfa; means = is.regex.means; apart = is.regex.apart; few = k }
+    none_keeps None k = keeps_few k
     none_keeps (Some m) k = tt
 
     pub keeps_by : {E : Type 0} (result : Result (Option Match) E)
@@ -163,6 +172,26 @@ module _ (patterns : List Pattern) (terminator : ℕ) (search : Searched) (old :
           (λ (k : KeptFewInBlocks search.nfa old new piece list after).
           subst (λ v. KeptFewOf v (value_of patterns terminator now new) piece list after) same
           record { nfa = search.nfa; means = is.regex.means; apart = is.regex.apart; few = k }) (few is.under_way)
+
+  module _ (now : Searched) (new : Streamed) (kept : now ≡ search) (piece rest : List ℕ) where
+    found_in : {m : Match} → IsFoundInBlock search.nfa old new piece rest m
+        → IsFoundInBlockOf seen (value_of patterns terminator now new) piece rest m
+    found_in {m} h = record {
+      now = value_of patterns terminator search h.now;
+      block = h.block;
+      small = h.small;
+      first = front_fed search h.now refl h.first;
+      few = keeps_few search h.now refl h.few;
+      last = fed_from now new kept h.now [] (m ∷ []) h.block h.last;
+    }
+
+    pub block_by : {E : Type 0} (result : Result (Option Match) E)
+        → (IsSearching search.nfa old → IfOk result (λ next. IfSome next (λ m. (rest ≡ piece)
+        ⊎ IsFoundInBlock search.nfa old new piece rest m)))
+        → IfOk result (λ next. IfSome next (λ m. (rest ≡ piece)
+        ⊎ IsFoundInBlockOf seen (value_of patterns terminator now new) piece rest m))
+    block_by result block = IfOk-weaker result _ _
+        (λ next h. IfSome_then next h (λ m f. by_cases f (λ e. inl e) (λ i. inr (found_in i)))) (block is.under_way)
 
 -- a stream that has read nothing, over the NFA of another search
 pub streaming_new : (patterns : List Pattern) (terminator limit : ℕ) (old : Searched) (pieces : Streamed)

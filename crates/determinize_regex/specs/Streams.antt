@@ -1,5 +1,6 @@
 -- All matches of patterns in a text that comes in pieces.
-use Rattle.std.specs.Prelude.{◌≡◌, ◌+◌, ◌<◌, ◌≤◌, ◌++◌, ℕ, [], All, List, drop, length, take}
+use Rattle.std.specs.Prelude.{◌≡◌, ◌+◌, ◌<◌, ◌≤◌, ◌++◌, ◌∷◌, ℕ, [], All, List, drop, length}
+use Rattle.std.specs.Prelude.{take}
 use Rattle.determinize_below.specs.Semantics.{Nfa}
 use Rattle.determinize_below.specs.declared.search.Match.{Match}
 use Rattle.determinize_find.specs.Matches.{from}
@@ -70,6 +71,16 @@ pub record KeepsFewOf (s : StreamValue) : Type 0 where
   pub means : IsNfaOf (meanings s.regex) nfa
   pub apart : HasPrefixApart nfa
   pub few : KeepsFew nfa s.pieces
+
+-- before the last bytes that were read, at most 4096, no match was certain and few bytes were kept;
+-- with them this match was found
+pub record IsFoundInBlockOf (old new : StreamValue) (piece rest : List ℕ) (m : Match) : Type 0 where
+  pub now : StreamValue
+  pub block : List ℕ
+  pub small : length block ≤ 4096
+  pub first : IsFrontFedOf old now piece (block ++ rest) []
+  pub few : KeepsFewOf now
+  pub last : IsFedOf now new block [] (m ∷ [])
 
 -- the matches that are left, where the text ends, were added to a list; their bytes are kept
 pub record IsFinishedOf (s : StreamValue) (list after : List Match) : Type 0 where

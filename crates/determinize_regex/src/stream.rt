@@ -1,13 +1,14 @@
 //! All matches of patterns in a text that comes in pieces.
 
-ghost use Rattle.std.specs.Prelude.{◌≡◌, ◌<◌, ◌↔◌, ℕ, [], List, drop, option_to_list};
+ghost use Rattle.std.specs.Prelude.{◌≡◌, ◌<◌, ◌⊎◌, ◌↔◌, ℕ, [], List, drop, option_to_list};
 ghost use Rattle.std.specs.Prelude.{IfOk, IsSome, OnErr, OnOk};
 ghost use Rattle.std.specs.List.{slice_range};
 ghost use Rattle.std.specs.Option.{IfNone, IfSome};
 ghost use Rattle.determinize_find.specs.Streams.{IsKept, count_kept, count_read, left_in};
 ghost use Rattle.determinize_regex.specs.Private.Searched.{IsSearchOf};
-ghost use Rattle.determinize_regex.specs.Streams.{IsFedOf, IsFinishedOf, IsFrontFedOf};
-ghost use Rattle.determinize_regex.specs.Streams.{IsPartFedOf, IsStreamOf, KeepsFewOf, KeptFewOf};
+ghost use Rattle.determinize_regex.specs.Streams.{IsFedOf, IsFinishedOf, IsFoundInBlockOf};
+ghost use Rattle.determinize_regex.specs.Streams.{IsFrontFedOf, IsPartFedOf, IsStreamOf};
+ghost use Rattle.determinize_regex.specs.Streams.{KeepsFewOf, KeptFewOf};
 
 use crate::regex::Regex;
 use determinize_below::Match;
@@ -124,6 +125,8 @@ impl<'r, A: Allocator + Copy> Stream<'r, A> {
         ensures failed { OnErr result
             (IsFrontFedOf self.old self.new piece.old.now piece.new.now []) }
         ensures end { IfOk result (λ next. IfNone next (piece.new.now ≡ [])) }
+        ensures block { IfOk result (λ next. IfSome next (λ m. (piece.new.now ≡ piece.old.now)
+            ⊎ IsFoundInBlockOf self.old self.new piece.old.now piece.new.now m)) }
         ensures few { IfOk result (λ next. IfNone next (KeepsFewOf self.new)) }
         ensures kept { IfOk result (λ next. IfSome next (λ m. IsKept self.new.pieces m)) }
         ensures fewer { IfOk result (λ next. IfSome next (λ m.

@@ -1,4 +1,4 @@
-use Rattle.determinize_regex.proofs.StreamsOfPatterns.{advancing_by, keeps_by, next_by, none_by}
+use Rattle.determinize_regex.proofs.StreamsOfPatterns.{advancing_by, block_by, keeps_by, next_by, none_by}
 use Rattle.determinize_regex.proofs.stream.Stream.advance.Goals as goal
 
 pub invariant_of-self : goal.invariant_of-self
@@ -24,3 +24,9 @@ returns-clause-few g c =
     keeps_by c.self.inside.regex.now.patterns c.self.inside.regex.now.terminator c.self.inside.search
     c.self.inside.pieces c.args.self.now c.self.view_is c.self.invariant c.advance.new.regex c.advance.new.self
     c.advance.ensures.same c.advance.result c.advance.ensures.few
+
+pub returns-clause-block : goal.returns-clause-block
+returns-clause-block g c =
+    block_by c.self.inside.regex.now.patterns c.self.inside.regex.now.terminator c.self.inside.search
+    c.self.inside.pieces c.args.self.now c.self.view_is c.self.invariant c.advance.new.regex c.advance.new.self
+    c.advance.ensures.same c.args.piece.now.now c.advance.new.piece.now c.advance.result c.advance.ensures.block
