@@ -1,3 +1,4 @@
+pub mod Ascii
 pub mod Boundaries
 pub mod Branches
 pub mod Preferred

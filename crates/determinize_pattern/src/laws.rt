@@ -1,12 +1,12 @@
 //! Laws of the ends of patterns and of compiled NFAs, as contracts of public functions.
 
-ghost use Rattle.std.specs.Prelude.{◌≡◌, ℕ, All, Bool, IsUtf8, List, Option, Some};
+ghost use Rattle.std.specs.Prelude.{◌≡◌, ◌<◌, ℕ, All, Bool, IsUtf8, List, Option, Some, true};
 ghost use Rattle.determinize_below.specs.declared.look.Look.{Look as Assertion};
 ghost use Rattle.determinize_pattern.specs.Characters.{IsCharClass, ReadsCharacters};
 ghost use Rattle.determinize_pattern.specs.Examples.{a_or_lazy_star, a_or_nothing, a_then_lazy_b, boundary_or_a, first_end, lazy_star_inside, nothing_or_a, star_of_lazy, star_of_lazy_inside, star_of_star, star_or_b, text_aa, text_aab, text_ab, text_abb};
 ghost use Rattle.determinize_pattern.specs.Laws.{AccentMatches, EachCharEndsOnce, EachCharIsPreferred, EachCharIsUtf8, EachEndIsBoundary, EachEndMatches, EachLeftmostIsOf, EachStartIsBoundary};
 ghost use Rattle.determinize_pattern.specs.Meaning.{Look, Re};
-ghost use Rattle.determinize_pattern.specs.Patterns.{choice, literal, repeated, sequence};
+ghost use Rattle.determinize_pattern.specs.Patterns.{IsClass, choice, literal, repeated, sequence};
 
 /// States that the ends of a pattern are the positions to which it matches in some way.
 pub fn ends_law()
@@ -28,10 +28,12 @@ pub fn chars_law()
 {}
 
 /// States that a pattern matches only UTF-8 in a text that is UTF-8 if it is built of classes of
-/// characters, literals that are UTF-8 and assertions, and that each match of such a pattern is
-/// from one boundary of characters to another, unless it is empty.
+/// characters or of ASCII bytes, literals that are UTF-8 and assertions, and that each match of
+/// such a pattern is from one boundary of characters to another, unless it is empty.
 pub fn boundaries_law()
     ensures class { (test : ℕ → Bool) (re : Re) → IsCharClass test re → ReadsCharacters re }
+    ensures ascii { (test : ℕ → Bool) (re : Re) → IsClass test re
+        → ((b : ℕ) → b < 256 → test b ≡ true → b < 128) → ReadsCharacters re }
     ensures literal { (bytes : List ℕ) → IsUtf8 bytes → ReadsCharacters (literal bytes) }
     ensures look { (look : Assertion) → ReadsCharacters (Look look) }
     ensures sequence { (res : List Re) → All ReadsCharacters res

@@ -1,7 +1,7 @@
 -- Patterns that match only UTF-8 match from one boundary of characters to another.
 -- Main statements: literal_reads, look_reads, sequence_reads, choice_reads, repeated_reads, end_boundary,
 -- start_boundary.
--- Used by: characters_law.
+-- Used by: boundaries_law.
 -- Idea: what a sequence matches is what its parts match, and UTF-8 after UTF-8 is UTF-8.
 use Rattle.std.proofs.Math.Seq.{take-nil}
 use Rattle.std.proofs.lemmas.Bool.Decides.{nat_tests}

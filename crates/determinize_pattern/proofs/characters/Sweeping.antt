@@ -9,7 +9,7 @@ use Rattle.std.proofs.lemmas.Bool.{cases_lt, false≢true}
 use Rattle.std.proofs.lemmas.List.{get_or_default, map-append, take_more}
 use Rattle.std.proofs.lemmas.List.Sorted.{IsPermutation-map, list_any-IsPermutation}
 use Rattle.std.specs.Prelude.{not}
-use Rattle.std.proofs.Common.{◌↔◌, ◌≡◌, ◌&&◌, ◌+◌, ◌<◌, ◌≤◌, ◌++◌, ◌∙◌, ◌∷◌, ℕ, Bool, List, Some, [], ap, arith, cond, false, get_or, inl, inr, length, map, max, nat_lt, sym, take, true}
+use Rattle.std.proofs.Common.{◌↔◌, ◌≡◌, ◌&&◌, ◌+◌, ◌<◌, ◌≤◌, ◌++◌, ◌∙◌, ◌∷◌, ℕ, Bool, List, Some, [], ap, arith, cond, false, get_or, inl, inr, length, max, nat_lt, sym, take, true}
 use Rattle.ordered_reach.proofs.Cases.{by_cases}
 use Rattle.determinize_below.specs.Semantics.{within}
 use Rattle.determinize_pattern.proofs.characters.Branches.{adds_both, adds_same, all_added}

@@ -1,6 +1,6 @@
 -- Characters as numbers written in base 64.
 -- Main statements: chars_added, one_char, accent.
--- Used by: the proofs of `push_chars` and `chars_law`.
+-- Used by: the proofs of `push_chars` and `chars_law`, and the file Ascii.
 -- Idea: the bytes from one position to another are those that are read there one after the other.
 use Rattle.std.proofs.lemmas.Bool.Decides.{nat_tests}
 use Rattle.std.proofs.lemmas.Bool.{cases_lt, cond-false, cond-true}
@@ -99,17 +99,17 @@ one_char f bytes i j k c d =
 encode_one : (c : ℕ) → c < 128 → encode_utf8 c ≡ written 0 0 c
 encode_one c l = encode_ascii c l ∙ ap (λ (b : ℕ). b ∷ []) (sym (zero-add c))
 
-encode_two : (c : ℕ) → 128 ≤ c → c < 2048 → encode_utf8 c ≡ written 192 1 c
+pub encode_two : (c : ℕ) → 128 ≤ c → c < 2048 → encode_utf8 c ≡ written 192 1 c
 unfolding encode_utf8
 encode_two c l m = cond-false _ _ _ (le-ltb c 128 l) ∙ cond-true _ _ _ (lt-ltb c 2048 m)
 
-three_bytes : (c : ℕ) → 2048 ≤ c → c < 65536
+pub three_bytes : (c : ℕ) → 2048 ≤ c → c < 65536
     → encode_utf8 c ≡ (224 + c / 4096) ∷ (128 + (c / 64) % 64) ∷ (128 + c % 64) ∷ []
 unfolding encode_utf8
 three_bytes c l m = cond-false _ _ _ (le-ltb c 128 (omega arith)) ∙ cond-false _ _ _ (le-ltb c 2048 l)
     ∙ cond-true _ _ _ (lt-ltb c 65536 m)
 
-four_bytes : (c : ℕ) → 65536 ≤ c → encode_utf8 c
+pub four_bytes : (c : ℕ) → 65536 ≤ c → encode_utf8 c
     ≡ (240 + c / 262144) ∷ (128 + (c / 4096) % 64) ∷ (128 + (c / 64) % 64) ∷ (128 + c % 64) ∷ []
 unfolding encode_utf8
 four_bytes c l = cond-false _ _ _ (le-ltb c 128 (omega arith)) ∙ cond-false _ _ _ (le-ltb c 2048 (omega arith))
@@ -137,7 +137,7 @@ record IsBlock (lead count low high : ℕ) : Type 0 where
   pub scalar : (c : ℕ) → low ≤ c → c < high → IsScalar c
   pub bytes : (c : ℕ) → low ≤ c → c < high → encode_utf8 c ≡ written lead count c
 
-below_surrogates : (c : ℕ) → c < 55296 → IsScalar c
+pub below_surrogates : (c : ℕ) → c < 55296 → IsScalar c
 below_surrogates c l = grind (arith, nat_tests)
 
 above_surrogates : (c : ℕ) → 57344 ≤ c → c < 1114112 → IsScalar c
