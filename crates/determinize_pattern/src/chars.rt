@@ -70,9 +70,9 @@ fn push_run(
     }
 }
 
-/// Returns the pattern of the characters in one of the ranges, or in none if `negated` is set: a
-/// sweep over the ranges in order, in which the last run of numbers that are in a range is from
-/// `start` on and below `end`.
+/// Returns the pattern of the characters in one of the ranges, or in none if `negated` is set. Goes
+/// through the ranges in the order of their starts; `start..end` is the last run of numbers that
+/// are in some range so far.
 fn collect(
     alloc: Global,
     ranges: &[ClassUnicodeRange],
