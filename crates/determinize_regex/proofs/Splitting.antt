@@ -1,10 +1,11 @@
 -- A text is cut at one match after another, and other bytes are put in their places.
--- Main statements: one_part, last_part, one_replaced, last_replaced, each_replaced_is_joined.
--- Used by: `split_at`, `replace`, and `laws::parts_law`.
+-- Main statements: kept_apart, one_part, last_part, one_replaced, last_replaced, each_replaced_is_joined.
+-- Used by: `whole_matches_in`, `split_at`, `replace`, and `laws::parts_law`.
 -- Idea: what is made of the matches so far, and then of the rest from their end on, is what is made of all.
 use Rattle.std.specs.List.{flat_map, join_by}
-use Rattle.std.specs.Prelude.{slice_range}
-use Rattle.std.proofs.Common.{◌≡◌, ◌≤◌, ◌++◌, ◌∙◌, ◌∷◌, ℕ, List, Option, Some, [], append-nil, append_assoc, drop, map, sym}
+use Rattle.std.specs.Prelude.{filter, slice_range}
+use Rattle.std.proofs.Common.{◌≡◌, ◌<◌, ◌≤◌, ◌++◌, ◌∙◌, ◌∷◌, ℕ, Bool, List, Option, Some, [], append-nil, append_assoc, arith, drop, map, refl, sym}
+use Rattle.std.proofs.lemmas.Bool.{cond_both}
 use Rattle.std.proofs.lemmas.List.{map-append}
 use Rattle.determinize_below.proofs.Moved.{one_more}
 use Rattle.determinize_below.specs.declared.search.Match.{Match}
@@ -35,6 +36,24 @@ next_left text_size at m ms found is h =
       high = a.2;
       left = record { inside = a.2; before = Some m.end; apart = a.4 };
     }
+
+-- matches that begin later may follow an earlier one
+later_apart : (start at size : ℕ) (before : Option ℕ) (ms : List Match) → start ≤ at
+    → ((last : ℕ) → before ≡ Some last → last < at) → AreApart at (Some at) size ms → AreApart start before size ms
+later_apart start at size before [] low after a = tt
+later_apart start at size before (m ∷ ms) low after a =
+    let next : at < m.end = a.3 at refl in
+    (omega (arith, low, a.0), a.1, a.2, (λ last is. let l = after last is in omega (arith, l, next)), a.4)
+
+-- those of a list that are kept are apart, if all are
+pub kept_apart : (keep : Match → Bool) (start size : ℕ) (before : Option ℕ) (ms : List Match)
+    → AreApart start before size ms → AreApart start before size (filter keep ms)
+kept_apart keep start size before [] a = tt
+kept_apart keep start size before (m ∷ ms) a =
+    let rest = kept_apart keep m.end size (Some m.end) ms a.4 in
+    cond_both (keep m) _ _ (AreApart start before size)
+    (λ _. (a.0, a.1, a.2, a.3, rest))
+    (λ _. later_apart start m.end size before (filter keep ms) (omega (arith, a.0, a.1)) a.3 rest)
 
 module _ {X : Type 0} (bytes : X → List ℕ) (text : List ℕ) where
   -- the parts so far, before those that are left, are all

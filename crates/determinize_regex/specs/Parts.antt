@@ -1,7 +1,8 @@
 -- The parts of a text between matches, and texts with other bytes in place of matches.
-use Rattle.std.specs.Prelude.{◌≡◌, ◌++◌, ◌∷◌, ℕ, List, [], drop, slice_range}
+use Rattle.std.specs.Prelude.{◌≡◌, ◌++◌, ◌∷◌, ℕ, List, [], drop, filter, slice_range}
 use Rattle.determinize_below.specs.declared.search.Match.{Match}
 use Rattle.determinize_regex.specs.Regexes.{AreAllIn, RegexValue}
+use Rattle.determinize_regex.specs.Utf8.{is_whole}
 
 -- the parts of a text, from an index on, that lie between the matches
 abbrev pub parts : List ℕ → ℕ → List Match → List (List ℕ)
@@ -24,3 +25,16 @@ pub record IsReplaced (regex : RegexValue) (text by new : List ℕ) : Type 0 whe
   pub matches : List Match
   pub all : AreAllIn regex text matches
   pub is : new ≡ replaced by text 0 matches
+
+-- these are the parts of a text that lie between all matches of the patterns but the empty ones
+-- inside a character
+pub record AreUtf8Parts (regex : RegexValue) (text : List ℕ) (cut : List (List ℕ)) : Type 0 where
+  pub matches : List Match
+  pub all : AreAllIn regex text matches
+  pub are : cut ≡ parts text 0 (filter (is_whole text) matches)
+
+-- this is a text with these bytes in place of each of the same matches
+pub record IsReplacedUtf8 (regex : RegexValue) (text by new : List ℕ) : Type 0 where
+  pub matches : List Match
+  pub all : AreAllIn regex text matches
+  pub is : new ≡ replaced by text 0 (filter (is_whole text) matches)

@@ -4,12 +4,12 @@ ghost use Rattle.std.specs.Prelude.{◌≡◌, ◌≤◌, IfOk, map, true};
 ghost use Rattle.std.specs.Bool.{Decides};
 ghost use Rattle.std.specs.Option.{IfSome};
 ghost use Rattle.determinize_engine.specs.Searches.{has_start};
-ghost use Rattle.determinize_regex.specs.Parts.{AreParts, IsReplaced};
+ghost use Rattle.determinize_regex.specs.Parts.{AreParts, AreUtf8Parts, IsReplaced, IsReplacedUtf8};
 ghost use Rattle.determinize_regex.specs.Private.Searched.{IsSearchOf};
 ghost use Rattle.determinize_regex.specs.Regexes.{AreAll, HasFirst, IsFirst};
 
 use crate::regex::Regex;
-use crate::split::{matches_in, replace, split_at};
+use crate::split::{matches_in, replace, split_at, whole_matches_in};
 use determinize_below::{Input, Match};
 use determinize_find::{LazyRegex, OwnedRegex};
 use std::alloc::{AllocError, Allocator, Global};
@@ -129,6 +129,35 @@ impl<'r, A: Allocator + Copy> Matcher<'r, A> {
         ensures same { self.new ≡ self.old }
     {
         let found = matches_in(alloc, &mut self.search, haystack)?;
+        replace(alloc, haystack, &found, replacement)
+    }
+
+    /// Returns the parts of a text between its matches, as `Regex::split_utf8`.
+    pub fn split_utf8<'h, C: Allocator + Copy>(
+        &mut self,
+        alloc: C,
+        haystack: &'h [u8],
+    ) -> Result<Vec<&'h [u8], C>, AllocError>
+        ensures parts { IfOk result
+            (λ cut. AreUtf8Parts self.old haystack.now (map (λ part. part.now) cut.items)) }
+        ensures same { self.new ≡ self.old }
+    {
+        let found = whole_matches_in(alloc, &mut self.search, haystack)?;
+        split_at(alloc, haystack, &found)
+    }
+
+    /// Returns a text with other bytes in place of each match, as `Regex::replace_all_utf8`.
+    pub fn replace_all_utf8<C: Allocator + Copy>(
+        &mut self,
+        alloc: C,
+        haystack: &[u8],
+        replacement: &[u8],
+    ) -> Result<Vec<u8, C>, AllocError>
+        ensures replaced { IfOk result
+            (λ new. IsReplacedUtf8 self.old haystack.now replacement.now new.items) }
+        ensures same { self.new ≡ self.old }
+    {
+        let found = whole_matches_in(alloc, &mut self.search, haystack)?;
         replace(alloc, haystack, &found, replacement)
     }
 }

@@ -7,7 +7,7 @@ ghost use Rattle.determinize_engine.specs.Searches.{has_start};
 ghost use Rattle.determinize_nfa.specs.Prefix.{HasPrefix, HasPrefixApart};
 ghost use Rattle.determinize_pattern.specs.Compiled.{IsNfaOf};
 ghost use Rattle.determinize_pattern.specs.Patterns.{meaning};
-ghost use Rattle.determinize_regex.specs.Parts.{AreParts, IsReplaced};
+ghost use Rattle.determinize_regex.specs.Parts.{AreParts, AreUtf8Parts, IsReplaced, IsReplacedUtf8};
 ghost use Rattle.determinize_regex.specs.Regexes.{AreAll, HasFirst, IsFirst};
 ghost use Rattle.determinize_regex.specs.Spelled.{AreSpelled};
 ghost use Rattle.determinize_regex.specs.Streams.{IsStreamOf};
@@ -15,7 +15,7 @@ ghost use Rattle.determinize_syntax.specs.Words.{no_flags};
 
 use crate::error::Error;
 use crate::matcher::Matcher;
-use crate::split::{matches_in, replace, split_at};
+use crate::split::{matches_in, replace, split_at, whole_matches_in};
 use crate::stream::Stream;
 use determinize_below::{Input, Match, NFA};
 use determinize_find::OwnedRegex;
@@ -245,6 +245,37 @@ impl Regex {
         ensures same { self.new ≡ self.old }
     {
         let found = matches_in(alloc, &mut self.search, haystack)?;
+        replace(alloc, haystack, &found, replacement)
+    }
+
+    /// Returns the parts of a text between its matches, as `split`, but does not cut the text at
+    /// the empty matches inside an encoded character. The text should be UTF-8.
+    pub fn split_utf8<'h, C: Allocator + Copy>(
+        &mut self,
+        alloc: C,
+        haystack: &'h [u8],
+    ) -> Result<Vec<&'h [u8], C>, AllocError>
+        ensures parts { IfOk result
+            (λ cut. AreUtf8Parts self.old haystack.now (map (λ part. part.now) cut.items)) }
+        ensures same { self.new ≡ self.old }
+    {
+        let found = whole_matches_in(alloc, &mut self.search, haystack)?;
+        split_at(alloc, haystack, &found)
+    }
+
+    /// Returns a text with other bytes in place of each match, as `replace_all`, but puts none
+    /// inside an encoded character for an empty match there. The text should be UTF-8.
+    pub fn replace_all_utf8<C: Allocator + Copy>(
+        &mut self,
+        alloc: C,
+        haystack: &[u8],
+        replacement: &[u8],
+    ) -> Result<Vec<u8, C>, AllocError>
+        ensures replaced { IfOk result
+            (λ new. IsReplacedUtf8 self.old haystack.now replacement.now new.items) }
+        ensures same { self.new ≡ self.old }
+    {
+        let found = whole_matches_in(alloc, &mut self.search, haystack)?;
         replace(alloc, haystack, &found, replacement)
     }
 

@@ -4,7 +4,9 @@ ghost use Rattle.std.specs.Prelude.{◌≡◌, IfOk, None, length, map};
 ghost use Rattle.determinize_find.specs.Matches.{AreApart, AreMatches};
 ghost use Rattle.determinize_find.specs.Streams.{whole};
 ghost use Rattle.determinize_regex.specs.Parts.{parts, replaced};
+ghost use Rattle.determinize_regex.specs.Private.Searched.{AreWholeMatches};
 
+use crate::utf8::retain_whole;
 use determinize_below::{Input, Match};
 use determinize_find::Regex;
 use determinize_lazy::Engine;
@@ -22,6 +24,22 @@ pub(crate) fn matches_in<F: Engine, B: Engine<Error = F::Error>, C: Allocator>(
     ensures same { regex.new ≡ regex.old }
 {
     regex.find_all(alloc, &Input::new(text))
+}
+
+/// Returns all matches of a text but the empty ones inside an encoded character, in their order.
+pub(crate) fn whole_matches_in<F: Engine, B: Engine<Error = F::Error>, C: Allocator>(
+    alloc: C,
+    regex: &mut Regex<F, B>,
+    text: &[u8],
+) -> Result<Vec<Match, C>, AllocError>
+    ensures all { IfOk result
+        (λ found. AreWholeMatches regex.old.nfa text.now found.items) }
+    ensures apart { IfOk result (λ found. AreApart 0 None (length text.now) found.items) }
+    ensures same { regex.new ≡ regex.old }
+{
+    let mut found = matches_in(alloc, regex, text)?;
+    retain_whole(text, &mut found);
+    Ok(found)
 }
 
 /// Returns the parts of a text between matches.

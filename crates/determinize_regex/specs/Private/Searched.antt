@@ -1,12 +1,16 @@
--- The search of a regex, and that of a stream.
-use Rattle.std.specs.Prelude.{◌≡◌, ℕ, List, map}
+-- The search of a regex, its matches in a text, and the search of a stream.
+use Rattle.std.specs.Prelude.{◌≡◌, ℕ, List, None, filter, map}
 use Rattle.determinize_below.specs.Nfa.{IsAccepted}
+use Rattle.determinize_below.specs.Semantics.{Nfa}
+use Rattle.determinize_below.specs.declared.search.Match.{Match}
+use Rattle.determinize_find.specs.Matches.{AreMatches}
 use Rattle.determinize_find.specs.Regexes.{RegexValue}
-use Rattle.determinize_find.specs.Streams.{IsSearching, Streamed}
+use Rattle.determinize_find.specs.Streams.{IsSearching, Streamed, whole}
 use Rattle.determinize_nfa.specs.Prefix.{HasPrefix, HasPrefixApart}
 use Rattle.determinize_pattern.specs.Compiled.{IsNfaOf}
 use Rattle.determinize_pattern.specs.Patterns.{meaning}
 use Rattle.determinize_pattern.specs.declared.pattern.Pattern.{Pattern}
+use Rattle.determinize_regex.specs.Utf8.{is_whole}
 
 -- it is one over an NFA of the patterns, with the usual prefix, which is apart, and its two caches
 -- have one limit
@@ -24,3 +28,9 @@ pub record IsStreaming (patterns : List Pattern) (terminator : ℕ) (search : Re
   pub regex : IsSearchOf patterns terminator search
   pub accepted : IsAccepted search.nfa
   pub under_way : IsSearching search.nfa pieces
+
+-- these are all matches of a text but the empty ones inside a character
+pub record AreWholeMatches (nfa : Nfa) (text : List ℕ) (found : List Match) : Type 0 where
+  pub matches : List Match
+  pub all : AreMatches nfa (whole text) None matches
+  pub kept : found ≡ filter (is_whole text) matches

@@ -82,6 +82,31 @@ fn split_and_replace(rt: HostRuntime) {
     expect_list(&rt, &mut regex_of(&rt, &["[ ,]+"]));
 }
 
+/// The UTF-8 of `aé`, its parts between the matches of `b*`, and the text with `-` in place of
+/// each, as Python's `re` finds them in the string.
+const ACCENTED: &[u8] = b"a\xC3\xA9";
+
+static ACCENTED_PARTS: [&[u8]; 4] = [b"", b"a", b"\xC3\xA9", b""];
+
+const DASHED: &[u8] = b"-a-\xC3\xA9-";
+
+/// Splits the text, and replaces its matches, but not inside its second character.
+fn expect_accented<R: Abort + AllocGlobal>(rt: &R, regex: &mut Regex) {
+    let parts = regex.split_utf8(rt.alloc(), ACCENTED);
+    same(
+        rt,
+        parts.expect(rt, "memory").as_slice(),
+        ACCENTED_PARTS.as_slice(),
+    );
+    let text = regex.replace_all_utf8(rt.alloc(), ACCENTED, b"-");
+    same(rt, text.expect(rt, "memory").as_slice(), DASHED);
+}
+
+#[test]
+fn split_and_replace_utf8(rt: HostRuntime) {
+    expect_accented(&rt, &mut regex_of(&rt, &["b*"]));
+}
+
 /// The numbers and names in the text.
 static FOUND: [Ends; 3] = [(1, 0, 2), (0, 3, 7), (1, 8, 11)];
 
