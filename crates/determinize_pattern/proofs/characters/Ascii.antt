@@ -1,6 +1,6 @@
 -- A class of ASCII bytes matches only UTF-8 in a text that is UTF-8.
 -- Main statements: utf8_is_bytes, ascii_reads.
--- Used by: boundaries_law.
+-- Used by: boundaries_law, and characters_law of determinize_syntax.
 -- Idea: the bytes of UTF-8 are below 256, where the class has exactly the bytes that pass the test.
 use Rattle.std.proofs.lemmas.Bool.{and_parts, cases_lt, false≢true}
 use Rattle.std.proofs.lemmas.List.Elements.{All-append, All-from_recursion, All-nil}

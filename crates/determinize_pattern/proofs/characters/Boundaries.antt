@@ -1,14 +1,14 @@
 -- Patterns that match only UTF-8 match from one boundary of characters to another.
--- Main statements: literal_reads, look_reads, sequence_reads, choice_reads, repeated_reads, end_boundary,
+-- Main statements: class_reads, literal_reads, look_reads, sequence_reads, choice_reads, repeated_reads, end_boundary,
 -- start_boundary.
--- Used by: boundaries_law.
+-- Used by: chars_law, boundaries_law, and characters_law of determinize_syntax.
 -- Idea: what a sequence matches is what its parts match, and UTF-8 after UTF-8 is UTF-8.
 use Rattle.std.proofs.Math.Seq.{take-nil}
 use Rattle.std.proofs.lemmas.Bool.Decides.{nat_tests}
 use Rattle.std.proofs.lemmas.Bool.{false≢true}
 use Rattle.std.proofs.lemmas.List.Elements.{All-head, All-tail}
 use Rattle.std.proofs.lemmas.List.{drop-drop, get_or-drop, get_or-take, length-drop, length-take}
-use Rattle.std.proofs.lemmas.Str.{IsCharBoundary-from_rest, IsCharBoundary-from_take, IsCharBoundary-start, IsUtf8-append, IsUtf8-drop, IsUtf8-nil}
+use Rattle.std.proofs.lemmas.Str.{IsCharBoundary-from_rest, IsCharBoundary-from_take, IsCharBoundary-start, IsUtf8-append, IsUtf8-drop, IsUtf8-encode, IsUtf8-nil}
 use Rattle.std.specs.List.{All}
 use Rattle.std.specs.Prelude.{slice_get, slice_range}
 use Rattle.std.specs.Str.{IsCharBoundary, IsUtf8}
@@ -22,6 +22,7 @@ use Rattle.determinize_pattern.proofs.characters.Utf8.{reads}
 use Rattle.determinize_pattern.proofs.entries.Ends.{ends_onward}
 use Rattle.determinize_pattern.proofs.entries.Language.{end_matches, match_ends}
 use Rattle.determinize_pattern.specs.Characters.{ReadsCharacters}
+use Rattle.determinize_pattern.specs.Laws.{EachCharIsUtf8}
 use Rattle.determinize_pattern.specs.Meaning.{Empty, Look, Matches, Or, Plus, Re, Rounds, Then, ends, is_in, more_rounds, one_round}
 use Rattle.determinize_pattern.specs.Patterns.{at_least, choice, copies, literal, optional, repeated, sequence, up_to}
 
@@ -50,6 +51,9 @@ onward t text re i j m = by_cases (ends_onward t text re i j (match_ends t text 
 
 nothing_reads : (t : ℕ) (text : Text) (i j : ℕ) → j ≡ i → IsUtf8 (slice_range text.bytes i j)
 nothing_reads t text i j e = rw (e, range_none text.bytes i) IsUtf8-nil
+
+pub class_reads : EachCharIsUtf8
+class_reads test re class t text i j m = let c = (class t text i j).0 m in rw c.5 (IsUtf8-encode c.0 c.1)
 
 empty_reads : ReadsCharacters Empty
 empty_reads t text u i j m = nothing_reads t text i j m

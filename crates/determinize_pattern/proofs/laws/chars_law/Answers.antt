@@ -1,6 +1,6 @@
 use Rattle.std.proofs.Common.{[], ◌∷◌, None, false, refl}
-use Rattle.std.proofs.lemmas.Str.{IsUtf8-encode}
 use Rattle.determinize_below.specs.Semantics.{between}
+use Rattle.determinize_pattern.proofs.characters.Boundaries.{class_reads}
 use Rattle.determinize_pattern.proofs.characters.Preferred.{char_preferred}
 use Rattle.determinize_pattern.proofs.characters.Utf8.{accent, one_char}
 use Rattle.determinize_pattern.specs.Classes.{is_chosen}
@@ -14,6 +14,5 @@ returns c = record {
   once = λ test re class t text i j k m n.
       one_char test text.bytes i j k ((class t text i j).0 m) ((class t text i k).0 n);
   preferred = char_preferred;
-  utf8 = λ test re class t text i j m.
-      let c = (class t text i j).0 m in rw c.5 (IsUtf8-encode c.0 c.1);
+  utf8 = class_reads;
 }
