@@ -1,4 +1,4 @@
-mod characters
+pub mod characters
 mod classes
 mod compiled
 pub mod entries

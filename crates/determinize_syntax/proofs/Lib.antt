@@ -3,3 +3,4 @@ pub mod Classes
 pub mod Characters
 pub mod Numbers
 pub mod Parts
+pub mod Unicode

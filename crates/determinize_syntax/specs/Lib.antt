@@ -1,3 +1,4 @@
 pub mod Private
 pub mod Spells
+pub mod Unicode
 pub mod Words

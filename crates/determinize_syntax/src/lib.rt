@@ -10,6 +10,7 @@ mod escape;
 pub mod flags;
 mod group;
 mod kind;
+pub mod laws;
 pub mod parser;
 mod repetition;
 
