@@ -1,9 +1,10 @@
 -- What a search over the NFA of a regex finds.
--- Main statements: searched_by, first_of, matches_of, matches_by_runs, all_of, matched_by, all_in.
+-- Main statements: searched_by, first_of, matches_of, matches_by_runs, all_of, matched_by, all_in, parts_in,
+-- replaced_in, utf8_parts_in, utf8_replaced_in.
 -- Used by: the searches of `Regex`, of `Matcher` and of `Stream`.
 -- Idea: the NFA is that of the patterns, so its leftmost match and its matches are theirs.
 use Rattle.std.specs.Bool.{Decides}
-use Rattle.std.proofs.Common.{◌≡◌, ℕ, Bool, List, None, Option, Some, subst, sym}
+use Rattle.std.proofs.Common.{◌≡◌, ◌∙◌, ℕ, Bool, List, None, Option, Some, ap, subst, sym}
 use Rattle.determinize_below.specs.Search.{Asked}
 use Rattle.determinize_below.specs.declared.search.Match.{Match}
 use Rattle.determinize_find.specs.LeftmostIn.{IsLeftmostIn}
@@ -13,7 +14,8 @@ use Rattle.determinize_find.specs.Streams.{whole}
 use Rattle.determinize_find.proofs.matches.OneList.{each_leftmost_in_is_one}
 use Rattle.determinize_regex.proofs.LeftmostExists.{has_leftmost_of_in}
 use Rattle.determinize_regex.proofs.FoundOfPatterns.{each_leftmost_in_is_of, each_matches_are_of}
-use Rattle.determinize_regex.specs.Private.Searched.{IsSearchOf}
+use Rattle.determinize_regex.specs.Parts.{AreParts, AreUtf8Parts, IsReplaced, IsReplacedUtf8, parts, replaced}
+use Rattle.determinize_regex.specs.Private.Searched.{AreWholeMatches, IsSearchOf}
 use Rattle.determinize_regex.specs.PatternMatches.{AreMatchesOf, IsLeftmostOfIn}
 use Rattle.determinize_regex.specs.Regexes.{AreAll, AreAllIn, HasFirst, IsFirst, RegexValue, meanings}
 
@@ -80,3 +82,34 @@ pub all_in : (search : Searched) (inside seen : RegexValue) → inside ≡ seen
     → IsSearchOf inside.patterns inside.terminator search → (text : List ℕ) (found : List Match)
     → AreMatches search.nfa (whole text) None found → AreAllIn seen text found
 all_in search inside seen same is text = all_of seen search (searched_by search inside seen same is) (whole text)
+
+-- what is made of these matches is made of all matches of that value
+module _ (search : Searched) (inside seen : RegexValue) (same : inside ≡ seen)
+    (is : IsSearchOf inside.patterns inside.terminator search) (text : List ℕ) (found : List Match) where
+  pub parts_in : AreMatches search.nfa (whole text) None found → (cut : List (List ℕ)) → cut ≡ parts text 0 found
+      → AreParts seen text cut
+  parts_in all cut are = record { matches = found; all = all_in search inside seen same is text found all; are = are }
+
+  pub replaced_in : AreMatches search.nfa (whole text) None found → (by new : List ℕ) → new ≡ replaced by text 0 found
+      → IsReplaced seen text by new
+  replaced_in all by new made = record {
+    matches = found;
+    all = all_in search inside seen same is text found all;
+    is = made;
+  }
+
+  pub utf8_parts_in : AreWholeMatches search.nfa text found → (cut : List (List ℕ)) → cut ≡ parts text 0 found
+      → AreUtf8Parts seen text cut
+  utf8_parts_in kept cut are = record {
+    matches = kept.matches;
+    all = all_in search inside seen same is text kept.matches kept.all;
+    are = are ∙ ap (parts text 0) kept.kept;
+  }
+
+  pub utf8_replaced_in : AreWholeMatches search.nfa text found → (by new : List ℕ) → new ≡ replaced by text 0 found
+      → IsReplacedUtf8 seen text by new
+  utf8_replaced_in kept by new made = record {
+    matches = kept.matches;
+    all = all_in search inside seen same is text kept.matches kept.all;
+    is = made ∙ ap (replaced by text 0) kept.kept;
+  }

@@ -1,15 +1,9 @@
-use Rattle.std.proofs.Common.{◌∙◌, ap}
 use Rattle.std.proofs.lemmas.Result.{IfOk-weaker}
-use Rattle.determinize_regex.proofs.FoundByRegex.{all_in}
-use Rattle.determinize_regex.specs.Parts.{parts}
+use Rattle.determinize_regex.proofs.FoundByRegex.{utf8_parts_in}
 use Rattle.determinize_regex.proofs.matcher.Matcher.split_utf8.Goals as goal
 
 pub returns-clause-parts : goal.returns-clause-parts
 returns-clause-parts g c =
-    let found = c.in_ok-found.ensures.all in
-    IfOk-weaker c.split_at.result _ _ (λ cut are. record {
-      matches = found.matches;
-      all = all_in c.self.inside.search _ c.args.self.now c.self.view_is c.self.invariant c.args.haystack.now
-          found.matches found.all;
-      are = are ∙ ap (parts c.args.haystack.now 0) found.kept;
-    }) (rw c.deref.ensures.value at c.split_at.ensures)
+    IfOk-weaker c.split_at.result _ _ (λ cut are. utf8_parts_in c.self.inside.search _ c.args.self.now c.self.view_is
+    c.self.invariant c.args.haystack.now _ c.in_ok-found.ensures.all _ are)
+    (rw c.deref.ensures.value at c.split_at.ensures)
