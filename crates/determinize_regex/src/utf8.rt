@@ -1,7 +1,8 @@
 //! Matches that do not divide an encoded character.
 //!
 //! A search is over bytes. Where patterns match whole characters only, so do their matches, but an
-//! empty match may still be inside a character.
+//! empty match may still be inside a character. Such are patterns whose texts begin under the flag
+//! `u` and clear it nowhere (`characters_law` of `determinize_syntax`).
 
 ghost use Rattle.std.specs.Prelude.{◌≡◌, filter};
 ghost use Rattle.determinize_regex.specs.Utf8.{is_boundary, is_whole};
