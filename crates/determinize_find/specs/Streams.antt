@@ -108,8 +108,8 @@ pub record IsAdvance {E : Type 0} (nfa : Nfa) (old new : Streamed) (piece rest :
   pub failed : OnErr result (IsFrontFed nfa old new piece rest [])
   pub searching : IsSearching nfa new
 
--- how many more matches there may be in the kept bytes and a piece: two for each byte, since an
--- empty match may be followed by another, which is skipped
+-- an upper bound on how many more matches there may be in the kept bytes and a piece: two for each
+-- byte, since an empty match may be followed by another, which is skipped
 abbrev pub left_in : List ℕ → Streamed → ℕ
 left_in piece s = 2 * (length piece + (length s.kept - s.start)) + cond s.is_after 0 1
 

@@ -159,23 +159,13 @@ pub(crate) fn further<'h>(
     None
 }
 
-/// Returns whether the match is empty and begins where the match before it ended.
-pub(crate) fn touches(before: Option<usize>, found: &Match) -> bool
-    ensures { result ≡ matches.touches before found.now }
-{
-    match before {
-        Some(end) => found.start == found.end && found.end == end,
-        None => false,
-    }
-}
-
 /// Returns whether there is a match, it is empty, and it begins where the one before it ended.
 #[doc(hidden)]
 pub fn is_touching(before: Option<usize>, found: &Option<Match>) -> bool
     ensures { result ≡ matches.is_touching before found.now }
 {
-    match found {
-        Some(found) => touches(before, found),
-        None => false,
+    match (before, found) {
+        (Some(end), Some(found)) => found.start == found.end && found.end == end,
+        (_, _) => false,
     }
 }

@@ -20,9 +20,9 @@ ghost use Rattle.determinize_find.specs.Streams.{IsStream, KeepsFew, KeptFewInBl
 ghost use Rattle.determinize_find.specs.Streams.{count_read, left_in};
 
 use crate::iter::{Searcher, is_touching};
-use crate::regex::LazyRegex;
+use crate::regex::Regex;
 use determinize_below::{Input, Match};
-use determinize_lazy::Scan;
+use determinize_lazy::{Engine, Lazy, Scan};
 use std::alloc::{AllocError, Allocator, Global};
 use std::marker::Model;
 
@@ -115,9 +115,9 @@ impl<A: Allocator + Copy> Pieces<A> {
 
     /// Keeps the next bytes of the text, which the search under way reads too. If that fails, none
     /// is read.
-    fn keep<N: Allocator, B: Allocator>(
+    fn keep<N: Allocator, B: Engine<Error = AllocError>>(
         &mut self,
-        regex: &mut LazyRegex<'_, N, B, A>,
+        regex: &mut Regex<Lazy<'_, N, A>, B>,
         block: &[u8],
     ) -> Result<(), AllocError>
         ensures kept { OnOk result
@@ -140,9 +140,9 @@ impl<A: Allocator + Copy> Pieces<A> {
     }
 
     /// Returns the search of all kept bytes from the start on, which is then no longer under way.
-    fn take_scan<N: Allocator, B: Allocator>(
+    fn take_scan<N: Allocator, B: Engine<Error = AllocError>>(
         &mut self,
-        regex: &mut LazyRegex<'_, N, B, A>,
+        regex: &mut Regex<Lazy<'_, N, A>, B>,
     ) -> Result<Scan<A>, AllocError>
         ensures scan { IsSearching regex.old.nfa self.old
             → IfOk result (λ scan. IsKeptScan regex.old.nfa self.new scan) }
@@ -182,9 +182,9 @@ impl<A: Allocator + Copy> Pieces<A> {
 
     /// Moves the start to the end of the kept bytes, if no match begins before. Returns the search
     /// from the start on, of which no match is certain.
-    fn skip_idle<N: Allocator, B: Allocator>(
+    fn skip_idle<N: Allocator, B: Engine<Error = AllocError>>(
         &mut self,
-        regex: &mut LazyRegex<'_, N, B, A>,
+        regex: &mut Regex<Lazy<'_, N, A>, B>,
         scan: Scan<A>,
     ) -> Result<Scan<A>, AllocError>
         requires none { self.old.scan ≡ None }
@@ -213,9 +213,9 @@ impl<A: Allocator + Copy> Pieces<A> {
 
     /// Keeps the search of the kept bytes under way, of which no match is certain, and drops the
     /// bytes that it does not need.
-    fn settle<N: Allocator, B: Allocator>(
+    fn settle<N: Allocator, B: Engine<Error = AllocError>>(
         &mut self,
-        regex: &mut LazyRegex<'_, N, B, A>,
+        regex: &mut Regex<Lazy<'_, N, A>, B>,
         scan: Scan<A>,
     ) -> Result<(), AllocError>
         requires none { self.old.scan ≡ None }
@@ -235,9 +235,9 @@ impl<A: Allocator + Copy> Pieces<A> {
 
     /// Returns the leftmost match of the kept bytes from the start on if it is certain, by indices
     /// into these bytes. If none is, drops the bytes that no search needs any more.
-    fn certain<N: Allocator, B: Allocator>(
+    fn certain<N: Allocator, B: Engine<Error = AllocError>>(
         &mut self,
-        regex: &mut LazyRegex<'_, N, B, A>,
+        regex: &mut Regex<Lazy<'_, N, A>, B>,
     ) -> Result<Option<Match>, AllocError>
         ensures moved { IsSearching regex.old.nfa self.old
             → HasMoved regex.old.nfa self.old self.new }
@@ -262,9 +262,9 @@ impl<A: Allocator + Copy> Pieces<A> {
 
     /// Returns the next match if it is certain, as `certain` does. But an empty match where the one
     /// before ended is skipped, and the start is moved by one byte.
-    fn next_certain<N: Allocator, B: Allocator>(
+    fn next_certain<N: Allocator, B: Engine<Error = AllocError>>(
         &mut self,
-        regex: &mut LazyRegex<'_, N, B, A>,
+        regex: &mut Regex<Lazy<'_, N, A>, B>,
     ) -> Result<Option<Match>, AllocError>
         ensures moved { IsSearching regex.old.nfa self.old
             → HasMoved regex.old.nfa self.old self.new }
@@ -298,9 +298,9 @@ impl<A: Allocator + Copy> Pieces<A> {
     }
 
     /// Returns the next match in the text if it is certain, and moves the start to its end.
-    fn take_next<N: Allocator, B: Allocator>(
+    fn take_next<N: Allocator, B: Engine<Error = AllocError>>(
         &mut self,
-        regex: &mut LazyRegex<'_, N, B, A>,
+        regex: &mut Regex<Lazy<'_, N, A>, B>,
     ) -> Result<Option<Match>, AllocError>
         ensures read { IsSearching regex.old.nfa self.old → (piece : List ℕ)
             → IsAdvance regex.old.nfa self.old self.new piece piece result }
@@ -321,9 +321,9 @@ impl<A: Allocator + Copy> Pieces<A> {
     }
 
     /// Reads the first block of a piece, and returns the next match if it is then certain.
-    fn read_next<N: Allocator, B: Allocator>(
+    fn read_next<N: Allocator, B: Engine<Error = AllocError>>(
         &mut self,
-        regex: &mut LazyRegex<'_, N, B, A>,
+        regex: &mut Regex<Lazy<'_, N, A>, B>,
         piece: &mut &[u8],
     ) -> Result<Option<Match>, AllocError>
         ensures read { IsSearching regex.old.nfa self.old → IsAdvance regex.old.nfa
@@ -351,10 +351,11 @@ impl<A: Allocator + Copy> Pieces<A> {
     /// The piece is read in blocks of 4096 bytes, and a match is returned with the block that makes
     /// it certain. Its bytes are kept (`bytes_of`) until the next call of `advance` or `feed`.
     ///
-    /// Returns `AllocError` as `feed` does. To continue, call it again with what is left.
-    pub fn advance<N: Allocator, B: Allocator>(
+    /// Returns `AllocError` as `feed` does. The piece is then what is left after the blocks that
+    /// were read. To continue, call it again with what is left.
+    pub fn advance<N: Allocator, B: Engine<Error = AllocError>>(
         &mut self,
-        regex: &mut LazyRegex<'_, N, B, A>,
+        regex: &mut Regex<Lazy<'_, N, A>, B>,
         piece: &mut &[u8],
     ) -> Result<Option<Match>, AllocError>
         ensures read { IsSearching regex.old.nfa self.old → IsAdvance regex.old.nfa
@@ -392,9 +393,9 @@ impl<A: Allocator + Copy> Pieces<A> {
     }
 
     /// Reads the next bytes, and adds each match that is certain.
-    fn read_block<N: Allocator, B: Allocator, C: Allocator>(
+    fn read_block<N: Allocator, B: Engine<Error = AllocError>, C: Allocator>(
         &mut self,
-        regex: &mut LazyRegex<'_, N, B, A>,
+        regex: &mut Regex<Lazy<'_, N, A>, B>,
         block: &[u8],
         found: &mut Vec<Match, C>,
     ) -> Result<(), AllocError>
@@ -425,9 +426,9 @@ impl<A: Allocator + Copy> Pieces<A> {
     /// states, if the pieces have more than `usize::MAX` bytes together, or if the pieces before
     /// were fed through a `Regex` of another NFA and this is seen. The first bytes of the piece may
     /// have been read (`bytes_read`), and matches added. To continue, feed the rest.
-    pub fn feed<N: Allocator, B: Allocator, C: Allocator>(
+    pub fn feed<N: Allocator, B: Engine<Error = AllocError>, C: Allocator>(
         &mut self,
-        regex: &mut LazyRegex<'_, N, B, A>,
+        regex: &mut Regex<Lazy<'_, N, A>, B>,
         piece: &[u8],
         found: &mut Vec<Match, C>,
     ) -> Result<(), AllocError>
@@ -446,9 +447,9 @@ impl<A: Allocator + Copy> Pieces<A> {
     }
 
     /// Adds the matches that are left, if the text ends here.
-    fn add_rest<N: Allocator, B: Allocator, C: Allocator>(
+    fn add_rest<N: Allocator, B: Engine<Error = AllocError>, C: Allocator>(
         &self,
-        regex: &mut LazyRegex<'_, N, B, A>,
+        regex: &mut Regex<Lazy<'_, N, A>, B>,
         found: &mut Vec<Match, C>,
     ) -> Result<(), AllocError>
         ensures finished { OnOk result (IsFinished regex.old.nfa self.now
@@ -468,9 +469,9 @@ impl<A: Allocator + Copy> Pieces<A> {
     /// unchanged, so it may be fed further, as if `finish` had not been called.
     ///
     /// Returns `AllocError` as `feed` does. Then nothing is added, and it may be called again.
-    pub fn finish<N: Allocator, B: Allocator, C: Allocator>(
+    pub fn finish<N: Allocator, B: Engine<Error = AllocError>, C: Allocator>(
         &self,
-        regex: &mut LazyRegex<'_, N, B, A>,
+        regex: &mut Regex<Lazy<'_, N, A>, B>,
         found: &mut Vec<Match, C>,
     ) -> Result<(), AllocError>
         ensures finished { OnOk result (IsFinished regex.old.nfa self.now

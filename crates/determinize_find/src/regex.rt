@@ -1,7 +1,7 @@
 //! The leftmost match by two searches: one forward for its end, and one backward for its start.
 
 ghost use Rattle.std.specs.Prelude.{◌≡◌, ◌+◌, ◌++◌, ◌-◌, ◌<◌, ◌≤◌, ℕ, List, None, Option, [], drop};
-ghost use Rattle.std.specs.Prelude.{false, length, true, IfOk, IsSome, Ok, OnErr, OnOk};
+ghost use Rattle.std.specs.Prelude.{All, false, length, true, IfOk, IsSome, Ok, OnErr, OnOk};
 ghost use Rattle.std.specs.Bool.{Decides};
 ghost use Rattle.std.specs.Option.{IfNone, IfSome};
 ghost use Rattle.determinize_below.specs.Search.{is_done};
@@ -66,6 +66,16 @@ fn look_behind(haystack: &[u8], index: usize) -> Option<u8>
         0 => None,
         index => haystack.get(index - 1).copied(),
     }
+}
+
+/// Returns the input of a range of a haystack.
+fn input_of<'h>(haystack: &'h [u8], range: Range<usize>, anchored: Anchored) -> Input<'h>
+    requires in_haystack { range.end ≤ length haystack.now }
+    requires near { range.start ≤ range.end + 1 }
+    ensures value { result ≡ asked_of haystack.now range.start range.end anchored }
+    ensures bytes { All (λ b. b < 256) haystack.now }
+{
+    Input::new(haystack).range(range).anchored(anchored)
 }
 
 impl<F: Engine, B: Engine<Error = F::Error>> Regex<F, B> {
@@ -156,7 +166,7 @@ impl<F: Engine, B: Engine<Error = F::Error>> Regex<F, B> {
             (λ m. (range.start ≤ m.offset) × (m.offset ≤ range.end))) }
         ensures same { self.new ≡ self.old }
     {
-        let input = Input::new(haystack).range(range).anchored(anchored);
+        let input = input_of(haystack, range, anchored);
         self.forward.search_input(&input)
     }
 
@@ -228,30 +238,6 @@ impl<F: Engine, B: Engine<Error = F::Error>> Regex<F, B> {
         }))
     }
 
-    /// Returns whether a range of a haystack has a match.
-    fn is_match_in(
-        &mut self,
-        haystack: &[u8],
-        range: Range<usize>,
-        anchored: Anchored,
-    ) -> Result<bool, F::Error>
-        requires in_haystack { range.end ≤ length haystack.now }
-        requires near { range.start ≤ range.end + 1 }
-        requires start { has_start anchored ≡ true }
-        ensures found { IfOk result (λ found. Decides found
-            (IsLeftmostIn self.old.nfa (asked_of haystack.now range.start range.end anchored) None
-            → ⊥)) }
-        ensures accepts { is_done (asked_of haystack.now range.start range.end anchored) ≡ false
-            → IfOk result (λ found. Decides found
-            (HasMatch self.old.nfa (asked_of haystack.now range.start range.end anchored))) }
-        ensures done { is_done (asked_of haystack.now range.start range.end anchored) ≡ true
-            → result ≡ Ok false }
-        ensures same { self.new ≡ self.old }
-    {
-        let input = Input::new(haystack).range(range).anchored(anchored);
-        self.forward.is_match(&input)
-    }
-
     /// Returns whether an input has a match. Stops where the end of one is found. If the range
     /// starts past its end, the result is `Ok(false)`.
     pub fn is_match(&mut self, input: &Input<'_>) -> Result<bool, F::Error>
@@ -264,7 +250,8 @@ impl<F: Engine, B: Engine<Error = F::Error>> Regex<F, B> {
         ensures same { self.new ≡ self.old }
     {
         let range = input.start()..input.end();
-        self.is_match_in(input.haystack(), range, input.get_anchored())
+        let whole = input_of(input.haystack(), range, input.get_anchored());
+        self.forward.is_match(&whole)
     }
 
     /// Returns all matches of an input, in their order. Only the list is allocated from `alloc`.
@@ -315,7 +302,12 @@ impl<'n, N: Allocator, B: Allocator, A: Allocator + Copy> LazyRegex<'n, N, B, A>
             is_apart: Some(has_prefix_apart(nfa)),
         }
     }
+}
 
+impl<'n, N: Allocator, A: Allocator + Copy, B: Engine<Error = AllocError>> Regex<
+    Lazy<'n, N, A>,
+    B,
+> {
     /// Returns the search for the end of the leftmost match of a haystack from an index on, after
     /// all of its bytes. More pieces of the text may follow.
     pub(crate) fn scan(&mut self, haystack: &[u8], start: usize) -> Result<Scan<A>, AllocError>
@@ -337,6 +329,7 @@ impl<'n, N: Allocator, B: Allocator, A: Allocator + Copy> LazyRegex<'n, N, B, A>
         scan: Option<Scan<A>>,
         piece: &[u8],
     ) -> Result<Option<Scan<A>>, AllocError>
+        ensures some { IsSome scan → IfOk result (λ new. IsSome new) }
         ensures fed { (behind : Option ℕ) (bytes : List ℕ)
             → IfSome scan (λ s. IsEndScan self.old.nfa behind bytes s)
             → IfOk result (λ new. IfSome new

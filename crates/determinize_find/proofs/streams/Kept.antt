@@ -1,6 +1,6 @@
 -- What `Pieces` keeps: few bytes, and a search of which no match is certain.
 -- Main statements: unread_unsettled, few_kept, read_more, all_few.
--- Used by: `Pieces::read_block` and `Pieces::feed`.
+-- Used by: `Pieces::settle`, `skip_idle`, `take_next`, `read_block` and `feed`, and Moves.
 -- Idea: what was so at the end of a block stays so, as more blocks are read.
 use Rattle.std.specs.Option.{IfSome}
 use Rattle.std.specs.Prelude.{map, min, slice_get}

@@ -11,9 +11,9 @@ use Rattle.determinize_find.specs.Regexes.{RegexValue}
 use Rattle.determinize_find.specs.Streams.{IsEndScan}
 use Rattle.determinize_find.proofs.leftmost.TwoSearches.{all_bytes}
 use Rattle.determinize_find.proofs.streams.Certain.{HasCertain, certain_is, is_ended}
-use Rattle.determinize_find.proofs.regex.LazyRegex+N+B+A.certain.Given.{Over}
-use Rattle.determinize_find.proofs.regex.LazyRegex+N+B+A.certain.Goals.{In-Some, In-Some-2}
-use Rattle.determinize_find.proofs.regex.LazyRegex+N+B+A.certain.Goals as goal
+use Rattle.determinize_find.proofs.regex.Regex+Lazy+N+A+B.certain.Given.{Over}
+use Rattle.determinize_find.proofs.regex.Regex+Lazy+N+A+B.certain.Goals.{In-Some, In-Some-2}
+use Rattle.determinize_find.proofs.regex.Regex+Lazy+N+A+B.certain.Goals as goal
 
 -- the match of which the scan gives the end
 has : (g : Over) (c : In-Some g) → IsEndScan c.args.self.now.nfa (byte_before c.args.haystack.now c.args.start)

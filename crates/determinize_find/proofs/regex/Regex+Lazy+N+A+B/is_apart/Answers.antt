@@ -4,7 +4,7 @@ use Rattle.std.specs.Option.{IfSome}
 use Rattle.determinize_below.specs.Semantics.{Nfa}
 use Rattle.determinize_nfa.specs.Prefix.{HasPrefixApart}
 use Rattle.determinize_find.specs.Regexes.{RegexValue}
-use Rattle.determinize_find.proofs.regex.LazyRegex+N+B+A.is_apart.Goals as goal
+use Rattle.determinize_find.proofs.regex.Regex+Lazy+N+A+B.is_apart.Goals as goal
 
 pub returns-in-Some : goal.returns-in-Some
 returns-in-Some g c =

@@ -6,7 +6,7 @@ use Rattle.determinize_start.specs.StartKinds.{byte_before}
 use Rattle.determinize_engine.specs.Scans.{IsScan, Scanned}
 use Rattle.determinize_find.specs.Regexes.{RegexValue}
 use Rattle.determinize_find.proofs.streams.Certain.{end_scan, scan_read}
-use Rattle.determinize_find.proofs.regex.LazyRegex+N+B+A.scan.Goals as goal
+use Rattle.determinize_find.proofs.regex.Regex+Lazy+N+A+B.scan.Goals as goal
 
 pub returns-clause-scan : goal.returns-clause-scan
 returns-clause-scan g c =

@@ -4,7 +4,7 @@ use Rattle.determinize_find.specs.Idle.{IsIdle}
 use Rattle.determinize_find.specs.Regexes.{RegexValue}
 use Rattle.determinize_find.proofs.leftmost.TwoSearches.{all_bytes}
 use Rattle.determinize_find.proofs.streams.Fresh.{fresh}
-use Rattle.determinize_find.proofs.regex.LazyRegex+N+B+A.is_idle.Goals as goal
+use Rattle.determinize_find.proofs.regex.Regex+Lazy+N+A+B.is_idle.Goals as goal
 
 pub returns-clause-fresh : goal.returns-clause-fresh
 returns-clause-fresh g c scan is =
