@@ -136,7 +136,9 @@ impl<'r, A: Allocator + Copy> Stream<'r, A> {
         self.pieces.advance(&mut self.search, piece)
     }
 
-    /// Returns the bytes of a match, if all of them are kept.
+    /// Returns the bytes of a match, if all of them are kept. Kept are the bytes since the last
+    /// match or since the last end of a block where the search was idle, whichever is later, and
+    /// those of a match that `advance` returned until `advance` or `feed` is called again.
     pub fn bytes_of(&self, found: &Match) -> Option<&[u8]>
         ensures some { IsSome result ↔ IsKept self.now.pieces found.now }
         ensures bytes { IfSome result (λ bytes. (text : List ℕ)
