@@ -1,10 +1,12 @@
 //! A text in pieces: each match is found with its last byte, and few bytes are kept.
 
-use crate::tests::find::{WORDS, backward_of, nfa, same_end};
-use crate::tests::{ended, holds, same};
+use crate::tests::find::{Ends, WORDS, backward_of, expect_matches, nfa, same_end};
+use crate::tests::{dense, ended, holds, same};
 use determinize_below::{MatchKind, NFA};
+use determinize_engine::WithAllocError;
 use determinize_find::{LazyRegex, Match, Pieces, Regex};
-use determinize_lazy::{Lazy, Scan, Walker};
+use determinize_lazy::{Engine, Lazy, Scan, Walker};
+use std::alloc::AllocError;
 use std::process::Abort;
 
 /// `[^\n]*\n`, a line.
@@ -16,14 +18,17 @@ const LINES: &[u8] = b"ab\n\nc d\n\n\ne";
 /// The same, line by line.
 static EACH_LINE: [&[u8]; 6] = [b"ab\n", b"\n", b"c d\n", b"\n", b"\n", b"e"];
 
+/// The lines that end.
+const MATCHES: &[Ends] = &[(0, 0, 3), (0, 3, 4), (0, 4, 8), (0, 8, 9), (0, 9, 10)];
+
 /// The words from one to ten, in 64 bytes. `seven` begins at their end and ends at their beginning.
 const TEN_WORDS: &[u8] = b"ven; one, two, three, four, five, six; eight, nine, ten...   sev";
 
 /// Feeds a piece.
-pub fn put<R: Abort>(
+pub fn put<R: Abort, B: Engine<Error = AllocError>>(
     rt: &R,
     stream: &mut Pieces,
-    regex: &mut LazyRegex<'_>,
+    regex: &mut Regex<Lazy<'_>, B>,
     piece: &[u8],
     found: &mut Vec<Match>,
 ) {
@@ -31,7 +36,12 @@ pub fn put<R: Abort>(
 }
 
 /// Ends a text.
-pub fn end<R: Abort>(rt: &R, stream: &Pieces, regex: &mut LazyRegex<'_>, found: &mut Vec<Match>) {
+pub fn end<R: Abort, B: Engine<Error = AllocError>>(
+    rt: &R,
+    stream: &Pieces,
+    regex: &mut Regex<Lazy<'_>, B>,
+    found: &mut Vec<Match>,
+) {
     stream.finish(regex, found).expect(rt, "memory");
 }
 
@@ -94,10 +104,10 @@ fn ended_lines(piece: &[u8]) -> usize {
 }
 
 /// Feeds a text in pieces. After each piece there must be a match for each line that has ended.
-fn feed_lines<R: Abort>(
+fn feed_lines<R: Abort, B: Engine<Error = AllocError>>(
     rt: &R,
     stream: &mut Pieces,
-    regex: &mut LazyRegex<'_>,
+    regex: &mut Regex<Lazy<'_>, B>,
     pieces: &[&[u8]],
     found: &mut Vec<Match>,
 ) {
@@ -108,17 +118,24 @@ fn feed_lines<R: Abort>(
         same(rt, found.len(), count);
     }
     end(rt, stream, regex, found);
-    same(rt, found.len(), count);
+    expect_matches(rt, found, MATCHES);
 }
 
 /// Finds the lines of a text in pieces.
-fn expect_lines<R: Abort + AllocGlobal>(rt: &R, regex: &mut LazyRegex<'_>, pieces: &[&[u8]]) {
+fn expect_lines<R: Abort + AllocGlobal, B: Engine<Error = AllocError>>(
+    rt: &R,
+    regex: &mut Regex<Lazy<'_>, B>,
+    pieces: &[&[u8]],
+) {
     let (mut stream, mut found) = (Pieces::new(rt.alloc()), Vec::new(rt.alloc()));
     feed_lines(rt, &mut stream, regex, pieces, &mut found);
 }
 
 /// Finds the lines one by one, and in pieces of one byte to all bytes.
-fn expect_each<R: Abort + AllocGlobal>(rt: &R, regex: &mut LazyRegex<'_>) {
+fn expect_each<R: Abort + AllocGlobal, B: Engine<Error = AllocError>>(
+    rt: &R,
+    regex: &mut Regex<Lazy<'_>, B>,
+) {
     expect_lines(rt, regex, &EACH_LINE);
     for size in 1..=LINES.len() {
         let pieces = LINES.chunks(size).collect::<Vec<_>>(rt.alloc());
@@ -131,6 +148,9 @@ fn each_line_at_its_last_byte(rt: HostRuntime) {
     let nfa = nfa(&rt, LINE);
     let backward = backward_of(&rt, &nfa);
     expect_each(&rt, &mut Regex::new(rt.alloc(), &nfa, &backward, 100));
+    let starts = dense::dfa(&rt, &backward, MatchKind::All, 1000);
+    let ends = Lazy::new(rt.alloc(), &nfa, MatchKind::LeftmostFirst, 100);
+    expect_each(&rt, &mut Regex::from_engines(ends, WithAllocError(&starts)));
 }
 
 /// Feeds `b` to a scan of `a`, which another cache must not feed or finish.
