@@ -9,7 +9,6 @@ use Rattle.determinize_dense.proofs.Common.{Table}
 use Rattle.determinize_engine.proofs.Places.{not_both}
 use Rattle.determinize_dense.specs.Private.Minimizing.{AreMergedEntries, entry, merged_entry}
 use Rattle.determinize_dense.specs.Private.Partition.{Blocks}
-use Rattle.determinize_dense.specs.Private.Rows.{offset_of}
 use Rattle.std.proofs.lemmas.Bool.{cases_lt}
 
 pub get_end : {X : Type 0} (d : X) (xs : List X) (x : X) → get_or (xs ++ x ∷ []) (length xs) d ≡ x
@@ -44,13 +43,13 @@ each-set P xs n x room each new i h = elim (nat_eq i n) as (λ b. nat_eq i n ≡
 -- one entry more of the table of the blocks
 pub merged-push : (d : Table) (p : Blocks) (next : List ℕ) (to row column : ℕ) → AreMergedEntries d p next
     → length next ≡ row * (d.class_count + 1) + column → column < d.class_count + 1
-    → to ≡ offset_of d (slice_index p.numbers (entry d (slice_index p.members row) column))
+    → to ≡ slice_index p.numbers (entry d (slice_index p.members row) column)
     → AreMergedEntries d p (next ++ to ∷ [])
 merged-push d p next to row column entries size inside to_is =
     let columns : ℕ = d.class_count + 1 in
-    each-push 0 (λ e v. v ≡ offset_of d (merged_entry d p e)) next to entries
+    each-push 0 (λ e v. v ≡ merged_entry d p e) next to entries
     (to_is
-    ∙ ap (λ r. offset_of d (slice_index p.numbers (entry d (slice_index p.members r) column)))
+    ∙ ap (λ r. slice_index p.numbers (entry d (slice_index p.members r) column))
     (sym (ap (λ n. n / columns) size ∙ div-mul-add row columns column inside))
-    ∙ ap (λ c. offset_of d (slice_index p.numbers (entry d (slice_index p.members (length next / columns)) c)))
+    ∙ ap (λ c. slice_index p.numbers (entry d (slice_index p.members (length next / columns)) c))
     (sym (ap (λ n. n % columns) size ∙ mod-mul-add row columns column inside)))

@@ -1,6 +1,7 @@
 -- Lists of patterns, one for each state.
 use Rattle.determinize_core.proofs.Common.{ap, get_or, length, List, map, refl, sym, take, take_more}
 use Rattle.determinize_core.proofs.Common.{Value, ℕ, [], ◌++◌, ◌+◌, ◌<◌, ◌∙◌, ◌∷◌, ◌≡◌}
+use Rattle.std.specs.List.{AllZip}
 
 pub map-push : {A B : Type 0} (f : A → B) (xs : List A) (x : A) → map f (xs ++ x ∷ []) ≡ map f xs ++ f x ∷ []
 map-push f [] x = refl
@@ -27,3 +28,12 @@ lists-push f lists more list values i v so_far more_is same inside at =
     ∙ sym (map-push (λ (x : Value). x.patterns) (take i values) v)
     ∙ ap (λ xs. map (λ (x : Value). x.patterns) xs)
     (sym (take_more values i v inside ∙ ap (λ y. take i values ++ y ∷ []) at))
+
+-- copies of lists
+pub map-copied : {L : Type 0} (f : L → List ℕ) (R : L → L → Type 0) → ((x y : L) → R x y → f y ≡ f x) → (xs ys : List L)
+    → AllZip R xs ys → map f ys ≡ map f xs
+map-copied f R same [] [] all = refl
+map-copied f R same [] (y ∷ ys) all = absurd all
+map-copied f R same (x ∷ xs) [] all = absurd all
+map-copied f R same (x ∷ xs) (y ∷ ys) all =
+    ap (λ zs. f y ∷ zs) (map-copied f R same xs ys all.1) ∙ ap (λ l. l ∷ map f xs) (same x y all.0)

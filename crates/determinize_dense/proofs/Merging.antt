@@ -1,25 +1,23 @@
 -- The table of the blocks of a stable partition.
 use Rattle.determinize_core.proofs.Common.{Bool, List, None, Option, Some, [], ap, arith}
-use Rattle.determinize_core.proofs.Common.{length, length-map, refl, slice_index, subst, sym, ℕ, ◌*◌, ◌++◌, ◌+◌, ◌<◌}
+use Rattle.determinize_core.proofs.Common.{length, refl, slice_index, subst, sym, ℕ, ◌*◌, ◌++◌, ◌+◌, ◌<◌}
 use Rattle.determinize_core.proofs.Common.{◌∙◌, ◌∷◌}
 use Rattle.determinize_core.proofs.Common.{◌≡◌, ◌≤◌}
 use Rattle.determinize_dense.specs.Dfa.{IsDfaOf}
 use Rattle.determinize_dense.proofs.Common.{All, DfaValue, IsDfa, IsFilled, IsUnit, Table, column_of, patterns_at}
 use Rattle.determinize_dense.proofs.Common.{row_after, row_over, start_kind_of, start_number, start_row, value_from}
-use Rattle.std.specs.Prelude.{◌%◌, ◌/◌}
+use Rattle.std.specs.Prelude.{◌%◌}
 use Rattle.std.proofs.Math.Nat.{mul_comm}
 use Rattle.std.proofs.lemmas.Nat.{div-mul-add, mod-mul-add, mul-add-lt}
-use Rattle.std.proofs.lemmas.List.Elements.{All-append}
+use Rattle.std.proofs.lemmas.List.Elements.{All-append, All-nil}
 use Rattle.determinize_dense.proofs.Least.{has_rows, row_after-below, row_after-more}
 use Rattle.determinize_dense.proofs.Reached.{head_unit, start-number, tail_units}
 use Rattle.determinize_dense.proofs.Splitting.{few_blocks}
 use Rattle.determinize_dense.specs.Least.{IsLeast, IsReachedRow}
 use Rattle.determinize_dense.specs.Private.Minimizing.{AreMergedLists, AreMergedRows, AreMergedStarts, entry}
 use Rattle.determinize_dense.specs.Private.Minimizing.{IsGrouping}
-use Rattle.determinize_dense.specs.Private.Minimizing.{IsMerged, IsPartition, merged_entry}
+use Rattle.determinize_dense.specs.Private.Minimizing.{IsMerged, IsPartition}
 use Rattle.determinize_dense.specs.Private.Partition.{Blocks}
-use Rattle.determinize_dense.specs.Private.Rows.{IsStored, offset_of, rows_at}
-use Rattle.determinize_dense.proofs.Offsets.{row-divided, rows_at-index}
 use Rattle.determinize_engine.specs.declared.state_table.TheConstants.{MAX_STATES}
 
 -- a DFA with other rows
@@ -36,14 +34,11 @@ with_rows v next starts lists = record {
   };
 }
 
-module _ (v : DfaValue) (is : IsDfa v) (p : Blocks) (part : IsGrouping v.table p) (offsets starts : List ℕ)
-    (lists : List (List ℕ)) (rows : AreMergedRows v.table p offsets)
+module _ (v : DfaValue) (is : IsDfa v) (p : Blocks) (part : IsGrouping v.table p) (next starts : List ℕ)
+    (lists : List (List ℕ)) (rows : AreMergedRows v.table p next)
     (firsts : AreMergedStarts v.table p starts) (listed : AreMergedLists v.table p lists) where
   abbrev d : Table
   d = v.table
-
-  abbrev next : List ℕ
-  next = rows_at (v.table.class_count + 1) offsets
 
   abbrev merged : DfaValue
   merged = with_rows v next starts lists
@@ -80,17 +75,12 @@ module _ (v : DfaValue) (is : IsDfa v) (p : Blocks) (part : IsGrouping v.table p
   block-lists r h = listed.rows (block r) (subst (λ n. block r < n) (sym count) (block-below r h))
       ∙ part.patterns (member (block r)) r (member-below (block r) (block-below r h)) h (member-block r h)
 
-  -- an entry of the table of the blocks
-  entry-is : (e : ℕ) → e < length offsets → slice_index next e ≡ merged_entry v.table p e
-  entry-is e h = rows_at-index (v.table.class_count + 1) offsets e h
-      ∙ ap (λ n. n / (v.table.class_count + 1)) (rows.entries e h) ∙ row-divided v.table (merged_entry v.table p e)
-
   -- an entry of the row of a block
   entry-merged : (b c : ℕ) → b < length p.members → c < v.table.class_count + 1
       → entry e b c ≡ block (entry d (member b) c)
   entry-merged b c h l =
       let columns : ℕ = v.table.class_count + 1 in
-      entry-is (b * columns + c) (subst (λ n. b * columns + c < n)
+      rows.entries (b * columns + c) (subst (λ n. b * columns + c < n)
       (mul_comm columns (length p.members) ∙ sym rows.size) (mul-add-lt b columns c (length p.members) h l))
       ∙ ap (λ n. block (entry d (member n) ((b * columns + c) % columns))) (div-mul-add b columns c l)
       ∙ ap (λ n. block (entry d (member b) n)) (mod-mul-add b columns c l)
@@ -190,8 +180,7 @@ module _ (v : DfaValue) (is : IsDfa v) (p : Blocks) (part : IsGrouping v.table p
 
   filled : IsFilled e
   filled = record {
-    size = length-map offsets (λ offset. offset / (v.table.class_count + 1)) ∙ rows.size
-        ∙ ap (λ n. n * (v.table.class_count + 1)) (sym count);
+    size = rows.size ∙ ap (λ n. n * (v.table.class_count + 1)) (sym count);
     starts = firsts.count;
     first = λ i h. subst (λ n. n < length lists) (sym (firsts.blocks i h))
         (subst (λ n. block (slice_index d.starts i) < n) (sym count)
@@ -205,9 +194,10 @@ module _ (v : DfaValue) (is : IsDfa v) (p : Blocks) (part : IsGrouping v.table p
         (block-below (row_over d (member b) u) (is.table.within (member b) u (member-below b l) unit)));
     few = let k : length lists ≤ length d.patterns = merged-fewer in
         let n : length d.patterns ≤ MAX_STATES = is.table.few in omega (arith, k, n);
+    narrow = is.table.narrow;
   }
 
-  merged-dfa : IsDfa merged
+  pub merged-dfa : IsDfa merged
   merged-dfa = record {
     accepted = is.accepted;
     classes = is.classes;
@@ -217,20 +207,13 @@ module _ (v : DfaValue) (is : IsDfa v) (p : Blocks) (part : IsGrouping v.table p
     over = over;
   }
 
-  pub merged-stored : v.table.class_count + 1 ≤ 257 → IsStored merged offsets
-  merged-stored narrow = record {
-    dfa = merged-dfa;
-    narrow = narrow;
-    count = sym (length-map offsets (λ offset. offset / (v.table.class_count + 1)));
-    entries = λ e h. rows.entries e h ∙ ap (λ n. offset_of d n) (sym (entry-is e h));
-  }
-
   pub merged-is : IsMerged v p merged
   merged-is = record {
     nfa = refl;
     kind = refl;
     means = tells;
     count = count;
+    dead = none-after [] (All-nil IsUnit);
     columns = refl;
     patterns = λ b h. listed.rows b (subst (λ n. b < n) (sym count) h);
     apart = λ b c h l a. (

@@ -1,11 +1,17 @@
 -- Offsets of rows.
-use Rattle.determinize_core.proofs.Common.{[], ap, arith, length, List, map, refl, slice_index, suc, sym, zero, ℕ, ◌*◌}
+use Rattle.determinize_core.proofs.Common.{[], ap, arith, inl, inr, length, length-map, List, map, refl, slice_index, sym, ℕ, ◌*◌}
 use Rattle.determinize_core.proofs.Common.{◌+◌, ◌-◌, ◌<◌, ◌∙◌, ◌∷◌, ◌≡◌, ◌≤◌}
-use Rattle.determinize_dense.proofs.Common.{Table}
+use Rattle.determinize_dense.proofs.Common.{All, DfaValue, IsDfa, IsFilled, Table}
+use Rattle.determinize_dense.proofs.Refining.{entry-below}
 use Rattle.std.specs.Prelude.{◌/◌, ◌%◌, ◌^◌}
-use Rattle.std.proofs.Math.Nat.{mod-lt, mul-le-mul_left, mul-le-mul_right, mul_assoc}
+use Rattle.std.proofs.Math.Nat.{div-lt_iff_lt-mul, mod-lt, mul-le-mul_left, mul-le-mul_right, mul_assoc}
 use Rattle.std.proofs.lemmas.Nat.{div-add-mod', div-mul-add}
-use Rattle.determinize_dense.specs.Private.Rows.{offset_of, rows_at}
+use Rattle.std.proofs.lemmas.Bool.{cases_lt}
+use Rattle.std.proofs.lemmas.List.{get_or-map}
+use Rattle.std.proofs.lemmas.List.Elements.{All-from_get_or}
+use Rattle.determinize_dense.specs.Private.Minimizing.{entry}
+use Rattle.determinize_dense.specs.Private.Rows.{IsInverse, IsStored, offset_of, rows_at}
+use Rattle.determinize_engine.specs.declared.state_table.TheConstants.{MAX_STATES}
 
 -- a number of columns, over the columns
 pub divided : (r columns : ℕ) → 0 < columns → r * columns / columns ≡ r
@@ -30,23 +36,16 @@ module _ (r columns : ℕ) (some : 0 < columns) (few : r * columns < 4294967296)
   over : r * (columns - 4294967296 % columns) ≤ r * columns
   over = mul-le-mul_left r (omega arith)
 
-  pub inverse-row : r * columns * (4294967296 / columns + 1) / 4294967296 ≡ r
+  inverse-row : r * columns * (4294967296 / columns + 1) / 4294967296 ≡ r
   inverse-row = ap (λ n. n / 4294967296) (product r columns some)
       ∙ div-mul-add r 4294967296 (r * (columns - 4294967296 % columns)) (let h = over in omega (arith, h, few))
 
-  pub inverse-room : r * columns * (4294967296 / columns + 1) < 2 ^ 64
+  inverse-room : r * columns * (4294967296 / columns + 1) < 2 ^ 64
   inverse-room =
       let h = over in
       let same = product r columns some in
       let least : r * 1 ≤ r * columns = mul-le-mul_left r (omega (arith, some)) in
       omega (arith, h, few, same, least)
-
--- the row at an offset
-pub rows_at-index : (columns : ℕ) (offsets : List ℕ) (i : ℕ) → i < length offsets
-    → slice_index (rows_at columns offsets) i ≡ slice_index offsets i / columns
-rows_at-index columns [] i h = absurd (let no : ⊥ = omega (arith, h) in no)
-rows_at-index columns (x ∷ xs) zero h = refl
-rows_at-index columns (x ∷ xs) (suc i) h = rows_at-index columns xs i (omega (arith, h))
 
 -- the rows at the offsets of rows
 pub rows_at-offsets : (columns : ℕ) → 0 < columns → (rows : List ℕ)
@@ -78,3 +77,57 @@ module _ (d : Table) where
       let more : (r + 1) * columns ≤ s * columns = mul-le-mul_right columns next in
       let split : (r + 1) * columns ≡ r * columns + columns = omega arith in
       let room : 0 < columns = some in omega (arith, more, split, room)
+
+  -- and the other way round
+  pub offset-order : {r s : ℕ} → offset_of d r ≤ offset_of d s → r ≤ s
+  offset-order {r} {s} h = elim (cases_lt s r) [
+    | inl k ↦ absurd (let less = offset-less k in let no : ⊥ = omega (arith, h, less) in no)
+    | inr k ↦ k
+  ]
+
+  pub less-offset : {r s : ℕ} → offset_of d r < offset_of d s → r < s
+  less-offset {r} {s} h = elim (cases_lt r s) [
+    | inl k ↦ k
+    | inr k ↦
+        let upto : offset_of d s ≤ offset_of d r = mul-le-mul_right (d.class_count + 1) k in
+        absurd (let no : ⊥ = omega (arith, h, upto) in no)
+  ]
+
+-- the entries of a DFA as offsets
+pub stored-offsets : (v : DfaValue) → IsDfa v → (offsets : List ℕ)
+    → offsets ≡ map (λ row. row * (v.table.class_count + 1)) v.table.next → IsStored v offsets
+stored-offsets v dfa offsets are =
+    let count : length offsets ≡ length v.table.next =
+    ap length are ∙ length-map v.table.next (λ row. row * (v.table.class_count + 1)) in
+    record {
+      dfa = dfa;
+      count = count;
+      entries = λ e h. ap (λ os. slice_index os e) are
+          ∙ get_or-map (λ row. row * (v.table.class_count + 1)) v.table.next e 0 0 (rw count at h);
+    }
+
+-- the product of an offset and the inverse of the columns has the row
+pub inverse-is : (d : Table) → IsFilled d → IsInverse d (4294967296 / (d.class_count + 1) + 1)
+inverse-is d is =
+    let few : (r : ℕ) → r < length d.patterns → r * (d.class_count + 1) < 4294967296 = λ r h.
+    let rows = is.few in
+    let narrow = is.narrow in
+    let most : r * (d.class_count + 1) ≤ r * 257 = mul-le-mul_left r narrow in
+    omega (arith, h, rows, most) in
+    record {
+      room = λ r h. inverse-room r (d.class_count + 1) (omega arith) (few r h);
+      row = λ r h. inverse-row r (d.class_count + 1) (omega arith) (few r h);
+    }
+
+-- each entry is the number of a row
+pub entries-few : (d : Table) → IsFilled d → All (λ row. row < MAX_STATES) d.next
+entries-few d is = All-from_get_or (λ row. row < MAX_STATES) d.next 0 (λ e h.
+    let columns : ℕ = d.class_count + 1 in
+    let some : 0 < columns = omega arith in
+    let row : e / columns < length d.patterns =
+    (div-lt_iff_lt-mul some).1 (rw is.size at h) in
+    let below : entry d (e / columns) (e % columns) < length d.patterns =
+    entry-below d is (e / columns) (e % columns) row (mod-lt e some) in
+    let whole : e / columns * columns + e % columns ≡ e = div-add-mod' e columns in
+    let here : slice_index d.next e < length d.patterns = rw whole at below in
+    let few = is.few in omega (arith, here, few))

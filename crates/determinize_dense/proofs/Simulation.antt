@@ -11,9 +11,6 @@ use Rattle.determinize_dense.proofs.Common.{row_after, row_over, start_in, start
 use Rattle.determinize_dense.proofs.Common.{step, Table, unit_at}
 use Rattle.std.specs.Prelude.{◌%◌, ◌++◌, ◌≤◌, false, ◌/◌}
 use Rattle.determinize_dense.specs.Least.{IsReachedRow}
-use Rattle.determinize_dense.specs.Private.Rows.{IsStored, rows_at}
-use Rattle.determinize_dense.proofs.Offsets.{rows_at-offsets}
-use Rattle.std.proofs.lemmas.List.{get_or-map}
 use Rattle.std.proofs.Math.Nat.{mul_comm}
 use Rattle.std.proofs.lemmas.Nat.{div-mul-add, mod-mul-add, mul-add-lt}
 use Rattle.determinize_core.specs.Alike.{NeedsTested}
@@ -164,6 +161,7 @@ module _ (b : Building) (is : IsBuilding b) (whole : length b.next ≡ length b.
     column = column-below;
     units = unit-there;
     few = few;
+    narrow = let classes = is.sound.few in omega (arith, classes);
     within = λ r u h unit. subst (λ n. row_over table r u < n) (sym count)
         (slice_get_within b.values (row_over table r u) _
         (row_over-step r (get_or b.values r dead) u
@@ -187,45 +185,6 @@ module _ (b : Building) (is : IsBuilding b) (whole : length b.next ≡ length b.
         ∙ ap (λ v. value_after b.nfa b.kind v rest) here ∙ dead-stays b.nfa b.kind rest);
   }
 
-  -- the entries as offsets
-  pub is_stored : columns_of b.classes ≤ 257 → (offsets : List ℕ)
-      → offsets ≡ map (λ row. row * columns_of b.classes) b.next
-      → IsStored (record {
-        nfa = b.nfa;
-        kind = b.kind;
-        table = record {
-          classes = b.classes.of_bytes;
-          class_count = length b.classes.firsts;
-          next = rows_at (columns_of b.classes) offsets;
-          starts = starts;
-          patterns = map (λ (v : Value). v.patterns) b.values;
-        };
-      }) offsets
-  is_stored narrow offsets are = record {
-    narrow = narrow;
-    dfa = subst (λ ns. IsDfa record {
-      nfa = b.nfa;
-      kind = b.kind;
-      table = record {
-        classes = b.classes.of_bytes;
-        class_count = length b.classes.firsts;
-        next = ns;
-        starts = starts;
-        patterns = map (λ (v : Value). v.patterns) b.values;
-      };
-    }) (sym rows_are) is_dfa;
-    count = sym (length-map offsets (λ offset. offset / columns_of b.classes));
-    entries = λ e h.
-        let below : e < length b.next =
-        subst (λ n. e < n) (ap length are ∙ length-map b.next (λ row. row * columns_of b.classes)) h in
-        ap (λ os. slice_index os e) are ∙ get_or-map (λ row. row * columns_of b.classes) b.next e 0 0 below
-        ∙ ap (λ ns. slice_index ns e * columns_of b.classes) (sym rows_are);
-  }
-    where
-      rows_are : rows_at (columns_of b.classes) offsets ≡ b.next
-      rows_are = ap (λ os. rows_at (columns_of b.classes) os) are
-          ∙ rows_at-offsets (columns_of b.classes) (omega arith) b.next
-
   -- the values are those that are reached
   pub has_states : HasStates b.nfa b.kind (length b.values)
   has_states = (
@@ -241,13 +200,3 @@ module _ (b : Building) (is : IsBuilding b) (whole : length b.next ≡ length b.
           (i, slice_get_within b.values i v at, get_or_from_slice_get b.values i v v at),
     ),
   )
-
--- each entry is the number of a row
-pub rows-few : (b : Building) → IsBuilding b → All (λ row. row < MAX_STATES) b.next
-rows-few b is e d h =
-    let at : slice_get b.next e ≡ Some (get_or b.next e d) = slice_get-get_or b.next e d h in
-    let k = is.entries e (get_or b.next e d) at in
-    let below : get_or b.next e d < length b.values = slice_get_within b.values (get_or b.next e d) _ k.2 in
-    let few : length b.values ≤ b.limit = is.few in
-    let limit : b.limit ≤ MAX_STATES = is.limit in
-    omega (arith, below, few, limit)

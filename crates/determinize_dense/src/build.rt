@@ -4,7 +4,7 @@
 //! start states, and then the next states of each row. An entry is computed for one byte of each
 //! class, and for the end of input (EOI).
 
-ghost use Rattle.std.specs.Prelude.{◌≡◌, ◌<◌, ◌≤◌, ◌+◌, ◌*◌, ◌∷◌, ℕ, All, Option, [], Err, Some, None, IfOk, IfNone, OnOk, cond, length, map, min, nat_lt, slice_get};
+ghost use Rattle.std.specs.Prelude.{◌≡◌, ◌<◌, ◌≤◌, ◌+◌, ◌*◌, ◌∷◌, ℕ, Option, [], Err, Some, None, IfOk, IfNone, OnOk, cond, length, map, min, nat_lt, slice_get};
 ghost use Rattle.std.specs.Option.{IfSome};
 ghost use Rattle.determinize_below.specs.Truth.{IsUnit};
 ghost use Rattle.determinize_below.specs.Unit.{byte_of};
@@ -152,23 +152,6 @@ fn lists_of<A: Allocator + Copy>(
         lists.push(patterns_of(alloc, state)?)?;
     }
     Ok(lists)
-}
-
-/// Returns the offsets of rows.
-fn offsets_of<A: Allocator + Copy>(
-    alloc: A,
-    rows: &[u32],
-    columns: usize,
-) -> Result<Vec<u32, A>, AllocError>
-    requires rows { All (λ row. row < MAX_STATES) rows.now }
-    requires columns { columns ≤ 257 }
-    ensures { IfOk result (λ offsets. offsets.items ≡ map (λ row. row * columns) rows.now) }
-{
-    let mut offsets = Vec::with_capacity(alloc, rows.len())?;
-    for row in rows {
-        offsets.push((*row as usize * columns) as u32)?;
-    }
-    Ok(offsets)
 }
 
 impl<'n, N: Allocator, A: Allocator + Copy> Builder<'n, N, A> {
@@ -350,7 +333,7 @@ impl<'n, N: Allocator, A: Allocator + Copy> Builder<'n, N, A> {
             nfa: self.stepper.nfa(),
             match_kind: self.stepper.match_kind(),
             classes: self.classes.clone()?,
-            next: offsets_of(alloc, self.next.as_slice(), self.classes.alphabet_len())?,
+            next: self.next.clone()?,
             starts,
             patterns: lists_of(alloc, self.states.as_slice())?,
         })

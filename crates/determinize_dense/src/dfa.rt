@@ -1,25 +1,32 @@
-//! A whole DFA, and what can be asked of it besides searches.
+//! A whole DFA: its table, how its entries are read, and what can be asked of it besides searches.
 
 ghost use Rattle.std.specs.Prelude.{◌≡◌, ◌+◌, ◌*◌, ◌<◌, ◌≤◌, Err, IfOk, IsErr, length, min};
 ghost use Rattle.determinize_below.specs.ByteClasses.{AreClassesOf};
 ghost use Rattle.determinize_below.specs.Nfa.{IsAccepted};
+ghost use Rattle.determinize_below.specs.Truth.{IsUnit};
 ghost use Rattle.determinize_dense.specs.Dfa.{HasMoreStates, HasStates, IsDfaOf};
 ghost use Rattle.determinize_dense.specs.Least.{HasRows, IsLeast};
-ghost use Rattle.determinize_dense.specs.Table.{bytes_of};
+ghost use Rattle.determinize_dense.specs.Private.Rows.{IsDfa, IsNext, IsOffset, offset_of, rows_at};
+ghost use Rattle.determinize_dense.specs.Table.{bytes_of, column_of, patterns_at, start_row};
 ghost use Rattle.determinize_dense.specs.declared.error.DfaError.TheVariants.{TooManyStates};
 
 use crate::build::Builder;
 use crate::error::DfaError;
-use crate::rows::Rows;
+use crate::rows::{Rows, STARTS};
 use determinize_below::alphabet::ByteClasses;
-use determinize_below::{MatchKind, NFA};
+use determinize_below::{MatchKind, NFA, PatternID};
+use determinize_core::start::{Start, start_kind_of};
 use determinize_engine::state_table::MAX_STATES;
 use std::alloc::{AllocError, Allocator, Global};
 use std::fmt;
 use std::marker::Model;
+use std::mem::{size_of, size_of_val};
 
 /// 2^32. The offset of each row is less.
 pub(crate) const SCALE: usize = 1 << 32;
+
+/// The bytes of a list of patterns itself, with an allocator of no size.
+const LIST: usize = size_of::<Vec<PatternID>>();
 
 /// A whole DFA of an NFA. As built, it has a row for each state that a search can reach, from every
 /// start and over any units; as minimized, one row for all states that match alike.
@@ -29,7 +36,15 @@ pub(crate) const SCALE: usize = 1 << 32;
 /// each byte.
 #[derive(Drop)]
 pub struct Dfa<'n, N: Allocator = Global, A: Allocator = Global> {
-    pub(crate) rows: Rows<'n, N, A>,
+    pub(crate) nfa: &'n NFA<N>,
+    pub(crate) match_kind: MatchKind,
+    pub(crate) classes: ByteClasses,
+    /// The entries of the rows: the offset of the next row, which is its number times the length of
+    /// a row. So a search needs no product to find an entry.
+    pub(crate) next: Vec<u32, A>,
+    /// The numbers of the rows of the start states.
+    pub(crate) starts: [u32; STARTS],
+    pub(crate) patterns: Vec<Vec<PatternID, A>, A>,
     /// The offset of the last row that lists patterns, or 0.
     pub(crate) last_match: usize,
     /// The offset of the last row that is scanned out of, or that of `last_match`.
@@ -41,16 +56,37 @@ pub struct Dfa<'n, N: Allocator = Global, A: Allocator = Global> {
 }
 
 impl<'n, N: Allocator, A: Allocator> Model for Dfa<'n, N, A> {
+    ghost use Rattle.std.specs.Prelude.{◌+◌, length, map};
     ghost use Rattle.determinize_dense.specs.Table.{DfaValue};
-    ghost use Rattle.determinize_dense.specs.Private.Order.{IsOrdered};
-    ghost use Rattle.determinize_dense.specs.Private.Rows.{IsInverse};
+    ghost use Rattle.determinize_dense.specs.Private.Order.{IsArranged};
+    ghost use Rattle.determinize_dense.specs.Private.Rows.{dfa_value, rows_at};
 
     ghost Value = { DfaValue };
 
-    ghost view = { λ d. d.rows };
+    ghost view = { λ d. dfa_value d.nfa.now d.match_kind d.classes
+        (rows_at (length d.classes.firsts + 1) d.next.items) d.starts
+        (map (λ list. list.items) d.patterns.items) };
 
-    ghost invariant = { λ d. IsOrdered d.rows.table d.last_match d.last_special
-        × IsInverse d.rows.table d.inverse };
+    ghost invariant = { λ d. IsArranged (dfa_value d.nfa.now d.match_kind d.classes
+        (rows_at (length d.classes.firsts + 1) d.next.items) d.starts
+        (map (λ list. list.items) d.patterns.items))
+        d.next.items d.last_match d.last_special d.inverse };
+}
+
+/// Returns the rows at offsets.
+fn numbers_of<A: Allocator + Copy>(
+    alloc: A,
+    offsets: &[u32],
+    columns: usize,
+) -> Result<Vec<u32, A>, AllocError>
+    requires { 0 < columns }
+    ensures { IfOk result (λ rows. rows.items ≡ rows_at columns offsets.now) }
+{
+    let mut rows = Vec::with_capacity(alloc, offsets.len())?;
+    for offset in offsets {
+        rows.push((*offset as usize / columns) as u32)?;
+    }
+    Ok(rows)
 }
 
 impl<'n, N: Allocator, A: Allocator + Copy> Dfa<'n, N, A> {
@@ -102,7 +138,21 @@ impl<'n, N: Allocator, A: Allocator + Copy> Dfa<'n, N, A> {
         ensures fewer { IfOk result
             (λ dfa. length dfa.table.patterns ≤ length self.now.table.patterns) }
     {
-        self.rows.minimized(alloc)?.arranged(alloc)
+        self.rows_of(alloc)?.minimized(alloc)?.arranged(alloc)
+    }
+
+    /// Returns the rows, with numbers for offsets.
+    fn rows_of(&self, alloc: A) -> Result<Rows<'n, N, A>, AllocError>
+        ensures { IfOk result (λ rows. rows ≡ self.now) }
+    {
+        Ok(Rows {
+            nfa: self.nfa,
+            match_kind: self.match_kind,
+            classes: self.classes.clone()?,
+            next: numbers_of(alloc, self.next.as_slice(), self.classes.alphabet_len())?,
+            starts: self.starts,
+            patterns: self.patterns.clone()?,
+        })
     }
 
     /// Returns the NFA.
@@ -110,14 +160,14 @@ impl<'n, N: Allocator, A: Allocator + Copy> Dfa<'n, N, A> {
         ensures value { result.now ≡ self.now.nfa }
         ensures accepted { IsAccepted self.now.nfa }
     {
-        self.rows.nfa
+        self.nfa
     }
 
     /// Returns the match kind.
     pub fn match_kind(&self) -> MatchKind
         ensures { result ≡ self.now.kind }
     {
-        self.rows.match_kind
+        self.match_kind
     }
 
     /// Returns the number of states.
@@ -126,7 +176,7 @@ impl<'n, N: Allocator, A: Allocator + Copy> Dfa<'n, N, A> {
         ensures means { IsDfaOf self.now.nfa self.now.kind self.now.table }
         ensures rows { HasRows self.now.nfa self.now.table }
     {
-        self.rows.len()
+        self.patterns.len()
     }
 
     /// Returns the classes of bytes. A row has a column for each, and one for EOI.
@@ -135,7 +185,7 @@ impl<'n, N: Allocator, A: Allocator + Copy> Dfa<'n, N, A> {
         ensures count { length result.now.firsts ≡ self.now.table.class_count }
         ensures classes { AreClassesOf self.now.nfa result.now }
     {
-        self.rows.byte_classes()
+        &self.classes
     }
 
     /// Returns the heap memory of the DFA in bytes, without spare capacity: four bytes for each
@@ -144,7 +194,67 @@ impl<'n, N: Allocator, A: Allocator + Copy> Dfa<'n, N, A> {
     pub fn memory_usage(&self) -> usize
         ensures { result ≡ min (bytes_of self.now.table) usize.MAX }
     {
-        self.rows.memory_usage()
+        let mut bytes = size_of_val(self.next.as_slice());
+        for list in &self.patterns {
+            let patterns = list.len().saturating_mul(size_of::<PatternID>());
+            bytes = bytes.saturating_add(LIST).saturating_add(patterns);
+        }
+        bytes
+    }
+
+    /// Returns the offset of the row of a start behind a byte, or behind nothing.
+    pub(crate) fn start_row(&self, is_anchored: bool, look_behind: Option<u8>) -> usize
+        ensures value { result ≡ offset_of self.now.table
+            (start_row self.now.nfa self.now.table is_anchored look_behind) }
+        ensures limit { start_row self.now.nfa self.now.table is_anchored look_behind
+            < length self.now.table.patterns }
+        ensures unit { IsUnit look_behind }
+        ensures sound { IsDfa self.now }
+    {
+        let terminator = self.nfa.look_matcher().get_line_terminator();
+        let kind = start_kind_of(terminator, look_behind).as_usize();
+        let first = if is_anchored { 0 } else { Start::len() };
+        self.starts[first + kind] as usize * self.classes.alphabet_len()
+    }
+
+    /// Returns the offset of the row after a row over a unit.
+    ///
+    /// - `row` is the offset of the row.
+    ///
+    /// The slice at the column does not depend on the row, so from one row to the next there is one
+    /// load.
+    #[inline(always)]
+    pub(crate) fn row_over(&self, row: usize, unit: Option<u8>) -> usize
+        requires { IsOffset self.now.table row }
+        ensures value { IsNext self.now.table row unit result }
+        ensures unit { IsUnit unit }
+    {
+        let column = &self.next[self.column(unit)..];
+        column[row] as usize
+    }
+
+    /// Returns the column of a unit.
+    #[inline(always)]
+    fn column(&self, unit: Option<u8>) -> usize
+        ensures value { result ≡ column_of self.now.table unit }
+        ensures limit { result < self.now.table.class_count + 1 }
+        ensures unit { IsUnit unit }
+    {
+        match unit {
+            Some(byte) => usize::from(self.classes.get(byte)),
+            None => self.classes.alphabet_len() - 1,
+        }
+    }
+
+    /// Returns the patterns that a row lists.
+    ///
+    /// - `row` is the number of the row.
+    #[inline(always)]
+    pub(crate) fn patterns(&self, row: usize) -> &[PatternID]
+        requires { row < length self.now.table.patterns }
+        ensures { result.now ≡ patterns_at self.now.table row }
+    {
+        self.patterns[row].as_slice()
     }
 }
 

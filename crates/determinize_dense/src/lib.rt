@@ -4,11 +4,11 @@
 //! search then follows the table: it allocates nothing, cannot fail, and takes `&self`, so one DFA
 //! serves any number of searches. The matches are those of `determinize_lazy::Lazy`.
 //!
-//! - `dfa`: the type. `rows`: its table. `build`: its construction, with `error`. `search`:
-//!   searches, with `pauses`. `reading`: steps by hand. `overlapping`: all patterns at each
-//!   position. `minimize`: the fewest rows, by `partition`. `order`: the order of rows. `laws`:
-//!   what a DFA lists where a text ends, that no table which lists the same along all units has
-//!   fewer rows, and that the number of states is one.
+//! - `dfa`: the type, and its table. `build`: its construction, with `error`. `rows`: the rows
+//!   until they are in order. `search`: searches, with `pauses`. `reading`: steps by hand.
+//!   `overlapping`: all patterns at each position. `minimize`: the fewest rows, by `partition`.
+//!   `order`: the order of rows. `laws`: what a DFA lists where a text ends, that no table which
+//!   lists the same along all units has fewer rows, and that the number of states is one.
 #![tactic(auto)]
 
 mod build;

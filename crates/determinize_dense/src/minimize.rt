@@ -158,12 +158,10 @@ impl<'n, N: Allocator, A: Allocator + Copy> Rows<'n, N, A> {
         requires { IsGrouping self.now.table parts.now }
         ensures { IfOk result (λ next. AreMergedRows self.now.table parts.now next.items) }
     {
-        let columns = self.classes.alphabet_len();
         let mut next = Vec::new(alloc);
         for row in parts.members() {
-            for column in 0..columns {
-                let block = parts.block(self.entry(*row, column));
-                next.push((block * columns) as u32)?;
+            for column in 0..self.classes.alphabet_len() {
+                next.push(parts.block(self.entry(*row, column)) as u32)?;
             }
         }
         Ok(next)

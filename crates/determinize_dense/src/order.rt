@@ -1,19 +1,37 @@
 //! The order of rows: row 0, then the rows that list patterns, then those that a search scans out
 //! of, and then the others.
 
-ghost use Rattle.std.specs.Prelude.{◌≡◌, ◌<◌, IfOk, length};
+ghost use Rattle.std.specs.Prelude.{◌≡◌, ◌<◌, ◌≤◌, ◌*◌, All, IfOk, length, map};
 ghost use Rattle.determinize_dense.specs.Dfa.{IsDfaOf};
 ghost use Rattle.determinize_dense.specs.Least.{IsLeast};
-ghost use Rattle.determinize_dense.specs.Private.Order.{AreRanks, IsRank};
-ghost use Rattle.determinize_dense.specs.Private.Partition.{IsByRank};
+ghost use Rattle.determinize_dense.specs.Private.Order.{AreRanks, IsOrdered, IsRank};
+ghost use Rattle.determinize_dense.specs.Private.Rows.{offset_of};
 
 use crate::dfa::{Dfa, SCALE};
 use crate::partition::Partition;
 use crate::rows::Rows;
+use determinize_engine::state_table::MAX_STATES;
 use std::alloc::{AllocError, Allocator};
 
 /// The least number of bytes that do not leave a row that is scanned out of.
 const STAYING: usize = 64;
+
+/// Returns the offsets of rows.
+fn offsets_of<A: Allocator + Copy>(
+    alloc: A,
+    rows: &[u32],
+    columns: usize,
+) -> Result<Vec<u32, A>, AllocError>
+    requires rows { All (λ row. row < MAX_STATES) rows.now }
+    requires columns { columns ≤ 257 }
+    ensures { IfOk result (λ offsets. offsets.items ≡ map (λ row. row * columns) rows.now) }
+{
+    let mut offsets = Vec::with_capacity(alloc, rows.len())?;
+    for row in rows {
+        offsets.push((*row as usize * columns) as u32)?;
+    }
+    Ok(offsets)
+}
 
 impl<'n, N: Allocator, A: Allocator + Copy> Rows<'n, N, A> {
     /// Returns the number of bytes of each class.
@@ -32,10 +50,9 @@ impl<'n, N: Allocator, A: Allocator + Copy> Rows<'n, N, A> {
     fn is_scanned(&self, row: usize, sizes: &[u16; 256]) -> bool
         requires { row < length self.now.table.patterns }
     {
-        let offset = row * self.classes.alphabet_len();
         let mut staying = 0;
-        for (class, byte) in self.classes.representatives().iter().enumerate() {
-            if self.row_over(offset, Some(*byte)) == offset {
+        for class in 0..self.classes.representatives().len() {
+            if self.entry(row, class) == row {
                 staying += usize::from(sizes[class]);
             }
         }
@@ -83,32 +100,47 @@ impl<'n, N: Allocator, A: Allocator + Copy> Rows<'n, N, A> {
             → IfOk result (λ dfa. IsLeast dfa.nfa dfa.table) }
     {
         let ranks = self.ranks(alloc)?;
-        let order = Partition::by_rank(alloc, ranks.as_slice())?;
-        self.in_order(alloc, ranks.as_slice(), &order)
+        let ranks = ranks.as_slice();
+        let order = Partition::by_rank(alloc, ranks)?;
+        let rows = self.merged(alloc, &order)?;
+        rows.finished(alloc, order.last_upto(ranks, 1), order.last_upto(ranks, 2))
     }
 
-    /// Returns the DFA with these rows in the order of their ranks.
-    fn in_order(
-        &self,
+    /// Returns the DFA of rows that are in order.
+    ///
+    /// - `last_match` is the last row that lists patterns, or 0, and `last_special` the last one
+    ///   that is scanned out of, or `last_match`.
+    fn finished(
+        self,
         alloc: A,
-        ranks: &[usize],
-        order: &Partition<A>,
+        last_match: usize,
+        last_special: usize,
     ) -> Result<Dfa<'n, N, A>, AllocError>
-        requires ranks { AreRanks self.now.table ranks.now }
-        requires order { IsByRank ranks.now order.now }
-        ensures nfa { IfOk result (λ dfa. dfa.nfa ≡ self.now.nfa) }
-        ensures kind { IfOk result (λ dfa. dfa.kind ≡ self.now.kind) }
-        ensures means { IfOk result (λ dfa. IsDfaOf dfa.nfa dfa.kind dfa.table) }
-        ensures rows { IfOk result
-            (λ dfa. length dfa.table.patterns ≡ length self.now.table.patterns) }
-        ensures least { IsLeast self.now.nfa self.now.table
-            → IfOk result (λ dfa. IsLeast dfa.nfa dfa.table) }
+        requires last { last_match < length self.table.patterns }
+        requires special { last_special < length self.table.patterns }
+        requires order { IsOrdered self.table
+            (offset_of self.table last_match) (offset_of self.table last_special) }
+        ensures { IfOk result (λ dfa. dfa ≡ self.entry) }
     {
         let columns = self.classes.alphabet_len();
+        let next = offsets_of(alloc, self.next.as_slice(), columns)?;
+        let Rows {
+            nfa,
+            match_kind,
+            classes,
+            next: _,
+            starts,
+            patterns,
+        } = self;
         Ok(Dfa {
-            rows: self.merged(alloc, order)?,
-            last_match: order.last_upto(ranks, 1) * columns,
-            last_special: order.last_upto(ranks, 2) * columns,
+            nfa,
+            match_kind,
+            classes,
+            next,
+            starts,
+            patterns,
+            last_match: last_match * columns,
+            last_special: last_special * columns,
             inverse: SCALE / columns + 1,
         })
     }

@@ -18,7 +18,6 @@ ghost use Rattle.determinize_dense.specs.Reading.{IsDead};
 ghost use Rattle.determinize_dense.specs.Table.{patterns_at, row_over, start_row};
 
 use crate::dfa::Dfa;
-use crate::rows::Rows;
 use crate::search::is_anchored;
 use determinize_below::{Input, PatternID};
 use determinize_core::start::Config;
@@ -112,23 +111,6 @@ impl Iterator for RowIds {
     }
 }
 
-impl<'n, N: Allocator, A: Allocator + Copy> Rows<'n, N, A> {
-    /// Returns the offset of a row, or `None` if there is no such row.
-    #[inline(always)]
-    fn offset(&self, row: RowId) -> Option<usize>
-        ensures some { IfSome result (λ offset. IsRowAt self.now.table offset row) }
-        ensures none { result ≡ None → length self.now.table.patterns ≤ row }
-        ensures sound { IsDfa self.now }
-    {
-        let columns = self.classes.alphabet_len();
-        if row.as_usize() < self.len() {
-            Some(row.as_usize() * columns)
-        } else {
-            None
-        }
-    }
-}
-
 impl<'n, N: Allocator, A: Allocator + Copy> Dfa<'n, N, A> {
     /// Returns the row of the start state of a configuration: its anchored mode, and the byte
     /// behind the start. `Anchored::Pattern` has no start state and is not accepted.
@@ -141,7 +123,7 @@ impl<'n, N: Allocator, A: Allocator + Copy> Dfa<'n, N, A> {
         ensures accepted { IsAccepted self.now.nfa }
     {
         let is_anchored = is_anchored(config.get_anchored());
-        let offset = self.rows.start_row(is_anchored, config.get_look_behind());
+        let offset = self.start_row(is_anchored, config.get_look_behind());
         RowId(self.row_number(offset))
     }
 
@@ -159,15 +141,30 @@ impl<'n, N: Allocator, A: Allocator + Copy> Dfa<'n, N, A> {
         self.start_state(&Config::from_input_forward(input))
     }
 
+    /// Returns the offset of a row, or `None` if there is no such row.
+    #[inline(always)]
+    fn offset(&self, row: RowId) -> Option<usize>
+        ensures some { IfSome result (λ offset. IsRowAt self.now.table offset row) }
+        ensures none { result ≡ None → length self.now.table.patterns ≤ row }
+        ensures sound { IsDfa self.now }
+    {
+        let columns = self.classes.alphabet_len();
+        if row.as_usize() < self.len() {
+            Some(row.as_usize() * columns)
+        } else {
+            None
+        }
+    }
+
     /// Returns the row after a row over a byte or, for `None`, over the end of input (EOI).
     #[inline(always)]
     pub(crate) fn next_row(&self, row: RowId, unit: Option<u8>) -> RowId
         ensures { result ≡ row_over self.now.table row unit }
     {
-        let Some(offset) = self.rows.offset(row) else {
+        let Some(offset) = self.offset(row) else {
             return RowId::DEAD;
         };
-        RowId(self.row_number(self.rows.row_over(offset, unit)))
+        RowId(self.row_number(self.row_over(offset, unit)))
     }
 
     /// Returns the row after a row over a byte.
@@ -194,8 +191,8 @@ impl<'n, N: Allocator, A: Allocator + Copy> Dfa<'n, N, A> {
     pub fn match_patterns(&self, row: RowId) -> &[PatternID]
         ensures { result.now ≡ patterns_at self.now.table row }
     {
-        if row.as_usize() < self.rows.len() {
-            self.rows.patterns(row.as_usize())
+        if row.as_usize() < self.len() {
+            self.patterns(row.as_usize())
         } else {
             &[]
         }
@@ -237,7 +234,7 @@ impl<'n, N: Allocator, A: Allocator + Copy> Dfa<'n, N, A> {
     {
         RowIds {
             next: 0,
-            end: self.rows.len(),
+            end: self.len(),
         }
     }
 }

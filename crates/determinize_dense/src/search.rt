@@ -68,12 +68,12 @@ impl<'n, N: Allocator, A: Allocator + Copy> Dfa<'n, N, A> {
             × Accepts self.now.nfa (between look_behind text.now look_ahead)
             (start_for self.now.nfa anchored) cs (length text.now) pattern }
     {
-        let mut row = self.rows.start_row(is_anchored(anchored), look_behind);
+        let mut row = self.start_row(is_anchored(anchored), look_behind);
         for byte in text {
-            row = self.rows.row_over(row, Some(*byte));
+            row = self.row_over(row, Some(*byte));
         }
-        let last = self.rows.row_over(row, look_ahead);
-        self.rows.patterns(self.row_number(last))
+        let last = self.row_over(row, look_ahead);
+        self.patterns(self.row_number(last))
     }
 
     /// Returns the number of the row at an offset.
@@ -98,7 +98,7 @@ impl<'n, N: Allocator, A: Allocator + Copy> Dfa<'n, N, A> {
         if row == 0 {
             return None;
         }
-        let pattern = *self.rows.patterns(number).first()?;
+        let pattern = *self.patterns(number).first()?;
         Some(HalfMatch { pattern, offset })
     }
 
@@ -112,7 +112,7 @@ impl<'n, N: Allocator, A: Allocator + Copy> Dfa<'n, N, A> {
         ensures read { IsRead self.now.table text.now index row result }
         ensures offset { IsOffset self.now.table result }
     {
-        self.rows.row_over(row, Some(text.byte(index)))
+        self.row_over(row, Some(text.byte(index)))
     }
 
     /// Returns the offset of the row after a row over the unit ahead of a text.
@@ -124,7 +124,7 @@ impl<'n, N: Allocator, A: Allocator + Copy> Dfa<'n, N, A> {
         ensures read { IsRead self.now.table text.now (length text.now.bytes) row result }
         ensures offset { IsOffset self.now.table result }
     {
-        self.rows.row_over(row, text.ahead())
+        self.row_over(row, text.ahead())
     }
 
     /// Searches a text. The search ends at row 0 and, if `is_earliest`, at the first row that lists
@@ -143,7 +143,7 @@ impl<'n, N: Allocator, A: Allocator + Copy> Dfa<'n, N, A> {
     ) -> Option<HalfMatch>
         ensures { IsFound self.now is_earliest is_anchored text.now result }
     {
-        let mut row = self.rows.start_row(is_anchored, text.behind());
+        let mut row = self.start_row(is_anchored, text.behind());
         let (mut matched, mut offset, mut read) = (0, 0, 0);
         let until = text.len().min(FIRST);
         while read < until {
@@ -273,7 +273,7 @@ impl<'n, N: Allocator, A: Allocator + Copy> Dfa<'n, N, A> {
         ensures { IsFound self.now is_earliest (dfas.is_anchored input.now.anchored)
             (text_of self.now.nfa.reverse input.now) result }
     {
-        let text = Text::of_input(input, self.rows.nfa.is_reverse());
+        let text = Text::of_input(input, self.nfa.is_reverse());
         self.search_text(is_anchored(input.get_anchored()), &text, is_earliest)
     }
 
@@ -338,7 +338,7 @@ impl<'n, N: Allocator, A: Allocator + Copy> Dfa<'n, N, A> {
         }
         in_haystack(
             input,
-            self.rows.nfa.is_reverse(),
+            self.nfa.is_reverse(),
             self.search_range(input, false),
         )
     }

@@ -4,7 +4,6 @@ use Rattle.std.specs.Prelude.{slice_index}
 use Rattle.determinize_dense.specs.Dfa.{IsDfaOf}
 use Rattle.determinize_dense.specs.Least.{AreApart, IsReachedRow}
 use Rattle.determinize_dense.specs.Private.Partition.{AreBlocks, AreTogether, Blocks}
-use Rattle.determinize_dense.specs.Private.Rows.{offset_of}
 use Rattle.determinize_dense.specs.Table.{DfaValue, Table, patterns_at}
 
 -- the row after a row in a column
@@ -77,10 +76,9 @@ abbrev pub merged_entry : Table → Blocks → ℕ → ℕ
 merged_entry d p e = slice_index p.numbers
     (entry d (slice_index p.members (e / (d.class_count + 1))) (e % (d.class_count + 1)))
 
--- entries of the table of the blocks, as offsets
+-- entries of the table of the blocks
 abbrev pub AreMergedEntries : Table → Blocks → List ℕ → Type 0
-AreMergedEntries d p next = (e : ℕ) → e < length next
-    → slice_index next e ≡ offset_of d (merged_entry d p e)
+AreMergedEntries d p next = (e : ℕ) → e < length next → slice_index next e ≡ merged_entry d p e
 
 -- a row for each block
 pub record AreMergedRows (d : Table) (p : Blocks) (next : List ℕ) : Type 0 where
@@ -105,6 +103,7 @@ pub record IsMerged (v : DfaValue) (p : Blocks) (merged : DfaValue) : Type 0 whe
   pub kind : merged.kind ≡ v.kind
   pub means : IsDfaOf merged.nfa merged.kind merged.table
   pub count : length merged.table.patterns ≡ length p.members
+  pub dead : patterns_at merged.table 0 ≡ []
   pub patterns : (b : ℕ) → b < length p.members
       → patterns_at merged.table b ≡ patterns_at v.table (slice_index p.members b)
   pub columns : merged.table.class_count ≡ v.table.class_count

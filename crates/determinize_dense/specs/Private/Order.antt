@@ -1,8 +1,8 @@
 -- The order of rows: row 0, the rows that list patterns, those that are scanned, and the others.
 use Rattle.std.specs.Prelude.{◌≡◌, ◌<◌, ◌≤◌, ℕ, List, [], length, slice_index, true}
 use Rattle.determinize_state.specs.Value.{is_nonempty}
-use Rattle.determinize_dense.specs.Private.Rows.{offset_of}
-use Rattle.determinize_dense.specs.Table.{Table, patterns_at}
+use Rattle.determinize_dense.specs.Private.Rows.{IsInverse, IsStored, offset_of}
+use Rattle.determinize_dense.specs.Table.{DfaValue, Table, patterns_at}
 use Rattle.determinize_dense.specs.declared.partition.TheConstants.{RANKS}
 
 -- behind row 0 and up to the last match, and only there, the rows list patterns
@@ -12,6 +12,13 @@ pub record IsOrdered (d : Table) (last_match last_special : ℕ) : Type 0 where
       → is_nonempty (patterns_at d r) ≡ true
   pub none : (r : ℕ) → r < length d.patterns → last_match < offset_of d r → patterns_at d r ≡ []
   pub more : last_match ≤ last_special
+
+-- a table in order, whose entries are stored as offsets
+pub record IsArranged (v : DfaValue) (offsets : List ℕ) (last_match last_special inverse : ℕ)
+    : Type 0 where
+  pub stored : IsStored v offsets
+  pub ordered : IsOrdered v.table last_match last_special
+  pub inverted : IsInverse v.table inverse
 
 -- the rank of a row: 0 is that of row 0, and 1 that of rows that list patterns
 pub record IsRank (d : Table) (r rank : ℕ) : Type 0 where

@@ -3,7 +3,9 @@ use Rattle.std.specs.Prelude.{◌≡◌, ◌<◌, ◌≤◌, ◌+◌, ◌*◌, �
 use Rattle.std.specs.Prelude.{length, map, slice_index}
 use Rattle.determinize_below.specs.ByteClasses.{AreClassesOf, Classes}
 use Rattle.determinize_below.specs.Nfa.{IsAccepted}
+use Rattle.determinize_below.specs.Semantics.{Nfa}
 use Rattle.determinize_below.specs.Truth.{IsUnit}
+use Rattle.determinize_below.specs.declared.search.MatchKind.{MatchKind}
 use Rattle.determinize_engine.specs.declared.state_table.TheConstants.{MAX_STATES}
 use Rattle.determinize_dense.specs.Dfa.{IsDfaOf, value_from}
 use Rattle.determinize_dense.specs.Least.{IsReachedRow}
@@ -20,6 +22,21 @@ pub record IsFilled (d : Table) : Type 0 where
   pub within : (r : ℕ) (u : Option ℕ) → r < length d.patterns → IsUnit u → row_over d r u
       < length d.patterns
   pub few : length d.patterns ≤ MAX_STATES
+  pub narrow : d.class_count + 1 ≤ 257
+
+-- what a DFA of these parts is seen as
+abbrev pub dfa_value : Nfa → MatchKind → Classes → List ℕ → List ℕ → List (List ℕ) → DfaValue
+dfa_value nfa kind p next starts patterns = record {
+  nfa = nfa;
+  kind = kind;
+  table = record {
+    classes = p.of_bytes;
+    class_count = length p.firsts;
+    next = next;
+    starts = starts;
+    patterns = patterns;
+  };
+}
 
 -- a table of this NFA, which is valid, and of this match kind; the classes of bytes are those of the
 -- NFA, each row is reached, and no match follows row 0
@@ -64,6 +81,5 @@ pub record IsInverse (d : Table) (inverse : ℕ) : Type 0 where
 pub record IsStored (v : DfaValue) (offsets : List ℕ) : Type 0 where
   pub dfa : IsDfa v
   pub count : length offsets ≡ length v.table.next
-  pub narrow : v.table.class_count + 1 ≤ 257
   pub entries : (e : ℕ) → e < length offsets
       → slice_index offsets e ≡ offset_of v.table (slice_index v.table.next e)

@@ -19,12 +19,12 @@ returns-then-end-eq0 g c = λ earliest anchored sound searched.
           c.match_of.ensures (all g at) earliest
       | then-end-eq0-via-else-end-eq0+then-end-self w ↦
           found-all sound (searched-none sound searched c.over_ahead-end.ensures.read
-          (ordered c.self.view_is c.self.invariant.0) w.if-end-self.true) c.match_of.ensures (all g at) earliest
+          (ordered c.self.view_is c.self.invariant.ordered) w.if-end-self.true) c.match_of.ensures (all g at) earliest
     ]
 
 pub returns : goal.returns
 returns g c = λ earliest anchored sound searched.
     let at : After-over_ahead-end g = (goal.at.returns g c).After-over_ahead-end in
     found-all sound (searched-some sound searched c.over_ahead-end.ensures.read
-    (ordered c.self.view_is c.self.invariant.0) c.if-end-eq0.false c.if-end-self.false)
+    (ordered c.self.view_is c.self.invariant.ordered) c.if-end-eq0.false c.if-end-self.false)
     (rw c.len.ensures.value at c.match_of-2.ensures) (all g at) earliest

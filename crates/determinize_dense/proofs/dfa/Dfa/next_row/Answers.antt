@@ -11,7 +11,7 @@ next : (g : Over) (c : After-row_over g)
     → (row_over c.args.self.now.table c.args.row c.args.unit < length c.args.self.now.table.patterns)
     × (c.row_over.result ≡ offset_of c.args.self.now.table (row_over c.args.self.now.table c.args.row c.args.unit))
 next g c =
-    let at = c.in-Some.ensures.some in rw c.self.view_is at (c.row_over.ensures.value c.args.row at.0 at.1)
+    let at = c.in-Some.ensures.some in c.row_over.ensures.value c.args.row at.0 at.1
 
 pub row_number-requires : goal.row_number-requires
 row_number-requires g c =

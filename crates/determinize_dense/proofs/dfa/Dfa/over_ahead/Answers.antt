@@ -12,7 +12,7 @@ read g c = record {
   unit = c.ahead.result;
   at = unit-last c.args.text.now _ refl ∙ ap Some (sym c.ahead.ensures);
   is_unit = c.row_over.ensures.unit;
-  goes = rw c.self.view_is at c.row_over.ensures.value;
+  goes = c.row_over.ensures.value;
 }
 
 pub returns-clause-read : goal.returns-clause-read

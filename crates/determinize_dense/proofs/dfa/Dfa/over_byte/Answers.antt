@@ -12,7 +12,7 @@ read g c = record {
   unit = Some c.byte.result;
   at = unit-here c.args.text.now c.args.index c.byte.result c.byte.ensures;
   is_unit = c.row_over.ensures.unit;
-  goes = rw c.self.view_is at c.row_over.ensures.value;
+  goes = c.row_over.ensures.value;
 }
 
 pub returns-clause-read : goal.returns-clause-read

@@ -7,7 +7,7 @@ use Rattle.determinize_dense.proofs.dfa.Dfa.row_number.Goals.{After-self}
 use Rattle.determinize_dense.proofs.dfa.Dfa.row_number.Goals as goal
 
 inverse : (g : Over) (c : After-self g) → IsInverse c.args.self.now.table c.self.inside.inverse
-inverse g c = subst (λ (x : DfaValue). IsInverse x.table c.self.inside.inverse) c.self.view_is c.self.invariant.1
+inverse g c = subst (λ (x : DfaValue). IsInverse x.table c.self.inside.inverse) c.self.view_is c.self.invariant.inverted
 
 pub overflow_mul-result : goal.overflow_mul-result
 overflow_mul-result g c =
@@ -26,4 +26,4 @@ returns-clause-row g c =
     )
 
 pub returns-clause-dead : goal.returns-clause-dead
-returns-clause-dead g c = subst (λ (x : DfaValue). patterns_at x.table 0 ≡ []) c.self.view_is c.self.invariant.0.dead
+returns-clause-dead g c = subst (λ (x : DfaValue). patterns_at x.table 0 ≡ []) c.self.view_is c.self.invariant.ordered.dead

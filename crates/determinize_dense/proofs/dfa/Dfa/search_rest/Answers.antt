@@ -17,7 +17,7 @@ loop-read-init g c = record {
 
 pub loop-read-2-init : goal.loop-read-2-init
 loop-read-2-init g c =
-    let special : c.self.inside.last_match ≤ c.self.inside.last_special = c.self.invariant.0.more in
+    let special : c.self.inside.last_match ≤ c.self.inside.last_special = c.self.invariant.ordered.more in
     let room : c.loop-read.read < c.len.result = c.loop-read-test.true in
     let len : c.len.result ≡ length c.args.text.now.bytes = c.len.ensures.value in
     elim c.if-read-pauses.branch [
@@ -73,7 +73,7 @@ Come g c = HasCome c.args.self.now c.args.text.now c.args.read c.args.row c.args
 plain : (g : Over) (c : After-over_byte-row g) → c.self.inside.last_match < c.over_byte-row.result
     → Come g c (c.loop-read-2.read + 1) c.over_byte-row.result c.loop-read-2.matched c.loop-read-2.offset
 plain g c past =
-    let order = ordered c.self.view_is c.self.invariant.0 in
+    let order = ordered c.self.view_is c.self.invariant.ordered in
     record {
       at = c.over_byte-row.ensures.offset;
       listing = c.loop-read-2.invariant.come.listing;
@@ -88,7 +88,7 @@ scanned : (g : Over) (c : After-scan-read g)
 scanned g c =
     let at : After-over_byte-row g = (goal.at.After-scan-read g c).After-over_byte-row in
     let before = plain g at c.if-row-self.true in
-    let order = ordered c.self.view_is c.self.invariant.0 in
+    let order = ordered c.self.view_is c.self.invariant.ordered in
     record {
       at = before.at;
       listing = before.listing;
@@ -133,7 +133,7 @@ same_end n = omega arith
 pub returns-then-is_earliest : goal.returns-then-is_earliest
 returns-then-is_earliest g c = λ anchored sound s.
     let before = c.loop-read-2.invariant.come.searched anchored sound s in
-    let order = ordered c.self.view_is c.self.invariant.0 in
+    let order = ordered c.self.view_is c.self.invariant.ordered in
     let found : IsMatch c.args.self.now.table c.over_byte-row.result c.loop-read-2.read
     c.match_of-then-is_earliest.result =
     rw same_end at c.match_of-then-is_earliest.ensures in
@@ -145,7 +145,7 @@ returns-then-is_earliest g c = λ anchored sound s.
 pub loop-read-2-preserved-else-is_earliest : goal.loop-read-2-preserved-else-is_earliest
 loop-read-2-preserved-else-is_earliest g c =
     let at : After-over_byte-row g = (goal.at.loop-read-2-preserved-else-is_earliest g c).After-over_byte-row in
-    let order = ordered c.self.view_is c.self.invariant.0 in
+    let order = ordered c.self.view_is c.self.invariant.ordered in
     let since : c.loop-read.read ≤ c.loop-read-2.read = c.loop-read-2.invariant.since in
     record {
       within = one_more g at;

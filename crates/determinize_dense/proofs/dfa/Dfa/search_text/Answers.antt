@@ -1,29 +1,22 @@
-use Rattle.determinize_core.proofs.Common.{[], ap, arith, length, subst}
-use Rattle.determinize_core.proofs.Common.{◌<◌, ◌∙◌, ◌≡◌}
-use Rattle.determinize_dense.proofs.Common.{DfaValue, IsDfa, IsRowFrom, IsSearched, IsUnit, start_row}
+use Rattle.determinize_core.proofs.Common.{arith, length, subst}
+use Rattle.determinize_core.proofs.Common.{◌≡◌}
+use Rattle.determinize_dense.proofs.Common.{IsDfa, IsSearched}
 use Rattle.determinize_dense.proofs.Searching.{found-dead, found-first, match-some, ordered, row-start}
 use Rattle.determinize_dense.proofs.Searching.{searched-dead, searched-none, searched-some, searched-start}
-use Rattle.determinize_dense.specs.Private.Rows.{offset_of}
 use Rattle.determinize_dense.proofs.dfa.Dfa.search_text.Given.{Over}
 use Rattle.determinize_dense.proofs.dfa.Dfa.search_text.Goals.{After-start_row-row, else-row-self}
 use Rattle.determinize_dense.proofs.dfa.Dfa.search_text.Goals.{then-row-self+else-is_earliest}
 use Rattle.determinize_dense.proofs.dfa.Dfa.search_text.Goals as goal
 
 sound : (g : Over) (c : After-start_row-row g) → IsDfa c.args.self.now
-sound g c = subst (λ (x : DfaValue). IsDfa x) c.self.view_is c.start_row-row.ensures.sound
+sound g c = c.start_row-row.ensures.sound
 
 pub loop-read-init : goal.loop-read-init
 loop-read-init g c = record {
   within = omega arith;
   searched = searched-start (sound g (goal.at.loop-read-init g c).After-start_row-row)
-      (subst (λ (x : DfaValue). IsRowFrom x c.args.is_anchored c.args.text.now.behind [] c.start_row-row.result)
-      c.self.view_is
-      (row-start (subst (λ p. IsUnit p) c.behind.ensures c.start_row-row.ensures.unit)
-      (c.start_row-row.ensures.value
-      ∙ ap (λ p. offset_of c.self.inside.rows.table
-      (start_row c.self.inside.rows.nfa c.self.inside.rows.table c.args.is_anchored p)) c.behind.ensures)
-      (subst (λ p. start_row c.self.inside.rows.nfa c.self.inside.rows.table c.args.is_anchored p
-      < length c.self.inside.rows.table.patterns) c.behind.ensures c.start_row-row.ensures.limit)));
+      (row-start (rw c.behind.ensures at c.start_row-row.ensures.unit)
+      (rw c.behind.ensures at c.start_row-row.ensures.value) (rw c.behind.ensures at c.start_row-row.ensures.limit));
 }
 
 pub returns-then-row-eq0 : goal.returns-then-row-eq0
@@ -37,7 +30,7 @@ pub returns-then-is_earliest : goal.returns-then-is_earliest
 returns-then-is_earliest g c =
     let start : After-start_row-row g = (goal.at.returns-then-is_earliest g c).After-start_row-row in
     let found = c.match_of-then-is_earliest.ensures in
-    let order = ordered c.self.view_is c.self.invariant.0 in
+    let order = ordered c.self.view_is c.self.invariant.ordered in
     found-first (sound g start) (searched-some (sound g start) c.loop-read.invariant.searched
     c.over_byte-row.ensures.read order c.if-row-eq0.false c.if-row-self.true) found
     (match-some (sound g start) c.loop-read.invariant.searched c.over_byte-row.ensures.read order
@@ -47,7 +40,7 @@ pub loop-read-preserved : goal.loop-read-preserved
 loop-read-preserved g c =
     let start : After-start_row-row g = (goal.at.loop-read-preserved g c).After-start_row-row in
     let room = c.loop-read-test.true in
-    let order = ordered c.self.view_is c.self.invariant.0 in
+    let order = ordered c.self.view_is c.self.invariant.ordered in
     record {
       within = omega (arith, room);
       searched = elim c.if-row-self.branch [

@@ -5,4 +5,4 @@ use Rattle.determinize_dense.proofs.dfa.Dfa.start_state.Goals as goal
 pub returns-clause-dead : goal.returns-clause-dead
 returns-clause-dead g c =
     let limit = c.start_row-offset.ensures.limit in
-    rw c.self.view_is at (dead_zero c.self.inside.rows c.start_row-offset.ensures.sound (omega (arith, limit)))
+    dead_zero c.args.self.now c.start_row-offset.ensures.sound (omega (arith, limit))

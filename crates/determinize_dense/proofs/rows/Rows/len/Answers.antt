@@ -6,4 +6,4 @@ use Rattle.determinize_dense.proofs.rows.Rows.len.Goals as goal
 
 pub returns-clause-rows : goal.returns-clause-rows
 returns-clause-rows g c = subst (λ (x : DfaValue). HasRows x.nfa x.table) c.self.view_is
-    (has_rows _ c.self.invariant.dfa)
+    (has_rows _ c.self.invariant)

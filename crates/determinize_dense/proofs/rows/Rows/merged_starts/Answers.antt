@@ -7,7 +7,7 @@ use Rattle.determinize_engine.specs.declared.state_table.TheConstants.{MAX_STATE
 
 pub loop-number-init : goal.loop-number-init
 loop-number-init g c = record {
-  count = c.self.invariant.dfa.table.starts;
+  count = c.self.invariant.table.starts;
   below = omega arith;
   merged = λ i h. absurd (let no : ⊥ = omega (arith, h) in no);
 }
@@ -16,7 +16,7 @@ pub block-requires : goal.block-requires
 block-requires g c =
     subst (λ n. slice_index c.self.inside.starts c.loop-number.number < n)
     (ap (λ (x : DfaValue). length x.table.patterns) c.self.view_is ∙ sym c.requires.count)
-    (c.self.invariant.dfa.table.first c.loop-number.number c.loop-number-test.true)
+    (c.self.invariant.table.first c.loop-number.number c.loop-number-test.true)
 
 pub overflow_cast-starts : goal.overflow_cast-starts
 overflow_cast-starts g c =
@@ -24,7 +24,7 @@ overflow_cast-starts g c =
     let few : length c.args.parts.now.members ≤ length c.args.parts.now.numbers = few_blocks c.requires.blocks in
     let count : length c.args.parts.now.numbers ≡ length c.args.self.now.table.patterns = c.requires.count in
     let limit : length c.args.self.now.table.patterns ≤ MAX_STATES =
-    subst (λ (x : DfaValue). length x.table.patterns ≤ MAX_STATES) c.self.view_is c.self.invariant.dfa.table.few in
+    subst (λ (x : DfaValue). length x.table.patterns ≤ MAX_STATES) c.self.view_is c.self.invariant.table.few in
     omega (arith, below, few, count, limit)
 
 pub loop-number-preserved : goal.loop-number-preserved

@@ -41,7 +41,7 @@ loop-row-preserved g c = record {
 }
 
 pub returns-clause-filled : goal.returns-clause-filled
-returns-clause-filled g c = subst (λ (x : DfaValue). IsFilled x.table) c.self.view_is c.self.invariant.dfa.table
+returns-clause-filled g c = subst (λ (x : DfaValue). IsFilled x.table) c.self.view_is c.self.invariant.table
 
 pub returns-clause-targets : goal.returns-clause-targets
 returns-clause-targets g c = record {

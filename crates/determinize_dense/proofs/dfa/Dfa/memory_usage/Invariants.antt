@@ -1,7 +1,7 @@
 use Rattle.determinize_core.proofs.Common.{length, min, take, ◌*◌, ◌+◌, ◌≡◌}
 use Rattle.std.below.core.specs.declared.int.usize.TheConstants.{MAX}
 use Rattle.std.specs.Prelude.{sum_by}
-use Rattle.determinize_dense.proofs.rows.Rows.memory_usage.Given as goal
+use Rattle.determinize_dense.proofs.dfa.Dfa.memory_usage.Given as goal
 
 abbrev pub invariant-loop-list : goal.invariant-loop-list
 invariant-loop-list g l = l.bytes ≡ min (length l.fn.self.table.patterns * (l.fn.self.table.class_count + 1) * 4

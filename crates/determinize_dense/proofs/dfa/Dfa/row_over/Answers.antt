@@ -2,9 +2,9 @@ use Rattle.determinize_core.proofs.Common.{ap, arith, length, slice_index, subst
 use Rattle.determinize_dense.proofs.Common.{column_of, DfaValue, row_over}
 use Rattle.determinize_dense.proofs.Tables.{over-stored, rest-index, rest-length}
 use Rattle.determinize_dense.specs.Private.Rows.{offset_of}
-use Rattle.determinize_dense.proofs.rows.Rows.row_over.Given.{Over}
-use Rattle.determinize_dense.proofs.rows.Rows.row_over.Goals.{After-column}
-use Rattle.determinize_dense.proofs.rows.Rows.row_over.Goals as goal
+use Rattle.determinize_dense.proofs.dfa.Dfa.row_over.Given.{Over}
+use Rattle.determinize_dense.proofs.dfa.Dfa.row_over.Goals.{After-column}
+use Rattle.determinize_dense.proofs.dfa.Dfa.row_over.Goals as goal
 
 -- the entry that is read
 entry-is : (g : Over) (c : After-column g) (r : ℕ) → r < length c.args.self.now.table.patterns
@@ -17,7 +17,7 @@ entry-is g c r h e =
     < length c.self.inside.next.items)
     × (slice_index c.self.inside.next.items (r * (x.table.class_count + 1) + column_of x.table c.args.unit)
     ≡ offset_of x.table (row_over x.table r c.args.unit))) c.self.view_is
-    (over-stored _ c.self.inside.next.items c.self.invariant r c.args.unit
+    (over-stored _ c.self.inside.next.items c.self.invariant.stored r c.args.unit
     (subst (λ (x : DfaValue). r < length x.table.patterns) (sym c.self.view_is) h) c.column.ensures.unit) in
     let place : r * (c.args.self.now.table.class_count + 1) + column_of c.args.self.now.table c.args.unit
     ≡ c.args.row + c.column.result =
@@ -40,7 +40,7 @@ pub returns-clause-value : goal.returns-clause-value
 returns-clause-value g c = λ r h e.
     let entry = entry-is g (goal.at.returns-clause-value g c).After-column r h e in (
       subst (λ (x : DfaValue). row_over x.table r c.args.unit < length x.table.patterns) c.self.view_is
-          (c.self.invariant.dfa.table.within r c.args.unit
+          (c.self.invariant.stored.dfa.table.within r c.args.unit
           (subst (λ (x : DfaValue). r < length x.table.patterns) (sym c.self.view_is) h) c.column.ensures.unit),
       rest-index c.deref.result.now c.column.result c.args.row
           ∙ ap (λ xs. slice_index xs (c.column.result + c.args.row)) c.deref.ensures.value

@@ -3,14 +3,14 @@ use Rattle.determinize_core.proofs.Common.{ℕ, ◌*◌, ◌+◌, ◌<◌, ◌�
 use Rattle.determinize_dense.proofs.Common.{DfaValue, patterns_at}
 use Rattle.std.proofs.lemmas.List.{get_or-map}
 use Rattle.std.proofs.lemmas.List.Sums.{sum_by_more}
-use Rattle.determinize_dense.proofs.rows.Rows.memory_usage.Goals as goal
+use Rattle.determinize_dense.proofs.dfa.Dfa.memory_usage.Goals as goal
 
 abbrev list_bytes : List ℕ → ℕ
 list_bytes list = 24 + length list * 4
 
 pub loop-list-init : goal.loop-list-init
 loop-list-init g c =
-    let size = c.self.invariant.count ∙ c.self.invariant.dfa.table.size
+    let size = c.self.invariant.stored.count ∙ c.self.invariant.stored.dfa.table.size
     ∙ ap (λ (x : DfaValue). length x.table.patterns * (x.table.class_count + 1)) c.self.view_is in
     let entries = ap length c.as_slice.ensures.value in
     let bytes = c.size_of_val-bytes.ensures in

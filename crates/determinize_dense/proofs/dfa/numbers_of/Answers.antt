@@ -1,0 +1,16 @@
+use Rattle.determinize_core.proofs.Common.{ap, map, rules, take_all, ◌∙◌}
+use Rattle.std.specs.Prelude.{◌/◌}
+use Rattle.determinize_dense.proofs.Lists.{mapped-push}
+use Rattle.determinize_dense.proofs.dfa.numbers_of.Goals as goal
+
+pub loop-offset-preserved : goal.loop-offset-preserved
+loop-offset-preserved g c = record {
+  rows = mapped-push (λ offset. offset / c.args.columns) c.loop-offset.rows.items c.push.new.self.items
+      c.args.offsets.now c.loop-offset.offset-index 0 c.loop-offset.invariant.rows c.in_ok-push.ensures.items
+      (search rules);
+}
+
+pub returns : goal.returns
+returns g c = c.loop-offset.invariant.rows
+    ∙ ap (λ os. map (λ offset. offset / c.args.columns) os)
+    (take_all c.loop-offset.offset-index c.args.offsets.now (search rules))
