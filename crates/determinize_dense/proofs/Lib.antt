@@ -1,4 +1,4 @@
-mod Along
+pub mod Along
 mod Arranging
 mod Building
 mod Collecting
@@ -20,3 +20,4 @@ mod Simulation
 mod Splitting
 pub mod Stepping
 mod Tables
+mod Writing

@@ -8,7 +8,7 @@ use Rattle.std.proofs.Math.Nat.{div-lt_iff_lt-mul, mod-lt, mul-le-mul_left, mul-
 use Rattle.std.proofs.lemmas.Nat.{div-add-mod', div-mul-add}
 use Rattle.std.proofs.lemmas.Bool.{cases_lt}
 use Rattle.std.proofs.lemmas.List.{get_or-map}
-use Rattle.std.proofs.lemmas.List.Elements.{All-from_get_or}
+use Rattle.std.proofs.lemmas.List.Elements.{All-from_get_or, All-weaker}
 use Rattle.determinize_dense.specs.Private.Minimizing.{entry}
 use Rattle.determinize_dense.specs.Private.Rows.{IsInverse, IsStored, offset_of, rows_at}
 use Rattle.determinize_engine.specs.declared.state_table.TheConstants.{MAX_STATES}
@@ -120,14 +120,15 @@ inverse-is d is =
     }
 
 -- each entry is the number of a row
-pub entries-few : (d : Table) → IsFilled d → All (λ row. row < MAX_STATES) d.next
-entries-few d is = All-from_get_or (λ row. row < MAX_STATES) d.next 0 (λ e h.
+pub entries_within : (d : Table) → IsFilled d → All (λ row. row < length d.patterns) d.next
+entries_within d is = All-from_get_or (λ row. row < length d.patterns) d.next 0 (λ e h.
     let columns : ℕ = d.class_count + 1 in
     let some : 0 < columns = omega arith in
-    let row : e / columns < length d.patterns =
-    (div-lt_iff_lt-mul some).1 (rw is.size at h) in
+    let row : e / columns < length d.patterns = (div-lt_iff_lt-mul some).1 (rw is.size at h) in
     let below : entry d (e / columns) (e % columns) < length d.patterns =
     entry-below d is (e / columns) (e % columns) row (mod-lt e some) in
-    let whole : e / columns * columns + e % columns ≡ e = div-add-mod' e columns in
-    let here : slice_index d.next e < length d.patterns = rw whole at below in
-    let few = is.few in omega (arith, here, few))
+    rw (div-add-mod' e columns) at below)
+
+pub entries_few : (d : Table) → IsFilled d → All (λ row. row < MAX_STATES) d.next
+entries_few d is = All-weaker (λ row. row < length d.patterns) (λ row. row < MAX_STATES)
+    (λ row h. let few = is.few in omega (arith, few, h)) d.next (entries_within d is)

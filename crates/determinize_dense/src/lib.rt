@@ -6,12 +6,14 @@
 //!
 //! - `dfa`: the type, and its table. `build`: its construction, with `error`. `rows`: the rows
 //!   until they are in order. `search`: searches, with `pauses`. `reading`: steps by hand.
-//!   `overlapping`: all patterns at each position. `minimize`: the fewest rows, by `partition`.
-//!   `order`: the order of rows. `laws`: what a DFA lists where a text ends, that no table which
-//!   lists the same along all units has fewer rows, and that the number of states is one.
+//!   `overlapping`: all patterns at each position. `bytes`: a DFA as bytes. `minimize`: the fewest
+//!   rows, by `partition`. `order`: the order of rows. `laws`: what a DFA lists where a text ends,
+//!   that no table which lists the same along all units has fewer rows, and that the number of
+//!   states is one.
 #![tactic(auto)]
 
 mod build;
+pub mod bytes;
 pub mod dfa;
 pub mod error;
 pub mod laws;

@@ -43,6 +43,13 @@ impl RowId {
     /// The row of the dead state, 0: no match follows it.
     pub const DEAD: RowId = RowId(0);
 
+    /// Returns the id of the row with this number.
+    pub fn new(number: usize) -> RowId
+        ensures { result ≡ number }
+    {
+        RowId(number)
+    }
+
     /// Returns the number of the row, for indexing.
     pub fn as_usize(self) -> usize
         ensures { result ≡ self }
@@ -82,6 +89,18 @@ impl fmt::Display for RowId {
 pub struct RowIds {
     next: usize,
     end: usize,
+}
+
+impl RowIds {
+    /// Returns an iterator over this number of rows, from that of the dead state on.
+    pub fn new(count: usize) -> RowIds
+        ensures { result ≡ range_with_len 0 count }
+    {
+        RowIds {
+            next: 0,
+            end: count,
+        }
+    }
 }
 
 impl Model for RowIds {
@@ -232,9 +251,6 @@ impl<'n, N: Allocator, A: Allocator + Copy> Dfa<'n, N, A> {
     pub fn rows(&self) -> RowIds
         ensures { result ≡ range_with_len 0 (length self.now.table.patterns) }
     {
-        RowIds {
-            next: 0,
-            end: self.len(),
-        }
+        RowIds::new(self.len())
     }
 }

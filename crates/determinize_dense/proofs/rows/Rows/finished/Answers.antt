@@ -1,6 +1,6 @@
 use Rattle.determinize_core.proofs.Common.{ap, arith, length, map, subst, sym, ◌*◌, ◌+◌, ◌∙◌, ◌≡◌}
 use Rattle.determinize_dense.proofs.Common.{DfaValue}
-use Rattle.determinize_dense.proofs.Offsets.{entries-few, inverse-is, rows_at-offsets, stored-offsets}
+use Rattle.determinize_dense.proofs.Offsets.{entries_few, inverse-is, rows_at-offsets, stored-offsets}
 use Rattle.determinize_dense.specs.Private.Order.{IsOrdered}
 use Rattle.determinize_dense.specs.Private.Rows.{dfa_value, offset_of, rows_at}
 use Rattle.determinize_dense.proofs.rows.Rows.finished.Given.{Over}
@@ -8,7 +8,7 @@ use Rattle.determinize_dense.proofs.rows.Rows.finished.Goals.{In_ok-next}
 use Rattle.determinize_dense.proofs.rows.Rows.finished.Goals as goal
 
 pub offsets_of-requires-clause-rows : goal.offsets_of-requires-clause-rows
-offsets_of-requires-clause-rows g c = rw c.as_slice.ensures.value (entries-few _ c.self.invariant.table)
+offsets_of-requires-clause-rows g c = rw c.as_slice.ensures.value (entries_few _ c.self.invariant.table)
 
 offsets-are : (g : Over) (c : In_ok-next g)
     → c.in_ok-next.next.items ≡ map (λ row. row * (length c.self.inside.classes.firsts + 1)) c.self.inside.next.items

@@ -1,0 +1,23 @@
+use Rattle.determinize_core.proofs.Common.{subst, take_all, ◌∙◌, ◌≤◌}
+use Rattle.std.specs.Prelude.{All}
+use Rattle.std.proofs.lemmas.Grind.{get_or_default_zero}
+use Rattle.std.proofs.lemmas.List.Elements.{All-more}
+use Rattle.determinize_below.specs.declared.primitives.TheConstants.{MAX_ID}
+use Rattle.determinize_dense.proofs.Writing.{write_more}
+use Rattle.determinize_dense.proofs.bytes.push_list.Goals as goal
+
+pub loop-pattern-preserved : goal.loop-pattern-preserved
+loop-pattern-preserved g c =
+    let test = c.loop-pattern-test.true in
+    record {
+      rest = rw c.in_ok-push_word.ensures (write_more c.loop-pattern.bytes.items _ c.args.list.now
+          c.loop-pattern.pattern-index c.as_u32.result test (c.as_u32.ensures.value ∙ c.pattern-item.is
+          ∙ get_or_default_zero c.args.list.now c.loop-pattern.pattern-index c.pattern-item.result test)
+          c.loop-pattern.invariant.rest);
+      ids = All-more (λ id. id ≤ MAX_ID) c.args.list.now c.loop-pattern.pattern-index c.pattern-item.result test
+          c.loop-pattern.invariant.ids (subst (λ id. id ≤ MAX_ID) c.pattern-item.is c.as_u32.ensures.small);
+    }
+
+pub returns-clause-ids : goal.returns-clause-ids
+returns-clause-ids g c = subst (λ l. All (λ id. id ≤ MAX_ID) l)
+    (take_all c.loop-pattern.pattern-index c.args.list.now c.loop-pattern-test.false) c.loop-pattern.invariant.ids
