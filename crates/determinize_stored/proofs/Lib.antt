@@ -1,0 +1,6 @@
+mod Files
+mod Heads
+mod Lists
+mod Numbers
+mod Paths
+mod Spelled

@@ -1,0 +1,2 @@
+pub mod Private
+pub mod Reading

@@ -1,0 +1,224 @@
+//! The type of a stored DFA, and how its rows are read.
+//!
+//! Rows are read as those of a `Dfa` are, and every call takes any id: one that is no row lists no
+//! patterns, and row 0 follows it.
+
+ghost use Rattle.std.specs.Prelude.{All, Decides, ◌≡◌, ◌≤◌, IfOk, IsOkAnd, Some, None, length, slice_get, true};
+ghost use Rattle.std.specs.List.{range_with_len};
+ghost use Rattle.determinize_state.specs.Value.{is_nonempty};
+ghost use Rattle.determinize_start.specs.StartKinds.{byte_before};
+ghost use Rattle.determinize_engine.specs.Searches.{has_start};
+ghost use Rattle.determinize_dense.specs.Bytes.{IsWhole, Stored, file_of};
+ghost use Rattle.determinize_dense.specs.Dfa.{is_anchored};
+ghost use Rattle.determinize_dense.specs.Reading.{IsDead};
+ghost use Rattle.determinize_dense.specs.Table.{column_of, patterns_at, row_over};
+ghost use Rattle.determinize_below.specs.declared.primitives.TheConstants.{MAX_ID};
+ghost use Rattle.determinize_stored.specs.Reading.{IsStop, first_row};
+
+use crate::error::{FormatError, FormatErrorKind};
+use crate::format::{Head, Parts};
+use crate::words::Words;
+use determinize_below::{Anchored, Input, MatchKind, PatternID};
+use determinize_core::start::{Config, Start, start_kind_of};
+use determinize_dense::{RowId, RowIds};
+use std::fmt;
+use std::marker::Model;
+
+/// A whole DFA in bytes, which it borrows.
+#[derive(Drop)]
+pub struct StoredDfa<'b> {
+    pub(crate) head: Head,
+    parts: Parts<'b>,
+    /// Whether row 0 lists nothing and follows itself over all units.
+    has_dead_row: bool,
+}
+
+impl<'b> Model for StoredDfa<'b> {
+    ghost use Rattle.determinize_dense.specs.Bytes.{Stored};
+    ghost use Rattle.determinize_stored.specs.Private.Parts.{AreParts, stored_in};
+
+    ghost Value = { Stored };
+
+    ghost view = { λ d. stored_in d.head d.parts };
+
+    ghost invariant = { λ d. AreParts d.head d.parts d.has_dead_row };
+}
+
+impl<'b> StoredDfa<'b> {
+    /// Returns the DFA that bytes are. Reads all of them once, and allocates nothing.
+    ///
+    /// Any bytes may be passed. An error says what is wrong with them, and where: the first number
+    /// that is wrong, but that the bytes are too long is said after all else.
+    pub fn from_bytes(bytes: &'b [u8]) -> Result<StoredDfa<'b>, FormatError>
+        ensures file { IfOk result (λ dfa. bytes.now ≡ file_of dfa) }
+        ensures whole { IfOk result (λ dfa. IsWhole dfa) }
+        ensures read { (s : Stored) → IsWhole s → bytes.now ≡ file_of s
+            → IsOkAnd result (λ dfa. dfa ≡ s) }
+    {
+        let words = Words::new(bytes);
+        let head = Head::read(&words)?;
+        let parts = Parts::split(&head, &words)?;
+        parts.check(&head)?;
+        if bytes.len() % 4 != 0 {
+            return Err(FormatError::at(FormatErrorKind::Length, words.len()));
+        }
+        Ok(StoredDfa {
+            has_dead_row: parts.has_dead_row(&head),
+            head,
+            parts,
+        })
+    }
+
+    /// Returns the match kind.
+    pub fn match_kind(&self) -> MatchKind
+        ensures { result ≡ self.now.kind }
+    {
+        self.head.match_kind
+    }
+
+    /// Returns the number of states.
+    pub fn len(&self) -> usize
+        ensures value { result ≡ length self.now.table.patterns }
+        ensures whole { IsWhole self.now }
+    {
+        self.head.rows
+    }
+
+    /// Returns the row of a start behind a byte, or behind nothing.
+    pub(crate) fn first_row(&self, is_anchored: bool, look_behind: Option<u8>) -> RowId
+        ensures { result ≡ first_row self.now is_anchored look_behind }
+    {
+        let kind = start_kind_of(self.head.line_terminator, look_behind).as_usize();
+        let first = if is_anchored { 0 } else { Start::len() };
+        RowId::new(self.parts.starts.get(first + kind) as usize)
+    }
+
+    /// Returns the row of the start state of a configuration: its anchored mode, and the byte
+    /// behind the start. `Anchored::Pattern` has no start state and is not accepted.
+    pub fn start_state(&self, config: &Config) -> RowId
+        requires { has_start config.now.anchored ≡ true }
+        ensures { result ≡ first_row self.now (is_anchored config.now.anchored)
+            config.now.look_behind }
+    {
+        let is_anchored = !matches!(config.get_anchored(), Anchored::No);
+        self.first_row(is_anchored, config.get_look_behind())
+    }
+
+    /// Returns the row of the start state of a search of an input that reads forward.
+    /// `Anchored::Pattern` has no start state and is not accepted.
+    pub fn start_state_forward(&self, input: &Input<'_>) -> RowId
+        requires { has_start input.now.anchored ≡ true }
+        ensures { result ≡ first_row self.now (is_anchored input.now.anchored)
+            (byte_before input.now.haystack input.now.start) }
+    {
+        self.start_state(&Config::from_input_forward(input))
+    }
+
+    /// Returns the column of a unit.
+    #[inline(always)]
+    fn column(&self, unit: Option<u8>) -> usize
+        ensures value { result ≡ column_of self.now.table unit }
+        ensures limit { result ≤ self.now.table.class_count }
+    {
+        match unit {
+            Some(byte) => self.parts.classes.get(usize::from(byte)) as usize,
+            None => self.head.class_count,
+        }
+    }
+
+    /// Returns the row after a row over a byte or, for `None`, over the end of input (EOI).
+    #[inline(always)]
+    pub(crate) fn next_row(&self, row: RowId, unit: Option<u8>) -> RowId
+        ensures { result ≡ row_over self.now.table row unit }
+    {
+        let row = row.as_usize();
+        if row >= self.head.rows {
+            return RowId::DEAD;
+        }
+        let entry = row * (self.head.class_count + 1) + self.column(unit);
+        RowId::new(self.parts.next.get(entry) as usize)
+    }
+
+    /// Returns the row after a row over a byte.
+    #[inline(always)]
+    pub fn next_state(&self, row: RowId, byte: u8) -> RowId
+        ensures { result ≡ row_over self.now.table row (Some byte) }
+    {
+        self.next_row(row, Some(byte))
+    }
+
+    /// Returns the row after a row over the end of input (EOI).
+    #[inline(always)]
+    pub fn next_eoi_state(&self, row: RowId) -> RowId
+        ensures { result ≡ row_over self.now.table row None }
+    {
+        self.next_row(row, None)
+    }
+
+    /// Returns the patterns that a row lists.
+    #[inline(always)]
+    fn list(&self, row: RowId) -> Words<'b>
+        ensures value { result ≡ patterns_at self.now.table row }
+        ensures ids { All (λ id. id ≤ MAX_ID) result }
+    {
+        let row = row.as_usize();
+        if row < self.head.rows {
+            self.parts.list(row)
+        } else {
+            self.parts.patterns.range(0, 0)
+        }
+    }
+
+    /// Returns the number of patterns that a row lists.
+    pub fn match_len(&self, row: RowId) -> usize
+        ensures { result ≡ length (patterns_at self.now.table row) }
+    {
+        self.list(row).len()
+    }
+
+    /// Returns the pattern at an index of the list of a row, or `None` if the list ends before.
+    #[inline(always)]
+    pub fn match_pattern(&self, row: RowId, index: usize) -> Option<PatternID>
+        ensures { result ≡ slice_get (patterns_at self.now.table row) index }
+    {
+        let list = self.list(row);
+        if index >= list.len() {
+            return None;
+        }
+        Some(PatternID::must(list.get(index) as usize))
+    }
+
+    /// Returns whether a row lists a pattern.
+    #[inline(always)]
+    pub fn is_match_state(&self, row: RowId) -> bool
+        ensures { result ≡ is_nonempty (patterns_at self.now.table row) }
+    {
+        self.match_len(row) > 0
+    }
+
+    /// Returns whether a row is row 0 and no match follows it: it lists no pattern, and row 0
+    /// follows it over each unit. So it is in what a `Dfa` wrote.
+    #[inline(always)]
+    pub fn is_dead_state(&self, row: RowId) -> bool
+        ensures value { Decides result ((row ≡ 0) × IsStop self.now.table) }
+        ensures dead { result ≡ true → IsDead self.now.table row }
+    {
+        self.has_dead_row && row == RowId::DEAD
+    }
+
+    /// Returns an iterator over all rows, from row 0 on.
+    pub fn rows(&self) -> RowIds
+        ensures { result ≡ range_with_len 0 (length self.now.table.patterns) }
+    {
+        RowIds::new(self.len())
+    }
+}
+
+impl<'b> fmt::Debug for StoredDfa<'b> {
+    fn fmt<W: fmt::Write>(&self, f: &mut fmt::Formatter<W>) -> fmt::Result {
+        f.debug_struct("StoredDfa")
+            .field("match_kind", &self.match_kind())
+            .field("len", &self.len())
+            .finish_non_exhaustive()
+    }
+}
