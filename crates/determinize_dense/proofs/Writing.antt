@@ -1,5 +1,5 @@
 -- Numbers that are written one after the other.
--- Main statements: write_more, write_all, end_more, list_more, whole_of.
+-- Main statements: write_more, end_more, list_more, whole_of.
 -- Used by: `bytes`.
 -- Idea: what is written, and then the numbers that are left, are all numbers.
 use Rattle.determinize_core.proofs.Common.{[], ap, arith, get_or, length, List, slice_index, subst, suc, sym, ℕ}
@@ -11,7 +11,7 @@ use Rattle.std.proofs.Common.{append_assoc, drop-cons}
 use Rattle.std.proofs.Common.{inl, inr}
 use Rattle.std.proofs.Math.Nat.{mod-lt, mul-le-mul_right}
 use Rattle.std.proofs.lemmas.Bool.{cases_lt}
-use Rattle.std.proofs.lemmas.List.{append-nil, drop_all, length-append, take_more}
+use Rattle.std.proofs.lemmas.List.{append-nil, length-append, take_more}
 use Rattle.std.proofs.lemmas.List.Concat.{flat_map-append}
 use Rattle.std.proofs.lemmas.List.Elements.{All-append, All-from_get_or}
 use Rattle.std.proofs.lemmas.List.Folds.{concat-append}
@@ -35,12 +35,6 @@ write_more before total xs i x h at so_far =
     append_assoc before (to_le_bytes w32 x) (bytes_of_words (drop (i + 1) xs))
     ∙ ap (λ n. before ++ bytes_of_words (n ∷ drop (i + 1) xs)) at
     ∙ ap (λ l. before ++ bytes_of_words l) (sym (drop_next xs i 0 h)) ∙ so_far
-
--- where none is left
-pub write_all : (before total xs : List ℕ) (i : ℕ) → length xs ≤ i → before ++ bytes_of_words (drop i xs) ≡ total
-    → before ≡ total
-write_all before total xs i past so_far =
-    sym (append-nil before) ∙ ap (λ l. before ++ bytes_of_words l) (sym (drop_all i xs past)) ∙ so_far
 
 -- where one list more ends
 pub end_more : (before total : List ℕ) (ps : List (List ℕ)) (i start end : ℕ) → i < length ps

@@ -1,5 +1,5 @@
 -- A file that is read is that of what was read, and that of what was stored is read as it.
--- Main statements: whole_in, file_in, same_in, range_in, read_words, file_bytes, not_listed, listed.
+-- Main statements: whole_in, file_in, same_in, range_in, read_words, file_bytes, not_listed.
 -- Used by: `format` and `stored`.
 -- Idea: the head says how long each part is, so the numbers determine the parts.
 use Rattle.determinize_core.proofs.Common.{[], ap, arith, Bool, cond, false, length, List, refl, subst, sym, true}
@@ -27,7 +27,6 @@ use Rattle.std.proofs.Math.Nat.{mul-le-mul_right}
 use Rattle.determinize_dense.specs.Table.{patterns_at}
 use Rattle.determinize_core.proofs.Common.{slice_index}
 use Rattle.std.proofs.lemmas.List.{get_or_past}
-use Rattle.std.specs.List.{slice_range}
 use Rattle.determinize_stored.specs.Private.Parts.{AreEnds, HasHead, HasSizes, head_words, IsInRange, lists_from}
 use Rattle.determinize_stored.specs.Private.Parts.{parts_words, stored_in}
 use Rattle.determinize_stored.specs.declared.format.Head.{Head}
@@ -219,13 +218,6 @@ not_listed h p sizes range some stop =
     let count = slice-length p.patterns 0 (slice_index p.ends 0) below in
     let none = ap (λ l. length l) (sym first ∙ stop.lists) in
     some (omega (arith, count, none))
-
-pub listed : (h : Head) (p : Parts) → HasSizes h p → IsInRange h p → slice_index p.ends 0 ≡ 0
-    → patterns_at (stored_in h p).table 0 ≡ []
-listed h p sizes range none =
-    let rows = some_row h p sizes range in
-    let ends = sizes.ends in
-    list-first 0 p.ends p.patterns (omega (arith, rows, ends)) ∙ ap (λ n. slice_range p.patterns 0 n) none
 
 pub patterns-past : (h : Head) (p : Parts) → HasSizes h p → (row : ℕ) → h.rows ≤ row
     → patterns_at (stored_in h p).table row ≡ []

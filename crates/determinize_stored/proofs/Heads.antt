@@ -1,10 +1,9 @@
 -- The numbers at the beginning of a file.
--- Main statements: begins, same_kind, same_flag, head_at, heads_same.
+-- Main statements: same_kind, same_flag, head_at, heads_same.
 -- Used by: `format`, and the lemmas on whole files.
 -- Idea: the first seven numbers are those of the head, and each says one fact.
-use Rattle.determinize_core.proofs.Common.{[], ap, arith, Bool, cond, false, length, length-append, List, refl, slice_index, sym, true}
-use Rattle.determinize_core.proofs.Common.{ℕ, ◌*◌, ◌++◌, ◌+◌, ◌∙◌, ◌∷◌, ◌≡◌, ◌≤◌}
-use Rattle.std.specs.Prelude.{drop}
+use Rattle.determinize_core.proofs.Common.{ap, arith, Bool, cond, false, length, length-append, List, refl, slice_index, sym, true}
+use Rattle.determinize_core.proofs.Common.{ℕ, ◌*◌, ◌++◌, ◌+◌, ◌∙◌, ◌≡◌, ◌≤◌}
 use Rattle.determinize_below.specs.declared.search.MatchKind.{MatchKind}
 use Rattle.determinize_below.specs.declared.search.MatchKind.TheVariants as kinds
 use Rattle.determinize_dense.specs.Bytes.{ends_from, IsWhole, kind_number, Stored, words_of}
@@ -13,19 +12,6 @@ use Rattle.determinize_dense.specs.declared.bytes.TheConstants.{MAGIC, VERSION}
 use Rattle.determinize_stored.proofs.Lists.{ends_from-length}
 use Rattle.determinize_stored.specs.Private.Parts.{HasHead}
 use Rattle.determinize_stored.specs.declared.format.Head.{Head}
-
--- seven numbers, and the others
-pub begins : (ws : List ℕ) → 7 ≤ length ws
-    → ws ≡ slice_index ws 0 ∷ slice_index ws 1 ∷ slice_index ws 2 ∷ slice_index ws 3 ∷ slice_index ws 4
-    ∷ slice_index ws 5 ∷ slice_index ws 6 ∷ drop 7 ws
-begins [] h = absurd (let no : ⊥ = omega (arith, h) in no)
-begins (a ∷ []) h = absurd (let no : ⊥ = omega (arith, h) in no)
-begins (a ∷ b ∷ []) h = absurd (let no : ⊥ = omega (arith, h) in no)
-begins (a ∷ b ∷ c ∷ []) h = absurd (let no : ⊥ = omega (arith, h) in no)
-begins (a ∷ b ∷ c ∷ d ∷ []) h = absurd (let no : ⊥ = omega (arith, h) in no)
-begins (a ∷ b ∷ c ∷ d ∷ e ∷ []) h = absurd (let no : ⊥ = omega (arith, h) in no)
-begins (a ∷ b ∷ c ∷ d ∷ e ∷ f ∷ []) h = absurd (let no : ⊥ = omega (arith, h) in no)
-begins (a ∷ b ∷ c ∷ d ∷ e ∷ f ∷ g ∷ ws) h = refl
 
 pub same_kind : (k l : MatchKind) → kind_number k ≡ kind_number l → k ≡ l
 same_kind kinds.All kinds.All e = refl

@@ -1,5 +1,5 @@
 -- What follows a row, and the last match along units.
--- Main statements: row_over-past, column-below, entry-below, entry-room, dead_stop, dead_if, none_along, stepped-some,
+-- Main statements: column-below, dead_stop, dead_if, none_along, stepped-some,
 -- stepped-none, goes_on, last_more, last_done, last_dead, match_of_lists, finds.
 -- Used by: `stored`, `search` and `laws`.
 -- Idea: the rows that are left say what is found after what was found so far.
@@ -7,9 +7,8 @@ use Rattle.determinize_core.proofs.Common.{[], ap, arith, false, HalfMatch, leng
 use Rattle.determinize_core.proofs.Common.{slice_get, slice_index, Some, subst, suc, sym, true, units, Value, zero}
 use Rattle.determinize_core.proofs.Common.{ℕ, ◌*◌, ◌+◌, ◌<◌, ◌∙◌, ◌∷◌, ◌≡◌, ◌≤◌}
 use Rattle.std.specs.Option.{option_map, option_or}
-use Rattle.std.specs.Prelude.{All, cond, Decides, drop, take, ◌^◌}
-use Rattle.std.proofs.Math.Nat.{mul-le-mul_left, mul-le-mul_right}
-use Rattle.std.proofs.lemmas.List.{drop_all, drop_more, get_or_past}
+use Rattle.std.specs.Prelude.{All, cond, Decides, drop, take}
+use Rattle.std.proofs.lemmas.List.{drop_all, drop_more}
 use Rattle.std.proofs.lemmas.Option.{get_or_from_slice_get, slice_get_within}
 use Rattle.std.proofs.lemmas.List.Elements.{All-drop, All-head, All-tail, All-take}
 use Rattle.determinize_below.specs.Nfa.{IsAccepted}
@@ -34,16 +33,6 @@ use Rattle.determinize_dense.specs.Reading.{IsDead, lists_along}
 use Rattle.determinize_dense.specs.Table.{column_of, patterns_at, row_after, row_over, Table}
 use Rattle.determinize_stored.specs.Reading.{first_row, IsStop, IsStoredOf, last_along, last_found}
 
--- no row has a number past the last
-pub row_over-past : (s : Stored) → IsWhole s → (r : ℕ) (u : Option ℕ) → length s.table.patterns ≤ r
-    → row_over s.table r u ≡ 0
-row_over-past s whole r u past =
-    let d = s.table in
-    let more : length d.patterns * (d.class_count + 1) ≤ r * (d.class_count + 1) =
-    mul-le-mul_right (d.class_count + 1) past in
-    let size = whole.entries in
-    get_or_past d.next (r * (d.class_count + 1) + column_of d u) 0 (omega (arith, more, size))
-
 -- a column is one of a row
 pub column-below : (s : Stored) → IsWhole s → (u : Option ℕ) → IsUnit u → column_of s.table u < s.table.class_count + 1
 column-below s whole None h = omega arith
@@ -52,20 +41,6 @@ column-below s whole (Some byte) h =
     let within : slice_index s.table.classes byte < s.table.class_count =
     whole.class_within byte 0 (omega (arith, bytes, h)) in
     omega (arith, within)
-
--- an entry of a row is one of the entries
-pub entry-below : (rows columns r k : ℕ) → r < rows → k < columns → r * columns + k < rows * columns
-entry-below rows columns r k h l =
-    let more : (r + 1) * columns ≤ rows * columns =
-    mul-le-mul_right columns (let e : r + 1 ≤ rows = omega (arith, h) in e) in
-    let split : (r + 1) * columns ≡ r * columns + columns = omega arith in
-    omega (arith, more, split, l)
-
--- and its index fits
-pub entry-room : (r k c : ℕ) → r < 2 ^ 32 → k ≤ 256 → c ≤ 256 → r * (k + 1) + c < 2 ^ 63
-entry-room r k c h l m =
-    let most : r * (k + 1) ≤ r * 257 = mul-le-mul_left r (let e : k + 1 ≤ 257 = omega (arith, l) in e) in
-    omega (arith, most, h, m)
 
 stays_at : (n : ℕ) (xs : List ℕ) → All (λ r. r ≡ 0) (take n xs) → (k : ℕ) → k < n → slice_index xs k ≡ 0
 stays_at zero xs stays k h = absurd (let no : ⊥ = omega (arith, h) in no)
