@@ -3,7 +3,7 @@ use Rattle.determinize_core.proofs.Common.{List, ap, arith, inl, inr, is_nonempt
 use Rattle.determinize_core.proofs.Common.{ℕ, ◌+◌, ◌<◌, ◌∙◌, ◌≡◌, ◌≤◌}
 use Rattle.determinize_dense.proofs.Common.{DfaValue, patterns_at}
 use Rattle.std.proofs.Math.Nat.{mul-le-mul_right}
-use Rattle.determinize_dense.proofs.Offsets.{less-offset, offset-order}
+use Rattle.determinize_dense.proofs.Offsets.{less-by-offset, upto-by-offset}
 use Rattle.std.proofs.lemmas.Bool.{cases_lt}
 use Rattle.determinize_dense.specs.Least.{IsLeast}
 use Rattle.determinize_dense.specs.Private.Minimizing.{entry, IsGrouping, IsMerged}
@@ -28,9 +28,6 @@ module _ (v : DfaValue) {ranks : List ℕ} {p : Blocks} (are : AreRanks v.table 
   }
 
   module _ {w : DfaValue} (m : IsMerged v p w) where
-    pub arranged-count : length w.table.patterns ≡ length v.table.patterns
-    arranged-count = m.count ∙ is.rows ∙ are.count
-
     block-below : (b : ℕ) → b < length w.table.patterns → b < length p.members
     block-below b h = subst (λ n. b < n) m.count h
 
@@ -72,13 +69,13 @@ module _ (v : DfaValue) {ranks : List ℕ} {p : Blocks} (are : AreRanks v.table 
           let r : slice_index p.members b < length v.table.patterns = member-below b i in
           ap is_nonempty (m.patterns b i)
           ∙ (are.each (slice_index p.members b) (inside (slice_index p.members b) r)).some (later b some i)
-          (lists.upto b (offset-order w.table l));
+          (lists.upto b (upto-by-offset w.table l));
       none = λ b h l.
           let i : b < length p.members = block-below b h in
           let r : slice_index p.members b < length v.table.patterns = member-below b i in
           m.patterns b i
           ∙ (are.each (slice_index p.members b) (inside (slice_index p.members b) r)).none
-          (lists.past b (less-offset w.table l) i);
+          (lists.past b (less-by-offset w.table l) i);
       more = mul-le-mul_right (w.table.class_count + 1) (elim (cases_lt second first) [
         | inl k ↦
             let a : rank first ≤ 1 = lists.upto first (omega arith) in

@@ -1,6 +1,9 @@
 -- Offsets of rows.
-use Rattle.determinize_core.proofs.Common.{[], ap, arith, inl, inr, length, length-map, List, map, refl, slice_index, sym, ℕ, ◌*◌}
-use Rattle.determinize_core.proofs.Common.{◌+◌, ◌-◌, ◌<◌, ◌∙◌, ◌∷◌, ◌≡◌, ◌≤◌}
+-- Main statements: rows_at-offsets, same-offset, upto-by-offset, less-by-offset, stored-offsets, inverse-is.
+-- Used by: the entries of a `Dfa`, `order` and `bytes`.
+-- Idea: an offset is a number times the columns, so it is divided by them, and ordered as the numbers are.
+use Rattle.determinize_core.proofs.Common.{[], ap, arith, inl, inr, length, length-map, List, map, refl, slice_index}
+use Rattle.determinize_core.proofs.Common.{suc, sym, zero, ℕ, ◌*◌, ◌+◌, ◌-◌, ◌<◌, ◌∙◌, ◌∷◌, ◌≡◌, ◌≤◌}
 use Rattle.determinize_dense.proofs.Common.{All, DfaValue, IsDfa, IsFilled, Table}
 use Rattle.determinize_dense.proofs.Refining.{entry-below}
 use Rattle.std.specs.Prelude.{◌/◌, ◌%◌, ◌^◌}
@@ -47,6 +50,13 @@ module _ (r columns : ℕ) (some : 0 < columns) (few : r * columns < 4294967296)
       let least : r * 1 ≤ r * columns = mul-le-mul_left r (omega (arith, some)) in
       omega (arith, h, few, same, least)
 
+-- the row at an offset
+pub rows_at-index : (columns : ℕ) (offsets : List ℕ) (i : ℕ) → i < length offsets
+    → slice_index (rows_at columns offsets) i ≡ slice_index offsets i / columns
+rows_at-index columns [] i h = absurd (let no : ⊥ = omega (arith, h) in no)
+rows_at-index columns (x ∷ xs) zero h = refl
+rows_at-index columns (x ∷ xs) (suc i) h = rows_at-index columns xs i (omega (arith, h))
+
 -- the rows at the offsets of rows
 pub rows_at-offsets : (columns : ℕ) → 0 < columns → (rows : List ℕ)
     → rows_at columns (map (λ row. row * columns) rows) ≡ rows
@@ -59,7 +69,7 @@ module _ (d : Table) where
   some : 0 < d.class_count + 1
   some = omega arith
 
-  pub row-divided : (r : ℕ) → offset_of d r / (d.class_count + 1) ≡ r
+  row-divided : (r : ℕ) → offset_of d r / (d.class_count + 1) ≡ r
   row-divided r = divided r (d.class_count + 1) some
 
   -- rows with one offset are one
@@ -70,7 +80,7 @@ module _ (d : Table) where
   offset-zero {r} e = same-offset {r = r} {s = 0} (e ∙ (let z : 0 ≡ 0 * (d.class_count + 1) = omega arith in z))
 
   -- a later row has a greater offset
-  pub offset-less : {r s : ℕ} → r < s → offset_of d r < offset_of d s
+  offset-less : {r s : ℕ} → r < s → offset_of d r < offset_of d s
   offset-less {r} {s} h =
       let columns : ℕ = d.class_count + 1 in
       let next : r + 1 ≤ s = omega (arith, h) in
@@ -78,15 +88,16 @@ module _ (d : Table) where
       let split : (r + 1) * columns ≡ r * columns + columns = omega arith in
       let room : 0 < columns = some in omega (arith, more, split, room)
 
-  -- and the other way round
-  pub offset-order : {r s : ℕ} → offset_of d r ≤ offset_of d s → r ≤ s
-  offset-order {r} {s} h = elim (cases_lt s r) [
+  -- a row up to an offset is not a later one
+  pub upto-by-offset : {r s : ℕ} → offset_of d r ≤ offset_of d s → r ≤ s
+  upto-by-offset {r} {s} h = elim (cases_lt s r) [
     | inl k ↦ absurd (let less = offset-less k in let no : ⊥ = omega (arith, h, less) in no)
     | inr k ↦ k
   ]
 
-  pub less-offset : {r s : ℕ} → offset_of d r < offset_of d s → r < s
-  less-offset {r} {s} h = elim (cases_lt r s) [
+  -- a row with a smaller offset is an earlier one
+  pub less-by-offset : {r s : ℕ} → offset_of d r < offset_of d s → r < s
+  less-by-offset {r} {s} h = elim (cases_lt r s) [
     | inl k ↦ k
     | inr k ↦
         let upto : offset_of d s ≤ offset_of d r = mul-le-mul_right (d.class_count + 1) k in

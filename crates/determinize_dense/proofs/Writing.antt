@@ -3,21 +3,17 @@
 -- Used by: `bytes`.
 -- Idea: what is written, and then the numbers that are left, are all numbers.
 use Rattle.determinize_core.proofs.Common.{[], ap, arith, get_or, length, List, slice_index, subst, suc, sym, ℕ}
-use Rattle.determinize_core.proofs.Common.{◌*◌, ◌++◌, ◌+◌, ◌<◌, ◌∙◌, ◌∷◌, ◌≡◌, ◌≤◌}
-use Rattle.std.specs.Prelude.{All, drop, take, ◌/◌, ◌%◌, ◌^◌}
+use Rattle.determinize_core.proofs.Common.{◌++◌, ◌+◌, ◌<◌, ◌∙◌, ◌∷◌, ◌≡◌, ◌≤◌}
+use Rattle.std.specs.Prelude.{All, drop, take, ◌^◌}
 use Rattle.std.specs.Int.{to_le_bytes, w32}
 use Rattle.std.specs.List.{concat}
 use Rattle.std.proofs.Common.{append_assoc, drop-cons}
-use Rattle.std.proofs.Common.{inl, inr}
-use Rattle.std.proofs.Math.Nat.{mod-lt, mul-le-mul_right}
-use Rattle.std.proofs.lemmas.Bool.{cases_lt}
 use Rattle.std.proofs.lemmas.List.{append-nil, length-append, take_more}
 use Rattle.std.proofs.lemmas.List.Concat.{flat_map-append}
 use Rattle.std.proofs.lemmas.List.Elements.{All-append, All-from_get_or}
 use Rattle.std.proofs.lemmas.List.Folds.{concat-append}
-use Rattle.std.proofs.lemmas.Nat.{div-add-mod'}
 use Rattle.determinize_below.specs.declared.primitives.TheConstants.{MAX_ID}
-use Rattle.determinize_dense.proofs.Common.{AreClasses, Classes, DfaValue, IsDfa, IsFilled, Table}
+use Rattle.determinize_dense.proofs.Common.{AreClasses, Classes, DfaValue, IsDfa}
 use Rattle.determinize_dense.proofs.Offsets.{entries_within}
 use Rattle.determinize_dense.specs.Bytes.{bytes_of_words, ends_from, IsWhole, stored_of}
 

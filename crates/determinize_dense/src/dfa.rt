@@ -47,7 +47,7 @@ pub struct Dfa<'n, N: Allocator = Global, A: Allocator = Global> {
     pub(crate) patterns: Vec<Vec<PatternID, A>, A>,
     /// The offset of the last row that lists patterns, or 0.
     pub(crate) last_match: usize,
-    /// The offset of the last row that is scanned out of, or that of `last_match`.
+    /// The offset of the last row that is scanned out of, or `last_match`.
     pub(crate) last_special: usize,
     /// `SCALE` divided by the length of a row, rounded down, plus 1. Its product with the offset of
     /// row `r` is at least `r` times `SCALE`, and less than `r + 1` times. So a search needs no
@@ -73,7 +73,9 @@ impl<'n, N: Allocator, A: Allocator> Model for Dfa<'n, N, A> {
         d.next.items d.last_match d.last_special d.inverse };
 }
 
-/// Returns the rows at offsets.
+/// Returns the numbers of the rows at offsets.
+///
+/// - `columns` is the length of a row.
 fn numbers_of<A: Allocator + Copy>(
     alloc: A,
     offsets: &[u32],
@@ -129,7 +131,8 @@ impl<'n, N: Allocator, A: Allocator + Copy> Dfa<'n, N, A> {
     /// States are merged if they list the same patterns along all units. A text has no unit behind
     /// EOI, so a table that agrees with this DFA after each text may have fewer states. A few
     /// passes over the table suffice mostly; for a chain of states the time is quadratic in their
-    /// number, and it is never more.
+    /// number, and it is never more. The lists of patterns are allocated by the allocator of this
+    /// DFA, all else by `alloc`.
     pub fn minimize(&self, alloc: A) -> Result<Dfa<'n, N, A>, AllocError>
         ensures nfa { IfOk result (λ dfa. dfa.nfa ≡ self.now.nfa) }
         ensures kind { IfOk result (λ dfa. dfa.kind ≡ self.now.kind) }
@@ -138,11 +141,15 @@ impl<'n, N: Allocator, A: Allocator + Copy> Dfa<'n, N, A> {
         ensures fewer { IfOk result
             (λ dfa. length dfa.table.patterns ≤ length self.now.table.patterns) }
     {
-        self.rows_of(alloc)?.minimized(alloc)?.arranged(alloc)
+        let rows = self.to_rows(alloc)?;
+        let fewest = rows.minimized(alloc)?;
+        // The copy of the rows is not kept while the fewest are copied in order.
+        drop(rows);
+        fewest.arranged(alloc)
     }
 
-    /// Returns the rows, with numbers for offsets.
-    fn rows_of(&self, alloc: A) -> Result<Rows<'n, N, A>, AllocError>
+    /// Returns a copy of the rows, whose entries are numbers of rows in place of offsets.
+    fn to_rows(&self, alloc: A) -> Result<Rows<'n, N, A>, AllocError>
         ensures { IfOk result (λ rows. rows ≡ self.now) }
     {
         Ok(Rows {

@@ -158,7 +158,8 @@ impl<'n, N: Allocator, A: Allocator + Copy> Rows<'n, N, A> {
         requires { IsGrouping self.now.table parts.now }
         ensures { IfOk result (λ next. AreMergedRows self.now.table parts.now next.items) }
     {
-        let mut next = Vec::new(alloc);
+        let room = parts.len() * self.classes.alphabet_len();
+        let mut next = Vec::with_capacity(alloc, room)?;
         for row in parts.members() {
             for column in 0..self.classes.alphabet_len() {
                 next.push(parts.block(self.entry(*row, column)) as u32)?;

@@ -1,5 +1,5 @@
 //! The order of rows: row 0, then the rows that list patterns, then those that a search scans out
-//! of, and then the others.
+//! of, and then the others; and the DFA of rows in this order.
 
 ghost use Rattle.std.specs.Prelude.{◌≡◌, ◌<◌, ◌≤◌, ◌*◌, All, IfOk, length, map};
 ghost use Rattle.determinize_dense.specs.Dfa.{IsDfaOf};
@@ -16,7 +16,9 @@ use std::alloc::{AllocError, Allocator};
 /// The least number of bytes that do not leave a row that is scanned out of.
 const STAYING: usize = 64;
 
-/// Returns the offsets of rows.
+/// Returns the offsets of the rows with these numbers.
+///
+/// - `columns` is the length of a row.
 fn offsets_of<A: Allocator + Copy>(
     alloc: A,
     rows: &[u32],
@@ -108,18 +110,18 @@ impl<'n, N: Allocator, A: Allocator + Copy> Rows<'n, N, A> {
 
     /// Returns the DFA of rows that are in order.
     ///
-    /// - `last_match` is the last row that lists patterns, or 0, and `last_special` the last one
-    ///   that is scanned out of, or `last_match`.
+    /// - `last_listing` is the number of the last row that lists patterns, or 0, and `last_scanned`
+    ///   that of the last one that is scanned out of, or `last_listing`.
     fn finished(
         self,
         alloc: A,
-        last_match: usize,
-        last_special: usize,
+        last_listing: usize,
+        last_scanned: usize,
     ) -> Result<Dfa<'n, N, A>, AllocError>
-        requires last { last_match < length self.table.patterns }
-        requires special { last_special < length self.table.patterns }
+        requires listing { last_listing < length self.table.patterns }
+        requires scanned { last_scanned < length self.table.patterns }
         requires order { IsOrdered self.table
-            (offset_of self.table last_match) (offset_of self.table last_special) }
+            (offset_of self.table last_listing) (offset_of self.table last_scanned) }
         ensures { IfOk result (λ dfa. dfa ≡ self.entry) }
     {
         let columns = self.classes.alphabet_len();
@@ -139,8 +141,8 @@ impl<'n, N: Allocator, A: Allocator + Copy> Rows<'n, N, A> {
             next,
             starts,
             patterns,
-            last_match: last_match * columns,
-            last_special: last_special * columns,
+            last_match: last_listing * columns,
+            last_special: last_scanned * columns,
             inverse: SCALE / columns + 1,
         })
     }

@@ -14,7 +14,7 @@ use std::marker::Model;
 /// The number of start states: one for each kind of start, anchored and unanchored.
 pub(crate) const STARTS: usize = 12;
 
-/// The rows of a DFA, in any order but that row 0 is that of the dead state.
+/// The rows of a DFA, in any order, except that row 0 is that of the dead state.
 ///
 /// A row has an entry for each class of bytes and, last, one for the end of input (EOI): the number
 /// of the next row.

@@ -13,7 +13,7 @@ pub record IsOrdered (d : Table) (last_match last_special : ℕ) : Type 0 where
   pub none : (r : ℕ) → r < length d.patterns → last_match < offset_of d r → patterns_at d r ≡ []
   pub more : last_match ≤ last_special
 
--- a table in order, whose entries are stored as offsets
+-- a DFA in order, whose entries are stored as offsets, and the inverse of its row length
 pub record IsArranged (v : DfaValue) (offsets : List ℕ) (last_match last_special inverse : ℕ)
     : Type 0 where
   pub stored : IsStored v offsets

@@ -12,7 +12,8 @@ use Rattle.determinize_dense.specs.Least.{IsReachedRow}
 use Rattle.determinize_dense.specs.Table.{DfaValue, Table, column_of, row_after}
 use Rattle.determinize_dense.specs.Table.{row_over, start_row}
 
--- each entry is in place and is the number of a row, and each column is that of a unit
+-- each entry is in place and is the number of a row, and each column is that of a unit; there are at
+-- most MAX_STATES rows, of at most 257 entries
 pub record IsFilled (d : Table) : Type 0 where
   pub size : length d.next ≡ length d.patterns * (d.class_count + 1)
   pub starts : length d.starts ≡ 12
@@ -24,14 +25,14 @@ pub record IsFilled (d : Table) : Type 0 where
   pub few : length d.patterns ≤ MAX_STATES
   pub narrow : d.class_count + 1 ≤ 257
 
--- what a DFA of these parts is seen as
+-- the value of a DFA of these parts
 abbrev pub dfa_value : Nfa → MatchKind → Classes → List ℕ → List ℕ → List (List ℕ) → DfaValue
-dfa_value nfa kind p next starts patterns = record {
+dfa_value nfa kind classes next starts patterns = record {
   nfa = nfa;
   kind = kind;
   table = record {
-    classes = p.of_bytes;
-    class_count = length p.firsts;
+    classes = classes.of_bytes;
+    class_count = length classes.firsts;
     next = next;
     starts = starts;
     patterns = patterns;

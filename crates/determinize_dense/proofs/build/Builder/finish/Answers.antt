@@ -21,7 +21,8 @@ lists-are g c = c.in_ok-lists_of.ensures ∙ ap (λ vs. map (λ (v : Value). v.p
 pub invariant_of-result : goal.invariant_of-result
 invariant_of-result g c =
     let at = goal.at.invariant_of-result g c in
-    rw (c.nfa.ensures, c.match_kind.ensures, classes-are g at.In_ok-clone, next-is g at.In_ok-lists_of, lists-are g at.In_ok-lists_of) (
+    let lists = at.In_ok-lists_of in
+    rw (c.nfa.ensures, c.match_kind.ensures, classes-are g at.In_ok-clone, next-is g lists, lists-are g lists) (
     is_dfa _ c.self.invariant
     (subst (λ (x : Building). length x.next ≡ length x.values * columns_of x.classes) (sym c.self.view_is)
     c.requires.whole) c.args.starts

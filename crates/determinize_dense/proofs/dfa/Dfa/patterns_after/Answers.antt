@@ -1,4 +1,5 @@
-use Rattle.determinize_core.proofs.Common.{ap, between, map, refl, rules, Some, sym, take_all, units, [], ◌++◌, ◌∙◌, ◌∷◌, ◌≡◌}
+use Rattle.determinize_core.proofs.Common.{ap, between, map, refl, rules, Some, sym, take_all, units, [], ◌++◌, ◌∙◌}
+use Rattle.determinize_core.proofs.Common.{◌∷◌, ◌≡◌}
 use Rattle.determinize_dense.proofs.Common.{is_anchored, value_from}
 use Rattle.determinize_core.proofs.walk.UnitLists.{units_are}
 use Rattle.determinize_dense.proofs.Inputs.{start_is}

@@ -26,4 +26,5 @@ returns-clause-row g c =
     )
 
 pub returns-clause-dead : goal.returns-clause-dead
-returns-clause-dead g c = subst (λ (x : DfaValue). patterns_at x.table 0 ≡ []) c.self.view_is c.self.invariant.ordered.dead
+returns-clause-dead g c =
+    subst (λ (x : DfaValue). patterns_at x.table 0 ≡ []) c.self.view_is c.self.invariant.ordered.dead

@@ -32,8 +32,8 @@ invariant_of-result g c =
     let at = (goal.at.invariant_of-result g c).In_ok-next in
     rw (value-is g at, c.alphabet_len-columns.ensures.count) (record {
       stored = stored-offsets _ c.self.invariant c.in_ok-next.next.items (offsets-are g at);
-      ordered = subst (λ (x : DfaValue). IsOrdered x.table (offset_of x.table c.args.last_match)
-          (offset_of x.table c.args.last_special)) (sym c.self.view_is) c.requires.order;
+      ordered = subst (λ (x : DfaValue). IsOrdered x.table (offset_of x.table c.args.last_listing)
+          (offset_of x.table c.args.last_scanned)) (sym c.self.view_is) c.requires.order;
       inverted = inverse-is _ c.self.invariant.table;
     })
 

@@ -2,9 +2,9 @@ use Rattle.determinize_core.proofs.Common.{map, rules, ◌+◌, ◌≡◌, lengt
 use Rattle.determinize_dense.proofs.Lists.{map-copied}
 use Rattle.std.proofs.lemmas.List.Elements.{same_from_all_zip}
 use Rattle.determinize_dense.specs.Private.Rows.{rows_at}
-use Rattle.determinize_dense.proofs.dfa.Dfa.rows_of.Given.{Over}
-use Rattle.determinize_dense.proofs.dfa.Dfa.rows_of.Goals.{In_ok-clone, In_ok-clone-2}
-use Rattle.determinize_dense.proofs.dfa.Dfa.rows_of.Goals as goal
+use Rattle.determinize_dense.proofs.dfa.Dfa.to_rows.Given.{Over}
+use Rattle.determinize_dense.proofs.dfa.Dfa.to_rows.Goals.{In_ok-clone, In_ok-clone-2}
+use Rattle.determinize_dense.proofs.dfa.Dfa.to_rows.Goals as goal
 
 classes-are : (g : Over) (c : In_ok-clone g) → c.in_ok-clone.field-0 ≡ c.self.inside.classes
 classes-are g c = search rules
