@@ -28,6 +28,7 @@ use determinize_replay::job::Job;
 use determinize_replay::outputs::output_of;
 use determinize_replay::verbs;
 use example_walks::examples::{Example, examples};
+use std::alloc::AllocError;
 use std::fmt::Debug;
 use std::process::Abort;
 
@@ -51,12 +52,27 @@ pub fn holds<R: Abort>(rt: &R, is_so: bool) {
     assert!(rt; is_so);
 }
 
-/// Asserts that a call that may fail returned this value. Returns its error if it failed.
-pub fn same_if_ok<R: Abort, T: PartialEq + Debug + Copy, E>(
+/// Asserts that a search that may fail found this match. Returns its error if it failed.
+pub fn match_if_ok<R: Abort>(
     rt: &R,
-    found: Result<T, E>,
-    wanted: T,
-) -> Result<(), E> {
+    found: Result<Option<HalfMatch>, AllocError>,
+    wanted: Option<HalfMatch>,
+) -> Result<(), AllocError> {
+    match found {
+        Ok(found) => {
+            same(rt, found, wanted);
+            Ok(())
+        }
+        Err(error) => Err(error),
+    }
+}
+
+/// Asserts that a test that may fail has this result. Returns its error if it failed.
+pub fn holds_if_ok<R: Abort>(
+    rt: &R,
+    found: Result<bool, AllocError>,
+    wanted: bool,
+) -> Result<(), AllocError> {
     match found {
         Ok(found) => {
             same(rt, found, wanted);

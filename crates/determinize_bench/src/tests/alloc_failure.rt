@@ -164,23 +164,7 @@ impl Row {
     /// Returns the match of a search of the text as a haystack.
     fn search<R: Abort + AllocGlobal>(&self, rt: &R) -> Option<HalfMatch> {
         let mut lazy = Lazy::new(rt.alloc(), &self.nfa, self.kind, 64);
-        self.search_input(&mut lazy).expect(rt, "memory")
-    }
-
-    /// Returns the match of a search of the text as a haystack through a cache.
-    fn search_input<A: Allocator + Copy>(
-        &self,
-        lazy: &mut Lazy<'_, Global, A>,
-    ) -> Result<Option<HalfMatch>, AllocError> {
-        lazy.search_input(&self.input())
-    }
-
-    /// Returns whether a search of the text as a haystack through a cache finds a match.
-    fn is_match<A: Allocator + Copy>(
-        &self,
-        lazy: &mut Lazy<'_, Global, A>,
-    ) -> Result<bool, AllocError> {
-        lazy.is_match(&self.input())
+        lazy.search_input(&self.input()).expect(rt, "memory")
     }
 
     /// Returns the last match of the walk, by a search through a cache.

@@ -1,6 +1,6 @@
 //! Walks and searches through one cache: what they find, what is cached, and what is computed.
 
-ghost use Rattle.std.specs.Prelude.{◌≤◌, ◌<◌, ◌+◌, length};
+ghost use Rattle.std.specs.Prelude.{◌<◌, length};
 
 use crate::tests::{ended, holds, same, same_at, texts, write_numbers};
 use determinize_below::{Anchored, Input, LookMatcher, MatchKind, NFA, StateID};
@@ -123,204 +123,66 @@ fn counts<R: Abort>(rt: &R, lazy: &Lazy<'_>, computed: u64, kept: usize) {
     same_at(rt, lazy.limit(), found, (computed, kept));
 }
 
-/// Walks over a word.
-fn walk_word<R: Abort + AllocGlobal>(rt: &R, lazy: &mut Lazy<'_>) {
-    walk(rt, lazy, None, b"quartz", None, Some(6));
+/// Returns the input of a search of a range of a haystack.
+fn input_of<'h, R: Abort>(rt: &R, haystack: &'h [u8], start: usize, end: usize) -> Input<'h> {
+    if end > haystack.len() || start > end + 1 {
+        panic!(rt; "a range of the haystack");
+    }
+    Input::new(haystack).range(start..end)
 }
-
-/// Walks over the word without its first byte, which is the look-behind.
-fn walk_inside<R: Abort + AllocGlobal>(rt: &R, lazy: &mut Lazy<'_>) {
-    walk(rt, lazy, Some(b'q'), b"uartz", None, None);
-}
-
-/// Walks over a word twice, where this many transitions are then computed, and states kept.
-fn expect_again<R: Abort + AllocGlobal>(rt: &R, lazy: &mut Lazy<'_>, computed: u64, kept: usize) {
-    walk_word(rt, lazy);
-    counts(rt, lazy, 7, kept);
-    walk_word(rt, lazy);
-    counts(rt, lazy, computed, kept);
-}
-
-/// Walks over a word, and again after the cache is cleared.
-fn expect_cleared<R: Abort + AllocGlobal>(rt: &R, lazy: &mut Lazy<'_>) {
-    walk_word(rt, lazy);
-    lazy.clear();
-    walk_word(rt, lazy);
-    counts(rt, lazy, 14, 3);
-}
-
-/// Walks over a word without its first byte, which is not there, and then is the look-behind.
-fn expect_rest<R: Abort + AllocGlobal>(rt: &R, lazy: &mut Lazy<'_>) {
-    walk(rt, lazy, None, b"uartz", None, Some(5));
-    counts(rt, lazy, 6, 3);
-    walk_inside(rt, lazy);
-    counts(rt, lazy, 12, 5);
-}
-
-/// Walks twice over a word without its first byte, which is the look-behind.
-fn expect_inside<R: Abort + AllocGlobal>(rt: &R, lazy: &mut Lazy<'_>) {
-    walk_inside(rt, lazy);
-    counts(rt, lazy, 6, 1);
-    walk_inside(rt, lazy);
-    counts(rt, lazy, 12, 1);
-}
-
-/// A word; the word without its first byte, which is the look-behind or not there.
-#[test]
-fn what_is_kept(rt: HostRuntime) {
-    let first = MatchKind::LeftmostFirst;
-    make(&rt, WORDS, false, first, 16, Calls::Again(7, 3));
-    make(&rt, WORDS, false, first, 16, Calls::Cleared);
-    make(&rt, WORDS, false, first, 2, Calls::Again(14, 2));
-    make(&rt, WORDS, false, first, 0, Calls::Again(14, 0));
-    make(&rt, WORDS, false, first, 16, Calls::Rest);
-    make(&rt, WORDS, false, first, 1, Calls::Inside);
-}
-
-/// Walks over the beginning of a word before a word byte, before another byte, and before EOI.
-fn expect_ahead<R: Abort + AllocGlobal>(rt: &R, lazy: &mut Lazy<'_>) {
-    walk(rt, lazy, None, b"quar", Some(b't'), None);
-    walk(rt, lazy, None, b"quar", Some(b' '), Some(4));
-    walk(rt, lazy, None, b"quar", None, Some(4));
-}
-
-#[test]
-fn bytes_ahead(rt: HostRuntime) {
-    let first = MatchKind::LeftmostFirst;
-    make(&rt, WORDS, false, first, 16, Calls::Ahead);
-}
-
-/// Walks over an empty text and over one with a byte that is no word byte.
-fn expect_end<R: Abort + AllocGlobal>(rt: &R, lazy: &mut Lazy<'_>) {
-    second(rt, lazy, b"", &[0; 9]);
-    second(rt, lazy, b"\0", b"\0\0\x40\x01\0\0\x01\0\0\0\x04\x01");
-}
-
-/// `\b` of Unicode words, unanchored.
-#[test]
-fn the_end_is_no_byte(rt: HostRuntime) {
-    let states = "BU:2,1 B:00-ff>0 L:WordUnicode>3 M:0";
-    make(&rt, states, false, MatchKind::All, 16, Calls::End);
-}
-
-/// A word between other bytes.
-const HAYSTACK: &[u8] = b"== quartz ==";
 
 /// Letters after bytes ff.
 const LETTERS: &[u8] = b"\xff\xffaa\xffa";
 
-/// Searches a range of the haystack of a word.
-fn search_range<R: Abort>(
-    rt: &R,
-    lazy: &mut Lazy<'_>,
-    start: usize,
-    end: usize,
-    wanted: Option<usize>,
-)
-    requires end { end ≤ 12 }
-    requires near { start ≤ end + 1 }
-{
-    search(rt, lazy, &Input::new(HAYSTACK).range(start..end), wanted);
-}
-
-/// Searches a whole word, its first half, its second half, and a range that ends before its start.
-fn expect_ranges<R: Abort>(rt: &R, lazy: &mut Lazy<'_>) {
-    search_range(rt, lazy, 3, 9, Some(9));
-    search_range(rt, lazy, 3, 6, None);
-    search_range(rt, lazy, 6, 9, None);
-    search_range(rt, lazy, 4, 3, None);
-}
-
-/// Of these ranges only the whole word has a match.
-#[test]
-fn ranges_of_words(rt: HostRuntime) {
-    let (all, first) = (MatchKind::All, MatchKind::LeftmostFirst);
-    make(&rt, WORDS, false, all, 16, Calls::Ranges);
-    make(&rt, WORDS, false, first, 16, Calls::Ranges);
-}
-
-/// Searches a range that ends before its start, and an empty one.
-fn expect_nothing<R: Abort>(rt: &R, lazy: &mut Lazy<'_>) {
-    search_range(rt, lazy, 4, 3, None);
-    counts(rt, lazy, 0, 0);
-    search_range(rt, lazy, 4, 4, Some(4));
-    counts(rt, lazy, 1, 2);
-}
-
-#[test]
-fn nothing_to_search(rt: HostRuntime) {
-    same(&rt, Input::new(HAYSTACK).range(4..3).is_done(), true);
-    make(&rt, "M:0", false, MatchKind::All, 16, Calls::Nothing);
-    make(&rt, "M:0", true, MatchKind::All, 16, Calls::Nothing);
-}
-
-/// Searches for letters that begin after a byte ff which is in the range, and before it.
-fn expect_begins<R: Abort>(rt: &R, lazy: &mut Lazy<'_>) {
+/// Searches for letters that begin after a byte ff which is in the range, and before it. Searches
+/// for letters that end after the last letter, and before the byte ff in front of it.
+fn expect_letters<R: Abort>(rt: &R, lazy: &mut Lazy<'_>) {
     let mut input = Input::new(LETTERS).range(1..4).anchored(Anchored::Yes);
     search(rt, lazy, &input, Some(1));
     input.set_start(2);
     search(rt, lazy, &input, None);
-}
-
-/// Searches for letters that end after the last letter, and before the byte ff in front of it.
-fn expect_ends<R: Abort>(rt: &R, lazy: &mut Lazy<'_>) {
-    let mut input = Input::new(LETTERS).anchored(Anchored::Yes);
     input.set_range(1..6);
     search(rt, lazy, &input, Some(4));
     input.set_end(4);
     search(rt, lazy, &input, Some(1));
 }
 
-/// Letters after a byte ff, by searches in reverse from the end of a range.
-#[test]
-fn ranges_backward(rt: HostRuntime) {
-    let states = "BU:1,2 B:61>0 B:ff>3 M:0";
-    make(&rt, states, true, MatchKind::All, 16, Calls::Backward);
-}
-
-/// Calls through one cache.
+/// A call through a cache, and what it finds.
 #[derive(Clone, Copy)]
-pub enum Calls {
-    /// Those of [`expect_again`], with these numbers.
-    Again(u64, usize),
-    /// Those of [`expect_cleared`].
-    Cleared,
-    /// Those of [`expect_rest`].
-    Rest,
-    /// Those of [`expect_inside`].
-    Inside,
-    /// Those of [`expect_ahead`].
-    Ahead,
-    /// Those of [`expect_end`].
-    End,
-    /// Those of [`expect_ranges`].
-    Ranges,
-    /// Those of [`expect_nothing`].
-    Nothing,
-    /// Those of [`expect_begins`] and [`expect_ends`].
-    Backward,
-    /// A walk over a word, after which the debug text is [`texts::CACHE`].
-    Text,
+pub enum Call<'t> {
+    /// Walks over a text between these bytes, where the last match ends at this offset.
+    Walk(Option<u8>, &'t [u8], Option<u8>, Option<usize>),
+    /// Walks over a text, where the second state has these bytes.
+    Second(&'t [u8], &'t [u8]),
+    /// Searches a text, where the match ends at this offset.
+    SearchText(&'t [u8], Option<usize>),
+    /// Searches the range of a haystack from the first offset to the second one, where the match
+    /// ends at the last one.
+    Search(&'t [u8], usize, usize, Option<usize>),
+    /// Makes the calls of [`expect_letters`].
+    Letters,
+    /// Compares the numbers of computed transitions and of cached states.
+    Counts(u64, usize),
+    /// Clears the cache.
+    Clear,
+    /// Compares the debug text of the cache.
+    Text(&'t str),
 }
 
 /// Makes these calls through a cache.
-fn make_calls<R: Abort + AllocGlobal>(rt: &R, lazy: &mut Lazy<'_>, calls: Calls) {
-    match calls {
-        Calls::Again(computed, kept) => expect_again(rt, lazy, computed, kept),
-        Calls::Cleared => expect_cleared(rt, lazy),
-        Calls::Rest => expect_rest(rt, lazy),
-        Calls::Inside => expect_inside(rt, lazy),
-        Calls::Ahead => expect_ahead(rt, lazy),
-        Calls::End => expect_end(rt, lazy),
-        Calls::Ranges => expect_ranges(rt, lazy),
-        Calls::Nothing => expect_nothing(rt, lazy),
-        Calls::Backward => {
-            expect_begins(rt, lazy);
-            expect_ends(rt, lazy);
-        }
-        Calls::Text => {
-            walk_word(rt, lazy);
-            texts::expect_text(rt, lazy, texts::CACHE);
+fn make_calls<R: Abort + AllocGlobal>(rt: &R, lazy: &mut Lazy<'_>, calls: &[Call<'_>]) {
+    for call in calls {
+        match *call {
+            Call::Walk(behind, text, ahead, end) => walk(rt, lazy, behind, text, ahead, end),
+            Call::Second(text, bytes) => second(rt, lazy, text, bytes),
+            Call::SearchText(text, end) => search_text(rt, lazy, text, end),
+            Call::Search(haystack, start, end, wanted) => {
+                search(rt, lazy, &input_of(rt, haystack, start, end), wanted)
+            }
+            Call::Letters => expect_letters(rt, lazy),
+            Call::Counts(computed, kept) => counts(rt, lazy, computed, kept),
+            Call::Clear => lazy.clear(),
+            Call::Text(wanted) => texts::expect_text(rt, lazy, wanted),
         }
     }
 }
@@ -332,16 +194,96 @@ pub fn make<R: Abort + AllocGlobal>(
     is_backward: bool,
     kind: MatchKind,
     limit: usize,
-    calls: Calls,
+    calls: &[Call<'_>],
 ) {
     let nfa = nfa(rt, states, is_backward);
     make_calls(rt, &mut cache(rt, &nfa, kind, limit), calls);
 }
 
-/// Searches a text, for which three transitions and states are enough.
-fn expect_three<R: Abort>(rt: &R, lazy: &mut Lazy<'_>, text: &[u8], end: usize) {
-    search(rt, lazy, &Input::new(text), Some(end));
-    counts(rt, lazy, 3, 3);
+/// Walks over a word.
+pub const WALK: Call<'static> = Call::Walk(None, b"quartz", None, Some(6));
+
+/// Walks over the word without its first byte, which is the look-behind.
+const INSIDE: Call<'static> = Call::Walk(Some(b'q'), b"uartz", None, None);
+
+/// Walks over the word without its first byte.
+const REST: Call<'static> = Call::Walk(None, b"uartz", None, Some(5));
+
+#[test]
+fn what_is_kept(rt: HostRuntime) {
+    let first = MatchKind::LeftmostFirst;
+    let all = [WALK, Call::Counts(7, 3), WALK, Call::Counts(7, 3)];
+    make(&rt, WORDS, false, first, 16, &all);
+    let cleared = [WALK, Call::Clear, WALK, Call::Counts(14, 3)];
+    make(&rt, WORDS, false, first, 16, &cleared);
+    let two = [WALK, Call::Counts(7, 2), WALK, Call::Counts(14, 2)];
+    make(&rt, WORDS, false, first, 2, &two);
+    let none = [WALK, Call::Counts(7, 0), WALK, Call::Counts(14, 0)];
+    make(&rt, WORDS, false, first, 0, &none);
+    let rest = [REST, Call::Counts(6, 3), INSIDE, Call::Counts(12, 5)];
+    make(&rt, WORDS, false, first, 16, &rest);
+    let inside = [INSIDE, Call::Counts(6, 1), INSIDE, Call::Counts(12, 1)];
+    make(&rt, WORDS, false, first, 1, &inside);
+}
+
+/// The beginning of a word before a word byte, before another byte, and before EOI.
+#[test]
+fn bytes_ahead(rt: HostRuntime) {
+    let calls = [
+        Call::Walk(None, b"quar", Some(b't'), None),
+        Call::Walk(None, b"quar", Some(b' '), Some(4)),
+        Call::Walk(None, b"quar", None, Some(4)),
+    ];
+    make(&rt, WORDS, false, MatchKind::LeftmostFirst, 16, &calls);
+}
+
+/// `\b` of Unicode words, unanchored: an empty text, and one with a byte that is no word byte.
+#[test]
+fn the_end_is_no_byte(rt: HostRuntime) {
+    let states = "BU:2,1 B:00-ff>0 L:WordUnicode>3 M:0";
+    let calls = [
+        Call::Second(b"", &[0; 9]),
+        Call::Second(b"\0", b"\0\0\x40\x01\0\0\x01\0\0\0\x04\x01"),
+    ];
+    make(&rt, states, false, MatchKind::All, 16, &calls);
+}
+
+/// A word between other bytes.
+const HAYSTACK: &[u8] = b"== quartz ==";
+
+/// A whole word, its first half, its second half, and a range that ends before its start: only the
+/// whole word has a match.
+#[test]
+fn ranges_of_words(rt: HostRuntime) {
+    let calls = [
+        Call::Search(HAYSTACK, 3, 9, Some(9)),
+        Call::Search(HAYSTACK, 3, 6, None),
+        Call::Search(HAYSTACK, 6, 9, None),
+        Call::Search(HAYSTACK, 4, 3, None),
+    ];
+    make(&rt, WORDS, false, MatchKind::All, 16, &calls);
+    make(&rt, WORDS, false, MatchKind::LeftmostFirst, 16, &calls);
+}
+
+/// A range that ends before its start, and an empty one.
+#[test]
+fn nothing_to_search(rt: HostRuntime) {
+    same(&rt, Input::new(HAYSTACK).range(4..3).is_done(), true);
+    let calls = [
+        Call::Search(HAYSTACK, 4, 3, None),
+        Call::Counts(0, 0),
+        Call::Search(HAYSTACK, 4, 4, Some(4)),
+        Call::Counts(1, 2),
+    ];
+    make(&rt, "M:0", false, MatchKind::All, 16, &calls);
+    make(&rt, "M:0", true, MatchKind::All, 16, &calls);
+}
+
+/// Letters after a byte ff, by searches in reverse from the end of a range.
+#[test]
+fn ranges_backward(rt: HostRuntime) {
+    let states = "BU:1,2 B:61>0 B:ff>3 M:0";
+    make(&rt, states, true, MatchKind::All, 16, &[Call::Letters]);
 }
 
 /// Returns a word of `len` bytes.
@@ -349,13 +291,16 @@ fn word<R: Abort + AllocGlobal>(rt: &R, len: usize) -> Vec<u8> {
     vec![in rt.alloc(); b'a'; len].expect(rt, "memory")
 }
 
-/// Searches a haystack that is one word of `len` bytes. The match ends at the end of the word or,
-/// in reverse, at its start.
+/// Searches a haystack that is one word of `len` bytes, for which three transitions and states are
+/// enough. The match ends at the end of the word or, in reverse, at its start.
 fn expect_word<R: Abort + AllocGlobal>(rt: &R, kind: MatchKind, is_backward: bool, len: usize) {
-    let nfa = nfa(rt, WORDS, is_backward);
     let word = word(rt, len);
     let end = if is_backward { 0 } else { len };
-    expect_three(rt, &mut cache(rt, &nfa, kind, 16), word.as_slice(), end);
+    let calls = [
+        Call::Search(word.as_slice(), 0, len, Some(end)),
+        Call::Counts(3, 3),
+    ];
+    make(rt, WORDS, is_backward, kind, 16, &calls);
 }
 
 #[test]
@@ -370,18 +315,13 @@ fn long_haystacks_backward(rt: HostRuntime) {
     expect_word(&rt, MatchKind::LeftmostFirst, true, 1_000_000);
 }
 
-/// Searches a text that is one word of a million bytes.
-fn expect_text<R: Abort + AllocGlobal>(rt: &R, kind: MatchKind) {
-    let nfa = nfa(rt, WORDS, false);
-    let word = word(rt, 1_000_000);
-    let lazy = &mut cache(rt, &nfa, kind, 16);
-    search_text(rt, lazy, word.as_slice(), Some(1_000_000));
-}
-
+/// A text that is one word of a million bytes.
 #[test]
 fn long_text_under_both_kinds(rt: HostRuntime) {
-    expect_text(&rt, MatchKind::All);
-    expect_text(&rt, MatchKind::LeftmostFirst);
+    let word = word(&rt, 1_000_000);
+    let calls = [Call::SearchText(word.as_slice(), Some(1_000_000))];
+    make(&rt, WORDS, false, MatchKind::All, 16, &calls);
+    make(&rt, WORDS, false, MatchKind::LeftmostFirst, 16, &calls);
 }
 
 /// The bytes that a cached state uses: a row of 258 numbers, the state in the list and as a key,

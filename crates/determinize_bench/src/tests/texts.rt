@@ -1,6 +1,6 @@
 //! The debug texts of states, builders, caches and NFAs.
 
-use crate::tests::caches::{Calls, WORDS, nfa};
+use crate::tests::caches::{Call, WALK, WORDS, nfa};
 use crate::tests::states::{built, with_patterns};
 use crate::tests::{caches, joined, parts_of, same};
 use determinize_below::{Look, MatchKind, StateID};
@@ -85,13 +85,13 @@ fn text_of_ids_that_are_left(rt: HostRuntime) {
 }
 
 /// The text of a cache after a walk over `quartz`, with three states and seven transitions.
-pub const CACHE: &str = "\
+const CACHE: &str = "\
 Lazy { match_kind: LeftmostFirst, limit: 16, states_kept: 3, computed: 7, .. }";
 
 #[test]
 fn text_of_a_cache(rt: HostRuntime) {
     let kind = MatchKind::LeftmostFirst;
-    caches::make(&rt, WORDS, false, kind, 16, Calls::Text);
+    caches::make(&rt, WORDS, false, kind, 16, &[WALK, Call::Text(CACHE)]);
 }
 
 /// The text of an NFA, one line per state.

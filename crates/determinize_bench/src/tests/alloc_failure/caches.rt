@@ -3,7 +3,7 @@
 use crate::tests::alloc_failure::trial::OfWalk;
 use crate::tests::alloc_failure::{Row, fail_each_over_walks, succeed_if};
 use crate::tests::caches::{nfa, start_of};
-use crate::tests::{holds, same, same_if_ok};
+use crate::tests::{holds, holds_if_ok, match_if_ok, same};
 use determinize_below::{MatchKind, NFA};
 use determinize_lazy::{Lazy, Scan, Walker};
 use determinize_replay::failing_alloc::FailingAllocator;
@@ -65,53 +65,33 @@ fn make_once<R: Abort, A: Allocator + Copy>(
     call: Call,
 ) -> Result<(), AllocError> {
     match call {
-        Call::Search => same_if_ok(rt, row.search_text(lazy), row.last),
-        Call::SearchInput => same_if_ok(rt, row.search_input(lazy), row.found),
-        Call::IsMatch => same_if_ok(rt, row.is_match(lazy), row.found.is_some()),
+        Call::Search => match_if_ok(rt, row.search_text(lazy), row.last),
+        Call::SearchInput => match_if_ok(rt, lazy.search_input(&row.input()), row.found),
+        Call::IsMatch => holds_if_ok(rt, lazy.is_match(&row.input()), row.found.is_some()),
         _ => row.expect_if_ok(rt, row.walk_through(lazy)),
     }
 }
 
-/// Feeds a piece, and the same piece again if that fails. Returns whether the first call succeeded.
-fn feed<A: Allocator + Copy>(
-    lazy: &mut Lazy<'_, Global, A>,
-    scan: &mut Scan<A>,
-    piece: &[u8],
-) -> Result<bool, AllocError> {
-    let is_fed = lazy.feed(scan, piece).is_ok();
-    if !is_fed {
-        lazy.feed(scan, piece)?;
-    }
-    Ok(is_fed)
-}
-
-/// Feeds a text in pieces of two bytes. Returns whether no call failed.
-fn feed_each<A: Allocator + Copy>(
-    lazy: &mut Lazy<'_, Global, A>,
-    scan: &mut Scan<A>,
-    text: &[u8],
-) -> Result<bool, AllocError> {
-    let mut is_sound = true;
-    for piece in text.chunks(2) {
-        let is_fed = feed(lazy, scan, piece)?;
-        is_sound = is_sound && is_fed;
-    }
-    Ok(is_sound)
-}
-
-/// Feeds the text of a walk to a scan. The match must be the last one of the walk.
+/// Feeds the text of a walk to a scan in pieces of two bytes, and a piece again if that fails. The
+/// match must be the last one of the walk.
 fn scan_text<R: Abort, A: Allocator + Copy>(
     rt: &R,
     lazy: &mut Lazy<'_, Global, A>,
     scan: &mut Scan<A>,
     row: &Row,
 ) -> Result<(), AllocError> {
-    let is_sound = feed_each(lazy, scan, row.text.as_slice())?;
-    same_if_ok(rt, lazy.finish(scan, row.look_ahead), row.last)?;
+    let mut is_sound = true;
+    for piece in row.text.as_slice().chunks(2) {
+        if lazy.feed(scan, piece).is_err() {
+            lazy.feed(scan, piece)?;
+            is_sound = false;
+        }
+    }
+    match_if_ok(rt, lazy.finish(scan, row.look_ahead), row.last)?;
     succeed_if(is_sound)
 }
 
-/// Scans the text of a walk in pieces of two bytes. A piece that failed is fed again.
+/// Scans the text of a walk in pieces.
 fn scan<R: Abort, A: Allocator + Copy>(
     rt: &R,
     lazy: &mut Lazy<'_, Global, A>,
@@ -123,20 +103,7 @@ fn scan<R: Abort, A: Allocator + Copy>(
     }
 }
 
-/// Takes a step, and the same step again if that fails. Returns whether the first call succeeded.
-fn step<A: Allocator + Copy>(
-    lazy: &mut Lazy<'_, Global, A>,
-    walker: &mut Walker<A>,
-    unit: Option<u8>,
-) -> Result<bool, AllocError> {
-    let is_taken = lazy.next(walker, unit).is_ok();
-    if !is_taken {
-        lazy.next(walker, unit)?;
-    }
-    Ok(is_taken)
-}
-
-/// Takes the steps of a walk. Each state must be that of the walk.
+/// Takes the steps of a walk, and a step again if that fails. Each state must be that of the walk.
 fn step_each<R: Abort, A: Allocator + Copy>(
     rt: &R,
     lazy: &mut Lazy<'_, Global, A>,
@@ -146,13 +113,15 @@ fn step_each<R: Abort, A: Allocator + Copy>(
     let mut is_sound = true;
     for (index, bytes) in row.states.iter().enumerate() {
         same(rt, walker.state().as_bytes(), bytes.as_slice());
-        let is_taken = step(lazy, walker, row.unit(index))?;
-        is_sound = is_sound && is_taken;
+        if lazy.next(walker, row.unit(index)).is_err() {
+            lazy.next(walker, row.unit(index))?;
+            is_sound = false;
+        }
     }
     succeed_if(is_sound)
 }
 
-/// Walks over the text of a walk by steps. A step that failed is taken again.
+/// Walks over the text of a walk by steps.
 fn walk_by_steps<R: Abort, A: Allocator + Copy>(
     rt: &R,
     lazy: &mut Lazy<'_, Global, A>,
@@ -182,16 +151,12 @@ fn walks_and_searches(rt: HostRuntime) {
 /// The number of times that each of two long walks goes through its three states.
 const ROUNDS: usize = 1_000;
 
-/// Walks over a long text through a cache.
-fn walk_long<R: Abort, A: Allocator + Copy>(rt: &R, lazy: &mut Lazy<'_, Global, A>, text: &[u8]) {
-    let states = lazy.walk(start_of(lazy), None, text).expect(rt, "memory");
-    same(rt, states.len(), text.len().saturating_add(2));
-}
-
 /// Walks over a text twice through a cache.
 fn walk_again<R: Abort, A: Allocator + Copy>(rt: &R, lazy: &mut Lazy<'_, Global, A>, text: &[u8]) {
-    walk_long(rt, lazy, text);
-    walk_long(rt, lazy, text);
+    for _ in 0..2u8 {
+        let states = lazy.walk(start_of(lazy), None, text).expect(rt, "memory");
+        same(rt, states.len(), text.len().saturating_add(2));
+    }
     holds(rt, lazy.computed() >= 6_000);
 }
 

@@ -147,7 +147,7 @@ fn close<R: Abort, A: Allocator + Copy>(
 )
     requires { number < length row.now.nfa.states }
 {
-    assert_eq!(rt; set.capacity(), row.nfa.len());
+    assert!(rt; set.capacity() == row.nfa.len());
     let id = StateID::must(number);
     let is_epsilon = row.nfa.state(id).is_epsilon();
     let stack = Vec::with_capacity(alloc, if is_epsilon { 100 } else { 0 });
@@ -208,8 +208,8 @@ fn search_each<R: Abort, A: Allocator + Copy>(
     row: &Row,
 ) -> Found {
     let last = row.search_text(lazy).expect(rt, "memory");
-    let found = row.search_input(lazy).expect(rt, "memory");
-    let is_match = row.is_match(lazy).expect(rt, "memory");
+    let found = lazy.search_input(&row.input()).expect(rt, "memory");
+    let is_match = lazy.is_match(&row.input()).expect(rt, "memory");
     (last, found, is_match)
 }
 
