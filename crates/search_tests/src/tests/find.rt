@@ -231,32 +231,7 @@ fn find_plain<R: Abort, A: Allocator + Copy>(
     }
 }
 
-/// Moves a cursor to the next match, and compares it. Returns the error of a search that failed.
-fn step<R: Abort, A: Allocator + Copy>(
-    rt: &R,
-    searcher: &mut Searcher<'_>,
-    regex: &mut LazyRegex<'_, Global, A, A>,
-    wanted: Option<Ends>,
-) -> Result<(), AllocError> {
-    match_if_ok(rt, searcher.advance(regex), wanted)
-}
-
-/// Moves a cursor to the next match, and again if that fails. Returns whether the first call
-/// succeeded.
-fn advance<R: Abort, A: Allocator + Copy>(
-    rt: &R,
-    searcher: &mut Searcher<'_>,
-    regex: &mut LazyRegex<'_, Global, A, A>,
-    wanted: Option<Ends>,
-) -> Result<bool, AllocError> {
-    let is_first = step(rt, searcher, regex, wanted).is_ok();
-    if !is_first {
-        step(rt, searcher, regex, wanted)?;
-    }
-    Ok(is_first)
-}
-
-/// Moves a cursor over all matches and past the last one.
+/// Moves a cursor over all matches and past the last one, and again where that fails.
 fn advance_each<R: Abort, A: Allocator + Copy>(
     rt: &R,
     searcher: &mut Searcher<'_>,
@@ -265,8 +240,11 @@ fn advance_each<R: Abort, A: Allocator + Copy>(
 ) -> Result<(), AllocError> {
     let mut is_sound = true;
     for index in 0..wanted.len() + 1 {
-        let is_next = advance(rt, searcher, regex, wanted.get(index).copied())?;
-        is_sound = is_sound && is_next;
+        let next = wanted.get(index).copied();
+        if match_if_ok(rt, searcher.advance(regex), next).is_err() {
+            match_if_ok(rt, searcher.advance(regex), next)?;
+            is_sound = false;
+        }
     }
     succeed_if(is_sound)
 }
@@ -293,36 +271,8 @@ fn feed_rest<B: Allocator, A: Allocator + Copy>(
     stream.feed(regex, piece.get(read..).unwrap_or(piece), found)
 }
 
-/// Feeds a piece, and if that fails, the part of it that was not read. Returns whether the first
-/// call succeeded.
-fn feed_piece<B: Allocator, A: Allocator + Copy>(
-    stream: &mut Pieces<A>,
-    regex: &mut LazyRegex<'_, Global, B, A>,
-    piece: &[u8],
-    found: &mut Vec<Match, A>,
-) -> Result<bool, AllocError> {
-    let begin = stream.bytes_read();
-    let is_fed = feed_rest(stream, regex, piece, begin, found).is_ok();
-    if !is_fed {
-        feed_rest(stream, regex, piece, begin, found)?;
-    }
-    Ok(is_fed)
-}
-
-/// Ends a text, and ends it again if that fails. Returns whether the first call succeeded.
-fn finish<B: Allocator, A: Allocator + Copy>(
-    stream: &Pieces<A>,
-    regex: &mut LazyRegex<'_, Global, B, A>,
-    found: &mut Vec<Match, A>,
-) -> Result<bool, AllocError> {
-    let is_ended = stream.finish(regex, found).is_ok();
-    if !is_ended {
-        stream.finish(regex, found)?;
-    }
-    Ok(is_ended)
-}
-
-/// Feeds pieces, and feeds each piece that fails again. Returns whether none failed.
+/// Feeds pieces, and if that fails, the part of a piece that was not read. Returns whether none
+/// failed.
 fn feed_each<B: Allocator, A: Allocator + Copy>(
     stream: &mut Pieces<A>,
     regex: &mut LazyRegex<'_, Global, B, A>,
@@ -331,13 +281,16 @@ fn feed_each<B: Allocator, A: Allocator + Copy>(
 ) -> Result<bool, AllocError> {
     let mut is_sound = true;
     for piece in pieces {
-        let is_fed = feed_piece(stream, regex, piece, found)?;
-        is_sound = is_sound && is_fed;
+        let begin = stream.bytes_read();
+        if feed_rest(stream, regex, piece, begin, found).is_err() {
+            feed_rest(stream, regex, piece, begin, found)?;
+            is_sound = false;
+        }
     }
     Ok(is_sound)
 }
 
-/// Feeds pieces and ends the text, and compares the matches.
+/// Feeds pieces and ends the text, and ends it again if that fails. Compares the matches.
 fn feed_all<R: Abort, B: Allocator, A: Allocator + Copy>(
     rt: &R,
     stream: &mut Pieces<A>,
@@ -346,10 +299,13 @@ fn feed_all<R: Abort, B: Allocator, A: Allocator + Copy>(
     found: &mut Vec<Match, A>,
     wanted: &[Ends],
 ) -> Result<(), AllocError> {
-    let is_sound = feed_each(stream, regex, pieces, found)?;
-    let is_ended = finish(stream, regex, found)?;
+    let is_fed = feed_each(stream, regex, pieces, found)?;
+    let is_ended = stream.finish(regex, found).is_ok();
+    if !is_ended {
+        stream.finish(regex, found)?;
+    }
     expect_matches(rt, found.as_slice(), wanted);
-    succeed_if(is_sound && is_ended)
+    succeed_if(is_fed && is_ended)
 }
 
 /// Feeds a text in pieces, and makes each call that fails again, for the bytes that it did not

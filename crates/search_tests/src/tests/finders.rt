@@ -31,15 +31,17 @@ fn first<F: Finder>(finder: &mut F, input: &Input<'_>) -> Result<Option<Match>, 
     Ok(found)
 }
 
-/// Asserts that a finder finds these matches of an input: the first, and all.
+/// Asserts that a finder finds these matches of an input, whose anchored mode names no pattern: the
+/// first, and all.
 fn expect_all<R: Abort + AllocGlobal, F: Finder>(
     rt: &R,
     finder: &mut F,
     input: &Input<'_>,
     wanted: &[Match],
-)
-    requires { has_start input.now.anchored ≡ true }
-{
+) {
+    if let Anchored::Pattern(_) = input.get_anchored() {
+        panic!(rt; "an input names no pattern");
+    }
     same(rt, first(finder, input), Ok(wanted.first().copied()));
     let found = find_all(rt.alloc(), finder, input).expect(rt, "memory");
     expect_same(rt, found.as_slice(), wanted);
@@ -56,7 +58,6 @@ fn expect_in_turn<R: Abort + AllocGlobal>(
     requires forward { nfa.now.reverse ≡ false }
     requires nfa { whole.now.nfa ≡ nfa.now }
     requires kind { whole.now.kind ≡ kinds.LeftmostFirst }
-    requires start { has_start input.now.anchored ≡ true }
 {
     let mut lazy = Lazy::new(rt.alloc(), nfa, MatchKind::LeftmostFirst, 50);
     expect_all(rt, &mut Plain::new(nfa, &mut lazy), input, wanted);
@@ -75,7 +76,6 @@ fn expect_by_whole_and_lazy<R: Abort + AllocGlobal>(
     requires forward { ends.now.nfa.reverse ≡ false }
     requires prefix { HasPrefix ends.now.nfa }
     requires reverse { IsReverseOf backward.now ends.now.nfa }
-    requires start { has_start input.now.anchored ≡ true }
 {
     let mut starts = Lazy::new(rt.alloc(), backward, MatchKind::All, 50);
     let mut regex = Regex::from_engines(WithAllocError(ends), &mut starts);
@@ -94,29 +94,10 @@ fn expect_by_lazy_and_whole<R: Abort + AllocGlobal>(
     requires forward { nfa.now.reverse ≡ false }
     requires prefix { HasPrefix nfa.now }
     requires reverse { IsReverseOf starts.now.nfa nfa.now }
-    requires start { has_start input.now.anchored ≡ true }
 {
     let mut ends = Lazy::new(rt.alloc(), nfa, MatchKind::LeftmostFirst, 50);
     let mut regex = Regex::from_engines(&mut ends, WithAllocError(starts));
     expect_all(rt, &mut regex, input, wanted);
-}
-
-/// Asserts it of two whole DFAs.
-fn expect_by_whole<R: Abort + AllocGlobal>(
-    rt: &R,
-    ends: &Dfa<'_>,
-    starts: &Dfa<'_>,
-    input: &Input<'_>,
-    wanted: &[Match],
-)
-    requires kind { ends.now.kind ≡ kinds.LeftmostFirst }
-    requires kind_backward { starts.now.kind ≡ kinds.All }
-    requires forward { ends.now.nfa.reverse ≡ false }
-    requires prefix { HasPrefix ends.now.nfa }
-    requires reverse { IsReverseOf starts.now.nfa ends.now.nfa }
-    requires start { has_start input.now.anchored ≡ true }
-{
-    expect_all(rt, &mut Regex::from_engines(ends, starts), input, wanted);
 }
 
 /// Asserts it of each finder that has a whole DFA of an NFA or of its reverse.
@@ -130,12 +111,11 @@ fn expect_by_each<R: Abort + AllocGlobal>(
     requires forward { nfa.now.reverse ≡ false }
     requires prefix { HasPrefix nfa.now }
     requires reverse { IsReverseOf backward.now nfa.now }
-    requires start { has_start input.now.anchored ≡ true }
 {
     let ends = dense::dfa(rt, nfa, MatchKind::LeftmostFirst, 1000);
     let starts = dense::dfa(rt, backward, MatchKind::All, 1000);
     expect_in_turn(rt, nfa, &ends, input, wanted);
-    expect_by_whole(rt, &ends, &starts, input, wanted);
+    expect_all(rt, &mut Regex::from_engines(&ends, &starts), input, wanted);
     expect_by_whole_and_lazy(rt, &ends, backward, input, wanted);
     expect_by_lazy_and_whole(rt, nfa, &starts, input, wanted);
 }
