@@ -1,5 +1,5 @@
 //! Uses of the libraries, to read and to copy. Each module is one use, and its contracts are
-//! proved. `search_tests` runs all but [`counted`], [`patterns`] and [`pieces`].
+//! proved. `search_tests` runs all but [`counted`], [`patterns`], [`pieces`] and [`stored`].
 //!
 //! - [`values`] makes one value of each small type: sets, start kinds, closures, states.
 //! - [`nfa`] makes an NFA by hand, and [`built`] one by a `Builder`.
@@ -13,7 +13,8 @@
 //! - [`search`] and [`cache`] search and walk many texts through one cache.
 //! - [`walk`] finds the preferred match without a cache, and [`counted`] makes one counted step.
 //! - [`dfa`] builds the smallest whole DFA, and lists the patterns that match at a position.
-//!   [`steps`] reads one: it steps by hand, and lists all matches of a haystack.
+//!   [`steps`] reads one: it steps by hand, and lists all matches of a haystack. [`stored`] draws
+//!   one, keeps it as bytes, and steps through these.
 #![tactic(auto)]
 
 pub mod built;
@@ -29,6 +30,7 @@ pub mod scanner;
 pub mod search;
 pub mod steady;
 pub mod steps;
+pub mod stored;
 pub mod strings;
 pub mod values;
 pub mod walk;
