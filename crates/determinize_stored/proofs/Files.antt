@@ -14,7 +14,7 @@ use Rattle.determinize_dense.specs.Bytes.{ends_from, head_of, IsWhole, kind_numb
 use Rattle.determinize_dense.specs.Table.{Table}
 use Rattle.determinize_dense.specs.declared.bytes.TheConstants.{MAGIC, VERSION}
 use Rattle.determinize_dense.specs.Bytes.{bytes_of_words, file_of}
-use Rattle.determinize_stored.proofs.Spelled.{bytes-length, words-again, words-spelled}
+use Rattle.determinize_stored.proofs.Encoded.{bytes-length, words-again, words-encoded}
 use Rattle.determinize_stored.specs.Private.Words.{words_in}
 use Rattle.std.specs.Prelude.{get_or, ◌%◌}
 use Rattle.determinize_stored.proofs.Heads.{heads_same, IsHeadOf}
@@ -184,7 +184,7 @@ pub file_bytes : (bs ws : List ℕ) (s : Stored) → ((i : ℕ) → get_or bs i 
     → ws ≡ words_of s → bs ≡ file_of s
 file_bytes bs ws s fit four same is =
     let room = words_room bs in let most = words_most bs in
-    words-spelled bs fit (omega (arith, four, room, most)) ∙ ap (λ l. bytes_of_words l) (sym same ∙ is)
+    words-encoded bs fit (omega (arith, four, room, most)) ∙ ap (λ l. bytes_of_words l) (sym same ∙ is)
 
 -- a row that a start is
 pub some_row : (h : Head) (p : Parts) → HasSizes h p → IsInRange h p → 0 < h.rows

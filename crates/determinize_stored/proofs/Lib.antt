@@ -1,6 +1,6 @@
+mod Encoded
 mod Files
 mod Heads
 mod Lists
 mod Numbers
 mod Paths
-mod Spelled

@@ -20,7 +20,7 @@ first_row s anchored p = slice_index s.table.starts
     (cond anchored 0 6 + number_of (start_kind_of s.terminator p))
 
 -- the first pattern of the last row along a text that lists one, and the number of bytes before
--- the unit that leads to the row
+-- the unit over which the row is entered
 abbrev pub last_along : Stored → Bool → Text → Option HalfMatch
 last_along s anchored text =
     last_listed 0 (lists_along s.table (first_row s anchored text.behind) (units text))

@@ -1,5 +1,5 @@
 -- Bytes that numbers are written as.
--- Main statements: words-again, words-spelled, small_words.
+-- Main statements: words-again, bytes-length, words-encoded.
 -- Used by: the lemmas on whole files.
 -- Idea: four bytes are one number below 2^32, and one such number is four bytes.
 use Rattle.determinize_core.proofs.Common.{[], ap, arith, length, List, refl, suc, sym, zero}
@@ -29,14 +29,14 @@ four_fit a b c d bs fit (suc (suc zero)) = fit 2
 four_fit a b c d bs fit (suc (suc (suc zero))) = fit 3
 four_fit a b c d bs fit (suc (suc (suc (suc i)))) = omega arith
 
-pub words-spelled : (bs : List ℕ) → ((i : ℕ) → get_or bs i 0 < 256) → length bs ≡ 4 * length (words_in bs)
+pub words-encoded : (bs : List ℕ) → ((i : ℕ) → get_or bs i 0 < 256) → length bs ≡ 4 * length (words_in bs)
     → bs ≡ bytes_of_words (words_in bs)
-words-spelled [] fit all = refl
-words-spelled (a ∷ []) fit all = absurd (let no : ⊥ = omega (arith, all) in no)
-words-spelled (a ∷ b ∷ []) fit all = absurd (let no : ⊥ = omega (arith, all) in no)
-words-spelled (a ∷ b ∷ c ∷ []) fit all = absurd (let no : ⊥ = omega (arith, all) in no)
-words-spelled (a ∷ b ∷ c ∷ d ∷ bs) fit all =
-    let rest = words-spelled bs (λ i. fit (suc (suc (suc (suc i))))) (omega (arith, all)) in
+words-encoded [] fit all = refl
+words-encoded (a ∷ []) fit all = absurd (let no : ⊥ = omega (arith, all) in no)
+words-encoded (a ∷ b ∷ []) fit all = absurd (let no : ⊥ = omega (arith, all) in no)
+words-encoded (a ∷ b ∷ c ∷ []) fit all = absurd (let no : ⊥ = omega (arith, all) in no)
+words-encoded (a ∷ b ∷ c ∷ d ∷ bs) fit all =
+    let rest = words-encoded bs (λ i. fit (suc (suc (suc (suc i))))) (omega (arith, all)) in
     let first = le_bytes_4 (a ∷ b ∷ c ∷ d ∷ []) _ refl (four_fit a b c d bs fit) refl in
     ap (λ l. a ∷ b ∷ c ∷ d ∷ l) rest
     ∙ ap (λ l. l ++ bytes_of_words (words_in bs)) (sym first)
