@@ -4,3 +4,13 @@ pub mod Characters
 pub mod Numbers
 pub mod Parts
 pub mod Unicode
+pub mod Following
+pub mod Stepping
+pub mod Counting
+pub mod Inner
+pub mod Escapes
+pub mod Nexts
+pub mod Flagging
+pub mod Munch
+pub mod Hexes
+pub mod Widths

@@ -33,7 +33,7 @@ ok_then P Q (Err e) h f = h
 pub at_front : (l : Text) (b : ℕ) (t : Text) → l ≡ b ∷ t → slice_get l 0 ≡ Some b
 at_front l b t e = ap (λ x. slice_get x 0) e
 
-at_end : (l : Text) → slice_get l 0 ≡ None → l ≡ []
+pub at_end : (l : Text) → slice_get l 0 ≡ None → l ≡ []
 at_end [] e = refl
 at_end (x ∷ l) e = absurd (cc)
 
@@ -344,7 +344,7 @@ wide_read n h r large is range =
     (λ v z. subst (λ w. Wide n (0x5C ∷ 0x78 ∷ 0x7B ∷ w)) (sym z.2)
     (s.by_number n z.0 (z.1 (scalar_small n range)) (large, is)))
 
-at_least_one : (c : ℕ) → 1 ≤ len_utf8 c
+pub at_least_one : (c : ℕ) → 1 ≤ len_utf8 c
 at_least_one c = grind (arith)
 
 pub shorter_by_character : (c : ℕ) (a b : Text) → a ≡ encode_utf8 c ++ b → length b < length a

@@ -1,3 +1,5 @@
 pub mod Brackets
+pub mod Following
+pub mod Letters
 pub mod Reading
 pub mod Sets

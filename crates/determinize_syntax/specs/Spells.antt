@@ -11,6 +11,8 @@ use Rattle.determinize_pattern.specs.Patterns.{IsClass, choice_of, literal, repe
 use Rattle.determinize_syntax.specs.Words.{Set, ◌∈◌, assertion, at_line, complement, dot_set, escaped_byte, folded, is_text_end, is_name, joined, knows_cases, named_class, no_flags, number, only, perl_class, set_flag}
 use Rattle.determinize_syntax.specs.declared.bracket.Before.{Before}
 use Rattle.determinize_syntax.specs.declared.bracket.Before.TheVariants.{AfterClass, AfterHyphen, AfterOne, AfterRange, First}
+use Rattle.determinize_syntax.specs.declared.error.ErrorKind.{ErrorKind}
+use Rattle.determinize_syntax.specs.declared.error.ErrorKind.TheVariants.{GroupNameDuplicate, NestLimitExceeded, OutOfMemory}
 use Rattle.determinize_syntax.specs.declared.flags.Flags.{Flags}
 
 abbrev pub Bytes : Type 0
@@ -183,3 +185,10 @@ SpellsUnder f re text = (g : Flags) × Choice f g re text
 -- the text denotes the pattern
 abbrev pub Spells : Re → Bytes → Type 0
 Spells = SpellsUnder no_flags
+
+-- a limit was met, which is no fault of the text
+abbrev pub is_limit : ErrorKind → Bool
+is_limit OutOfMemory = true
+is_limit NestLimitExceeded = true
+is_limit GroupNameDuplicate = true
+is_limit kind = false

@@ -1,16 +1,18 @@
 //! Brackets.
 
-ghost use Rattle.std.specs.Prelude.{◌≡◌, ◌<◌, ◌++◌, ◌∷◌, ◌&&◌, [], Bool, IfOk, OnOk, false, length, not, true};
+ghost use Rattle.std.specs.Prelude.{◌≡◌, ◌<◌, ◌++◌, ◌∷◌, ◌&&◌, [], ℕ, Bool, IfOk, List, OnOk, Some, encode_utf8, false, length, not, slice_get, true};
+ghost use Rattle.determinize_syntax.specs.Private.Following.{FromAtom, FromOperator, Unended, Unlimited};
+ghost use Rattle.determinize_syntax.specs.Private.Letters.{Listing};
 ghost use Rattle.std.specs.Char.{is_ascii};
 ghost use Rattle.determinize_pattern.specs.Characters.{char_pairs};
 ghost use Rattle.determinize_pattern.specs.Patterns.{meaning};
 ghost use Rattle.determinize_syntax.specs.Private.Brackets.{Extends, IsBegun, IsInside};
-ghost use Rattle.determinize_syntax.specs.Private.Reading.{Reads, rest};
+ghost use Rattle.determinize_syntax.specs.Private.Reading.{IsNotAt, Part, Reads, rest};
 ghost use Rattle.determinize_syntax.specs.Private.Sets.{AddsChars, set_of, turned};
 ghost use Rattle.determinize_syntax.specs.Spells as spells;
-ghost use Rattle.determinize_syntax.specs.Spells.{Atom, Bound, Wide};
-ghost use Rattle.determinize_syntax.specs.Words.{◌∈◌, folded};
-ghost use Rattle.determinize_syntax.specs.declared.bracket.Before.TheVariants.{AfterOne};
+ghost use Rattle.determinize_syntax.specs.Spells.{Atom, Bound, IsWide, Wide};
+ghost use Rattle.determinize_syntax.specs.Words.{◌∈◌, folded, knows_cases};
+ghost use Rattle.determinize_syntax.specs.declared.bracket.Before.TheVariants.{AfterOne, First};
 ghost use Rattle.determinize_syntax.specs.declared.flags.Flags.{Flags};
 
 use crate::class::one_of;
@@ -60,6 +62,8 @@ pub fn bracket(
 ) -> Result<Pattern, ParseError>
     ensures read { IfOk result (λ p. Reads cursor.old cursor.new
         (λ t. Atom flags (meaning p) (0x5B ∷ t))) }
+    ensures whole { (k : List Flags) → FromAtom k flags (0x5B ∷ rest cursor.old)
+        → Unlimited result (λ p. FromOperator k flags false (rest cursor.new)) }
 {
     let negated = cursor.take(b'^');
     let ranges = inside(alloc, cursor, start, flags)?;
@@ -79,6 +83,8 @@ fn inside(
 ) -> Result<Vec<ClassUnicodeRange>, ParseError>
     ensures read { IfOk result (λ v. Reads cursor.old cursor.new
         (IsInside flags (char_pairs v.items))) }
+    ensures whole { (u : List ℕ) → Listing flags u false First (rest cursor.old)
+        → knows_cases flags ≡ true → Unlimited result (λ v. rest cursor.new ≡ u) }
 {
     let mut items = front(alloc, cursor, start)?;
     loop {
@@ -96,6 +102,10 @@ fn inside(
 fn front(alloc: Global, cursor: &mut Cursor<'_>, start: usize) -> Result<Items, AllocError>
     ensures read { IfOk result (λ i. (f : Flags) → Reads cursor.old cursor.new
         (IsBegun f i.before (char_pairs i.ranges.items) cursor.new)) }
+    ensures whole { IfOk result (λ i. (f : Flags) (u : List ℕ)
+        → Listing f u false First (rest cursor.old)
+        → (b : Bool) × Listing f u b i.before (rest cursor.new)
+        × (b ≡ false → IsNotAt 0x5D cursor.new)) }
 {
     let mut items = Items {
         ranges: Vec::new(alloc),
@@ -175,6 +185,8 @@ impl Items {
             ≡ char_pairs self.old.ranges.items ++ (0x2D, 0x2D) ∷ [])) }
         ensures left { IfOk result (λ b. b ≡ false
             → (cursor.new ≡ cursor.old) × (self.new ≡ self.old)) }
+        ensures other { IfOk result (λ b. b ≡ false → spells.may_end self.old.before ≡ true
+            → (t : List ℕ) → rest cursor.old ≡ 0x2D ∷ 0x5D ∷ t → ⊥) }
     {
         let mut ahead = *cursor;
         if !may_end(self.before) || !ahead.take(b'-') || !ahead.take(b']') {
@@ -196,6 +208,9 @@ impl Items {
             (char_pairs self.old.ranges.items) self.new.before
             (char_pairs self.new.ranges.items))) }
         ensures progress { OnOk result (length (rest cursor.new) < length (rest cursor.old)) }
+        ensures whole { (u : List ℕ) → Unended flags u self.old.before (rest cursor.old)
+            → knows_cases flags ≡ true
+            → Unlimited result (λ r. Listing flags u true self.new.before (rest cursor.new)) }
     {
         let place = cursor.pos();
         if cursor.take(b'-') {
@@ -216,6 +231,9 @@ impl Items {
             (char_pairs self.old.ranges.items) self.new.before
             (char_pairs self.new.ranges.items))) }
         ensures progress { OnOk result (length (rest cursor.new) < length (rest cursor.old)) }
+        ensures whole { (u : List ℕ) → Unended flags u self.old.before (rest cursor.old)
+            → ((c : ℕ) → slice_get (rest cursor.old) 0 ≡ Some c → (c ∈ "-\\[") ≡ false)
+            → Unlimited result (λ r. Listing flags u true self.new.before (rest cursor.new)) }
     {
         let place = cursor.pos();
         let Some(next) = cursor.peek() else {
@@ -251,6 +269,8 @@ impl Items {
         ensures read { OnOk result (Reads cursor.old cursor.new (λ t. Extends flags
             self.old.before (char_pairs self.old.ranges.items) self.new.before
             (char_pairs self.new.ranges.items) (0x5C ∷ t))) }
+        ensures whole { (u : List ℕ) → Unended flags u self.old.before (0x5C ∷ rest cursor.old)
+            → Unlimited result (λ r. Listing flags u true self.new.before (rest cursor.new)) }
     {
         let escape = read_escape(cursor, place)?;
         self.last = place;
@@ -282,6 +302,9 @@ impl Items {
         ensures read { OnOk result (Reads cursor.old cursor.new (λ t. Extends flags
             self.old.before (char_pairs self.old.ranges.items) self.new.before
             (char_pairs self.new.ranges.items) (0x5B ∷ t))) }
+        ensures whole { (u : List ℕ) → Unended flags u self.old.before (0x5B ∷ rest cursor.old)
+            → knows_cases flags ≡ true
+            → Unlimited result (λ r. Listing flags u true self.new.before (rest cursor.new)) }
     {
         if !cursor.take(b':') {
             return Err(ParseError::at(ErrorKind::ClassNested, place));
@@ -312,6 +335,8 @@ impl Items {
         ensures read { OnOk result (Reads cursor.old cursor.new (λ t. Extends flags
             self.old.before (char_pairs self.old.ranges.items) self.new.before
             (char_pairs self.new.ranges.items) (0x2D ∷ t))) }
+        ensures whole { (u : List ℕ) → Unended flags u self.old.before (0x2D ∷ rest cursor.old)
+            → Unlimited result (λ r. Listing flags u true self.new.before (rest cursor.new)) }
     {
         match self.before {
             Before::First => {
@@ -345,6 +370,9 @@ impl Items {
         ensures read { (e : Bool) → OnOk result (Reads cursor.old cursor.new
             (λ t. Extends flags (AfterOne e low) (char_pairs self.old.ranges.items)
             self.new.before (char_pairs self.new.ranges.items) (0x2D ∷ t))) }
+        ensures whole { (e : Bool) (u : List ℕ)
+            → Unended flags u (AfterOne e low) (0x2D ∷ rest cursor.old)
+            → Unlimited result (λ r. Listing flags u true self.new.before (rest cursor.new)) }
     {
         let high = self.bound(cursor, place, flags)?;
         if high < low {
@@ -357,6 +385,8 @@ impl Items {
     /// Reads the end of a range, whose hyphen is at `place`.
     fn bound(&self, cursor: &mut Cursor<'_>, place: usize, flags: Flags) -> Result<char, ParseError>
         ensures read { IfOk result (λ h. Reads cursor.old cursor.new (Bound flags h)) }
+        ensures whole { (h : ℕ) (u : List ℕ) → Part (rest cursor.old) u (Bound flags h)
+            → Unlimited result (λ g. (g ≡ h) × (rest cursor.new ≡ u)) }
     {
         let first = cursor.pos();
         let Some(next) = cursor.peek() else {
@@ -418,6 +448,9 @@ fn wide(cursor: &mut Cursor<'_>, flags: Flags) -> Result<char, ParseError>
     ensures read { IfOk result (λ c. Reads cursor.old cursor.new
         (λ t. (flags.unicode ≡ true) × Wide c t)) }
     ensures progress { OnOk result (length (rest cursor.new) < length (rest cursor.old)) }
+    ensures whole { (c : ℕ) (u : List ℕ) → flags.unicode ≡ true → IsWide c
+        → rest cursor.old ≡ encode_utf8 c ++ u
+        → Unlimited result (λ d. (d ≡ c) × (rest cursor.new ≡ u)) }
 {
     let error = cursor.error_here(ErrorKind::UnicodeNotAllowed);
     if !flags.unicode {

@@ -1,6 +1,7 @@
 //! A place in the text of a pattern.
 
-ghost use Rattle.std.specs.Prelude.{◌≡◌, ◌++◌, ◌∷◌, ℕ, IfSome, List, encode_utf8, false, slice_get, true};
+ghost use Rattle.std.specs.Prelude.{◌≡◌, ◌≤◌, ◌++◌, ◌∷◌, ℕ, IfNone, IfSome, List, Some, encode_utf8, false, slice_get, true};
+ghost use Rattle.std.specs.Char.{len_utf8};
 ghost use Rattle.determinize_syntax.specs.Private.Reading.{IsNotAt, rest};
 ghost use Rattle.determinize_syntax.specs.Spells.{IsWide};
 
@@ -39,6 +40,14 @@ impl<'a> Cursor<'a> {
         self.rest.first().copied()
     }
 
+    /// Returns whether the byte is the next one.
+    pub fn is_at(&self, byte: u8) -> bool
+        ensures here { result ≡ true → slice_get (rest self.now) 0 ≡ Some byte }
+        ensures other { result ≡ false → IsNotAt byte self.now }
+    {
+        matches!(self.peek(), Some(next) if next == byte)
+    }
+
     /// Passes the byte if it is the next one.
     pub fn take(&mut self, byte: u8) -> bool
         ensures read { result ≡ true → rest self.old ≡ byte ∷ rest self.new }
@@ -58,6 +67,8 @@ impl<'a> Cursor<'a> {
     pub fn take_wide(&mut self) -> Option<char>
         ensures read { IfSome result (λ c.
             IsWide c × (rest self.old ≡ encode_utf8 c ++ rest self.new)) }
+        ensures other { IfNone result ((c : ℕ) (t : List ℕ) → IsWide c
+            → rest self.old ≡ encode_utf8 c ++ t → ⊥) }
     {
         let width = width(self.peek()?);
         if self.rest.len() < width {
@@ -106,7 +117,9 @@ impl<'a> Cursor<'a> {
 }
 
 /// Returns how many bytes the character has in UTF-8 that begins with the byte.
-pub fn width(byte: u8) -> usize {
+pub fn width(byte: u8) -> usize
+    ensures { (c : ℕ) (t : List ℕ) → 128 ≤ c → encode_utf8 c ≡ byte ∷ t → result ≡ len_utf8 c }
+{
     match byte {
         0..=0x7F => 1,
         0x80..=0xDF => 2,

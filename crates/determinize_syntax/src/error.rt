@@ -1,5 +1,8 @@
 //! Errors of the text of a pattern.
 
+ghost use Rattle.std.specs.Prelude.{◌≡◌};
+ghost use Rattle.determinize_syntax.specs.declared.error.ErrorKind.TheVariants as kinds;
+
 use std::alloc::{AllocError, AllocFailed};
 use std::error::Error;
 use std::fmt;
@@ -98,12 +101,16 @@ pub struct ParseError {
 
 impl ParseError {
     /// Returns the error of this kind at this place.
-    pub fn new(kind: ErrorKind, start: usize, end: usize) -> ParseError {
+    pub fn new(kind: ErrorKind, start: usize, end: usize) -> ParseError
+        ensures { result.kind ≡ kind }
+    {
         ParseError { kind, start, end }
     }
 
     /// Returns the error of this kind at the ASCII character at this place.
-    pub(crate) fn at(kind: ErrorKind, start: usize) -> ParseError {
+    pub(crate) fn at(kind: ErrorKind, start: usize) -> ParseError
+        ensures { result.kind ≡ kind }
+    {
         ParseError::new(kind, start, start.saturating_add(1))
     }
 
@@ -115,12 +122,16 @@ impl ParseError {
 }
 
 impl From<AllocError> for ParseError {
+    ghost from_gives = { λ _ e. e.kind ≡ kinds.OutOfMemory };
+
     fn from(_error: AllocError) -> ParseError {
         ParseError::new(ErrorKind::OutOfMemory, 0, 0)
     }
 }
 
 impl<T: Drop> From<AllocFailed<T>> for ParseError {
+    ghost from_gives = { λ _ e. e.kind ≡ kinds.OutOfMemory };
+
     fn from(_error: AllocFailed<T>) -> ParseError {
         ParseError::new(ErrorKind::OutOfMemory, 0, 0)
     }

@@ -1,9 +1,14 @@
 //! What follows a backslash.
 
-ghost use Rattle.std.specs.Prelude.{◌≡◌, ◌*◌, ◌+◌, ◌<◌, ◌≤◌, ◌++◌, ◌∷◌, [], IfNone, IfOk, IfSome, OnOk, Some, codes, length, true, ⊤};
-ghost use Rattle.determinize_syntax.specs.Private.Reading.{IsDigits, IsEscape, IsHexDigit, Reads, is_available, rest};
+ghost use Rattle.std.specs.Prelude.{◌≡◌, ◌*◌, ◌+◌, ◌<◌, ◌≤◌, ◌++◌, ◌∷◌, [], ℕ, IfNone, IfOk, IfSome, List, OnErr, OnOk, OnSome, Some, codes, false, length, slice_get, true};
+ghost use Rattle.std.specs.Char.{is_digit};
+ghost use Rattle.std.specs.List.{list_all};
+ghost use Rattle.determinize_syntax.specs.Private.Following.{IsPastBoundary, IsSame, MayPrecede, Unlimited};
+ghost use Rattle.determinize_syntax.specs.Private.Following as following;
+ghost use Rattle.determinize_syntax.specs.declared.escape.Escape.{Escape};
+ghost use Rattle.determinize_syntax.specs.Private.Reading.{IsDigits, IsEscape, IsHexDigit, Part, Reads, is_available, rest};
 ghost use Rattle.determinize_syntax.specs.Words as words;
-ghost use Rattle.determinize_syntax.specs.Words.{escaped_byte};
+ghost use Rattle.determinize_syntax.specs.Words.{escaped_byte, number};
 
 use crate::cursor::Cursor;
 use crate::error::{ErrorKind, ParseError};
@@ -27,7 +32,8 @@ pub enum Escape {
 impl Escape {
     /// Returns the error if tables of Unicode are needed under these flags.
     pub fn unavailable(self, flags: Flags) -> Option<ErrorKind>
-        ensures { IfNone result (is_available flags self ≡ true) }
+        ensures none { IfNone result (is_available flags self ≡ true) }
+        ensures some { OnSome result (is_available flags self ≡ false) }
     {
         let (available, kind) = match self {
             Escape::Class(..) => (!flags.unicode, ErrorKind::UnicodePerlClassNotFound),
@@ -52,6 +58,8 @@ fn is_text_end(look: Look) -> bool
 pub fn read_escape(cursor: &mut Cursor<'_>, start: usize) -> Result<Escape, ParseError>
     ensures read { IfOk result (λ e.
         Reads cursor.old cursor.new (λ t. IsEscape e (0x5C ∷ t))) }
+    ensures whole { (e : Escape) (u : List ℕ) → Part (0x5C ∷ rest cursor.old) u (IsEscape e)
+        → MayPrecede e u → Unlimited result (λ d. IsSame d e × (rest cursor.new ≡ u)) }
 {
     if cursor.take(b'x') {
         return hex(cursor);
@@ -107,6 +115,10 @@ fn assertion(cursor: &mut Cursor<'_>) -> Result<Option<Look>, ParseError>
     ensures read { IfOk result (λ o. IfSome o (λ l.
         Reads cursor.old cursor.new (λ t. words.assertion t ≡ Some l))) }
     ensures none { IfOk result (λ o. IfNone o (cursor.new ≡ cursor.old)) }
+    ensures whole { (l : _) (u : List ℕ)
+        → Part (rest cursor.old) u (λ t. words.assertion t ≡ Some l) → IsPastBoundary u
+        → Unlimited result (λ o. (o ≡ Some l) × (rest cursor.new ≡ u)) }
+    ensures begun { OnErr result (slice_get (rest cursor.old) 0 ≡ Some 0x62) }
 {
     if cursor.take(b'b') {
         let look = boundary(cursor)?;
@@ -123,7 +135,8 @@ fn assertion(cursor: &mut Cursor<'_>) -> Result<Option<Look>, ParseError>
 
 /// Returns the assertion of a backslash and the byte, but for `\b`.
 fn look_of(byte: u8) -> Option<Look>
-    ensures { IfSome result (λ l. words.assertion (byte ∷ []) ≡ Some l) }
+    ensures some { IfSome result (λ l. words.assertion (byte ∷ []) ≡ Some l) }
+    ensures none { IfNone result ((l : _) → words.assertion (byte ∷ []) ≡ Some l → byte ≡ 0x62) }
 {
     match byte {
         b'A' => Some(Look::Start),
@@ -139,6 +152,9 @@ fn look_of(byte: u8) -> Option<Look>
 fn boundary(cursor: &mut Cursor<'_>) -> Result<Look, ParseError>
     ensures read { IfOk result (λ l.
         Reads cursor.old cursor.new (λ t. words.assertion (0x62 ∷ t) ≡ Some l)) }
+    ensures whole { (l : _) (u : List ℕ)
+        → Part (rest cursor.old) u (λ t. words.assertion (0x62 ∷ t) ≡ Some l) → IsPastBoundary u
+        → Unlimited result (λ m. (m ≡ l) × (rest cursor.new ≡ u)) }
 {
     let brace = cursor.pos();
     let mut ahead = *cursor;
@@ -171,7 +187,9 @@ fn boundary(cursor: &mut Cursor<'_>) -> Result<Look, ParseError>
 
 /// Passes letters and hyphens.
 pub fn pass_letters(cursor: &mut Cursor<'_>)
-    ensures read { Reads cursor.old cursor.new (λ t. ⊤) }
+    ensures read { Reads cursor.old cursor.new (λ t. list_all following.is_in_boundary t ≡ true) }
+    ensures past { (c : ℕ) → slice_get (rest cursor.new) 0 ≡ Some c
+        → following.is_in_boundary c ≡ false }
 {
     while let Some(next) = cursor.peek() {
         if !is_in_boundary(next) || !cursor.take(next) {
@@ -181,14 +199,18 @@ pub fn pass_letters(cursor: &mut Cursor<'_>)
 }
 
 /// Returns whether the byte is a letter or a hyphen.
-fn is_in_boundary(byte: u8) -> bool {
+fn is_in_boundary(byte: u8) -> bool
+    ensures { result ≡ following.is_in_boundary byte }
+{
     byte.is_ascii_alphabetic() || byte == b'-'
 }
 
 /// Returns the boundary of this name.
 fn boundary_of(name: &[u8]) -> Option<Look>
-    ensures { IfSome result (λ l.
+    ensures some { IfSome result (λ l.
         words.assertion (codes "b{" ++ name.now ++ codes "}") ≡ Some l) }
+    ensures none { IfNone result ((l : _) →
+        words.assertion (codes "b{" ++ name.now ++ codes "}") ≡ Some l → ⊥) }
 {
     if name == "start".as_bytes() {
         return Some(Look::WordStartAscii);
@@ -209,6 +231,9 @@ fn boundary_of(name: &[u8]) -> Option<Look>
 fn hex(cursor: &mut Cursor<'_>) -> Result<Escape, ParseError>
     ensures read { IfOk result (λ e.
         Reads cursor.old cursor.new (λ t. IsEscape e (0x5C ∷ 0x78 ∷ t))) }
+    ensures whole { (e : Escape) (u : List ℕ)
+        → Part (0x5C ∷ 0x78 ∷ rest cursor.old) u (IsEscape e)
+        → Unlimited result (λ d. IsSame d e × (rest cursor.new ≡ u)) }
 {
     let brace = cursor.pos();
     if cursor.take(b'{') {
@@ -224,6 +249,9 @@ fn hex(cursor: &mut Cursor<'_>) -> Result<Escape, ParseError>
 fn braces(cursor: &mut Cursor<'_>, brace: usize) -> Result<Escape, ParseError>
     ensures read { IfOk result (λ e.
         Reads cursor.old cursor.new (λ t. IsEscape e (0x5C ∷ 0x78 ∷ 0x7B ∷ t))) }
+    ensures whole { (e : Escape) (u : List ℕ)
+        → Part (0x5C ∷ 0x78 ∷ 0x7B ∷ rest cursor.old) u (IsEscape e)
+        → Unlimited result (λ d. IsSame d e × (rest cursor.new ≡ u)) }
 {
     let first = cursor.pos();
     if cursor.take(b'}') {
@@ -247,10 +275,13 @@ fn braces(cursor: &mut Cursor<'_>, brace: usize) -> Result<Escape, ParseError>
 /// other such number.
 fn hex_number(cursor: &mut Cursor<'_>, brace: usize) -> Result<u32, ParseError>
     ensures read { IfOk result (λ n. Reads cursor.old cursor.new (IsDigits n)) }
+    ensures whole { (n : ℕ) (u : List ℕ)
+        → Part (rest cursor.old) (0x7D ∷ u) (λ t. number 16 t ≡ Some n)
+        → Unlimited result (λ m. (n ≤ 0x10_FFFF → m ≡ n) × (rest cursor.new ≡ 0x7D ∷ u)) }
 {
     let mut value = hex_digit(cursor, brace)?;
     loop {
-        if let Some(b'}') = cursor.peek() {
+        if cursor.is_at(b'}') {
             break;
         }
         let digit = hex_digit(cursor, brace)?;
@@ -262,7 +293,8 @@ fn hex_number(cursor: &mut Cursor<'_>, brace: usize) -> Result<u32, ParseError>
 /// Returns the number with one more digit, or itself if it is too large for a character.
 fn with_digit(value: u32, digit: u32) -> u32
     requires { digit < 16 }
-    ensures { result ≤ 0x10_FFFF → (value ≤ 0x10_FFFF) × (result ≡ value * 16 + digit) }
+    ensures read { result ≤ 0x10_FFFF → (value ≤ 0x10_FFFF) × (result ≡ value * 16 + digit) }
+    ensures small { value ≤ 0x10_FFFF → result ≡ value * 16 + digit }
 {
     if value > 0x10_FFFF {
         return value;
@@ -274,6 +306,8 @@ fn with_digit(value: u32, digit: u32) -> u32
 fn hex_digit(cursor: &mut Cursor<'_>, from: usize) -> Result<u32, ParseError>
     ensures read { IfOk result (λ n. Reads cursor.old cursor.new (IsHexDigit n)) }
     ensures small { IfOk result (λ n. n < 16) }
+    ensures other { OnErr result ((d : ℕ) → slice_get (rest cursor.old) 0 ≡ Some d
+        → is_digit d 16 ≡ false) }
     ensures progress { OnOk result (length (rest cursor.new) < length (rest cursor.old)) }
 {
     let Some(next) = cursor.peek() else {

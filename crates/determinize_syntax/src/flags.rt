@@ -1,10 +1,13 @@
 //! The flags of patterns.
 
-ghost use Rattle.std.specs.Prelude.{◌≡◌, ◌<◌, Bool, IfNone, IfOk, IfSome, OnOk, OnSome, length};
-ghost use Rattle.determinize_syntax.specs.Private.Reading.{IsFlag, IsSetting, Reads, SetsMore, rest};
+ghost use Rattle.std.specs.Prelude.{◌≡◌, ◌<◌, ◌++◌, ◌∷◌, ◌==◌, ◌⊎◌, [], ℕ, Bool, IfNone, IfOk, IfSome, List, MatchOption, OnOk, OnSome, Some, false, length, true};
+ghost use Rattle.std.specs.List.{list_any};
+ghost use Rattle.determinize_syntax.specs.Private.Following.{FromAtom, FromItem, IsAfterLetters, IsStop, Unlimited};
+ghost use Rattle.determinize_syntax.specs.Private.Letters.{Letters};
+ghost use Rattle.determinize_syntax.specs.Private.Reading.{IsFlag, IsNotAt, IsSetting, Reads, SetsMore, rest};
 ghost use Rattle.determinize_syntax.specs.Spells.{Sets};
 ghost use Rattle.determinize_syntax.specs.Words as words;
-ghost use Rattle.determinize_syntax.specs.Words.{knows_cases, no_flags};
+ghost use Rattle.determinize_syntax.specs.Words.{◌∈◌, knows_cases, no_flags};
 
 use crate::cursor::Cursor;
 use crate::error::{ErrorKind, ParseError};
@@ -56,6 +59,10 @@ pub fn setting(cursor: &mut Cursor<'_>, flags: Flags) -> Result<Option<Flags>, P
     ensures progress { IfOk result (λ o. OnSome o
         (length (rest cursor.new) < length (rest cursor.old))) }
     ensures none { IfOk result (λ o. IfNone o (cursor.new ≡ cursor.old)) }
+    ensures whole { (k : List Flags) → FromItem k flags (rest cursor.old)
+        → Unlimited result (λ o. MatchOption o
+        (IsStop (rest cursor.old) ⊎ FromAtom k flags (rest cursor.old))
+        (λ g. FromItem k g (rest cursor.new))) }
 {
     let mut ahead = *cursor;
     if !ahead.take(b'(') || !ahead.take(b'?') || begins_other(&ahead) {
@@ -77,7 +84,12 @@ pub fn setting(cursor: &mut Cursor<'_>, flags: Flags) -> Result<Option<Flags>, P
 }
 
 /// Returns whether no flags follow a `(?`, but a name, or what looks ahead or behind.
-fn begins_other(cursor: &Cursor<'_>) -> bool {
+fn begins_other(cursor: &Cursor<'_>) -> bool
+    ensures begun { result ≡ true → (c : ℕ) × (t : List ℕ) × (rest cursor.now ≡ c ∷ t)
+        × ((c ∈ "<=!P") ≡ true) }
+    ensures other { result ≡ false → IsNotAt 0x3C cursor.now }
+    ensures unnamed { result ≡ false → (t : List ℕ) → rest cursor.now ≡ 0x50 ∷ 0x3C ∷ t → ⊥ }
+{
     match cursor.rest {
         [b'<' | b'=' | b'!', ..] | [b'P', b'<', ..] => true,
         _ => false,
@@ -88,6 +100,8 @@ fn begins_other(cursor: &Cursor<'_>) -> bool {
 pub fn letters(cursor: &mut Cursor<'_>, flags: Flags) -> Result<Flags, ParseError>
     ensures read { IfOk result (λ g. Reads cursor.old cursor.new
         (λ t. (on : Bool) × Sets flags on g t)) }
+    ensures whole { (g : Flags) (u : List ℕ) → Letters g u [] true flags (rest cursor.old)
+        → IsAfterLetters u → Unlimited result (λ h. (h ≡ g) × (rest cursor.new ≡ u)) }
 {
     let start = *cursor;
     let mut flags = flags;
@@ -114,6 +128,10 @@ fn next_flag(
 ) -> Result<(Flags, bool), ParseError>
     ensures read { IfOk result (λ r. Reads cursor.old cursor.new
         (SetsMore seen.now on flags r.1 r.0)) }
+    ensures whole { (g : Flags) (u : List ℕ) → Letters g u seen.now on flags (rest cursor.old)
+        → IsAfterLetters u → (IsAfterLetters (rest cursor.old) → ⊥)
+        → Unlimited result (λ r. Reads cursor.old cursor.new
+        (λ t. Letters g u (seen.now ++ t) r.1 r.0 (rest cursor.new))) }
     ensures progress { OnOk result (length (rest cursor.new) < length (rest cursor.old)) }
 {
     let place = cursor.pos();
@@ -134,6 +152,9 @@ fn next_flag(
 /// Reads the letter of a flag that is not yet among the letters seen, and sets or clears it.
 fn letter(cursor: &mut Cursor<'_>, seen: &[u8], flags: Flags, on: bool) -> Result<Flags, ParseError>
     ensures read { IfOk result (λ g. Reads cursor.old cursor.new (IsFlag seen.now flags on g)) }
+    ensures whole { (c : ℕ) (t : List ℕ) (g : Flags) → rest cursor.old ≡ c ∷ t
+        → list_any (λ d. d == c) seen.now ≡ false → words.set_flag flags c on ≡ Some g
+        → Unlimited result (λ h. (h ≡ g) × (rest cursor.new ≡ t)) }
     ensures progress { OnOk result (length (rest cursor.new) < length (rest cursor.old)) }
 {
     let Some(letter) = cursor.peek() else {

@@ -1,9 +1,11 @@
 //! What opens a group.
 
-ghost use Rattle.std.specs.Prelude.{◌≡◌, IfOk, OnOk, false, true};
-ghost use Rattle.determinize_syntax.specs.Private.Reading.{IsNamed, Opens, Reads};
+ghost use Rattle.std.specs.Prelude.{◌≡◌, ◌++◌, ◌∷◌, ℕ, IfOk, List, OnOk, false, true};
+ghost use Rattle.determinize_syntax.specs.Private.Following.{FromAtom, FromItem, Unlimited};
+ghost use Rattle.determinize_syntax.specs.Private.Reading.{IsNamed, Opens, Reads, rest};
+ghost use Rattle.determinize_syntax.specs.declared.flags.Flags.{Flags};
 ghost use Rattle.determinize_syntax.specs.Words as words;
-ghost use Rattle.determinize_syntax.specs.Words.{is_name};
+ghost use Rattle.determinize_syntax.specs.Words.{◌∈◌, is_name};
 
 use crate::cursor::Cursor;
 use crate::error::{ErrorKind, ParseError};
@@ -49,6 +51,8 @@ pub fn read_opening<'a>(
     flags: Flags,
 ) -> Result<Opening, ParseError>
     ensures read { IfOk result (λ o. Reads cursor.old cursor.new (Opens flags o.flags)) }
+    ensures whole { (k : List Flags) → FromAtom k flags (0x28 ∷ rest cursor.old)
+        → Unlimited result (λ o. FromItem (flags ∷ k) o.flags (rest cursor.new)) }
 {
     let capture = Opening {
         captures: true,
@@ -86,7 +90,9 @@ pub fn read_opening<'a>(
 
 /// Passes what makes of an opening one that looks ahead or behind.
 fn looks_around(cursor: &mut Cursor<'_>) -> bool
-    ensures { result ≡ false → cursor.new ≡ cursor.old }
+    ensures left { result ≡ false → cursor.new ≡ cursor.old }
+    ensures begun { result ≡ true → (c : ℕ) × (t : List ℕ) × (rest cursor.old ≡ c ∷ t)
+        × ((c ∈ "=!") ≡ true) }
 {
     cursor.take(b'=') || cursor.take(b'!')
 }
@@ -94,6 +100,8 @@ fn looks_around(cursor: &mut Cursor<'_>) -> bool
 /// Reads the name of a group and its end. No other group may have the name.
 fn name<'a>(context: &mut Context<'a>, cursor: &mut Cursor<'a>) -> Result<(), ParseError>
     ensures read { OnOk result (Reads cursor.old cursor.new IsNamed) }
+    ensures whole { (n u : List ℕ) → rest cursor.old ≡ n ++ 0x3E ∷ u → is_name n ≡ true
+        → Unlimited result (λ r. rest cursor.new ≡ u) }
 {
     let first = *cursor;
     if let Some(b'>') = cursor.peek() {
@@ -122,6 +130,8 @@ fn unnamed(cursor: &Cursor<'_>) -> ParseError {
 /// Reads the letters of a name.
 fn letters_of_name(cursor: &mut Cursor<'_>) -> Result<(), ParseError>
     ensures read { OnOk result (Reads cursor.old cursor.new (λ t. is_name t ≡ true)) }
+    ensures whole { (n u : List ℕ) → rest cursor.old ≡ n ++ 0x3E ∷ u → is_name n ≡ true
+        → Unlimited result (λ r. rest cursor.new ≡ 0x3E ∷ u) }
 {
     let Some(first) = cursor.peek() else {
         return Err(unnamed(cursor));

@@ -1,8 +1,8 @@
 //! Classes that have a name or a letter.
 
-ghost use Rattle.std.specs.Prelude.{◌≡◌, IfOk, IfSome, Some};
+ghost use Rattle.std.specs.Prelude.{◌≡◌, IfNone, IfOk, IfSome, None, Some, codes};
 ghost use Rattle.determinize_pattern.specs.Classes.{HasBytes, pairs};
-ghost use Rattle.determinize_syntax.specs.Private.Sets.{set_of, turned};
+ghost use Rattle.determinize_syntax.specs.Private.Sets.{name_of, set_of, turned};
 ghost use Rattle.determinize_syntax.specs.Words.{folded, named_class, perl_class};
 
 use crate::class::class;
@@ -50,7 +50,8 @@ const KINDS: [ClassKind; 14] = [
 impl ClassKind {
     /// Returns the class of this name, as in `[:alpha:]`.
     pub fn from_name(name: &[u8]) -> Option<ClassKind>
-        ensures { IfSome result (λ k. named_class name.now ≡ Some (set_of k)) }
+        ensures some { IfSome result (λ k. named_class name.now ≡ Some (set_of k)) }
+        ensures none { IfNone result (named_class name.now ≡ None) }
     {
         for kind in KINDS {
             if kind.name().as_bytes() == name {
@@ -62,7 +63,8 @@ impl ClassKind {
 
     /// Returns the name of the class.
     fn name(self) -> &'static str
-        ensures { named_class result.now ≡ Some (set_of self) }
+        ensures class { named_class result.now ≡ Some (set_of self) }
+        ensures text { result.now ≡ codes (name_of self) }
     {
         match self {
             ClassKind::Alnum => "alnum",
@@ -133,7 +135,8 @@ impl ClassKind {
 
 /// Returns the class of a backslash and the letter, as `\d`, and whether it has all other bytes.
 pub fn perl_kind(letter: u8) -> Option<(ClassKind, bool)>
-    ensures { IfSome result (λ r. perl_class letter ≡ Some (turned r.1 (set_of r.0))) }
+    ensures some { IfSome result (λ r. perl_class letter ≡ Some (turned r.1 (set_of r.0))) }
+    ensures none { IfNone result (perl_class letter ≡ None) }
 {
     match letter {
         b'd' => Some((ClassKind::Digit, false)),

@@ -1,13 +1,16 @@
 //! The levels of a pattern, from its choices down to its atoms.
 
-ghost use Rattle.std.specs.Prelude.{◌≡◌, ◌<◌, ◌∷◌, Bool, IfOk, OnOk, cond, encode_utf8, length, map, not, true};
+ghost use Rattle.std.specs.Prelude.{◌≡◌, ◌<◌, ◌∷◌, ℕ, Bool, IfErr, IfOk, List, OnOk, Some, cond, encode_utf8, false, length, map, not, slice_get, true};
+ghost use Rattle.determinize_pattern.specs.Meaning.{Re};
+ghost use Rattle.determinize_syntax.specs.Private.Following.{FromAtom, FromItem, FromOperator, IsEnd, IsStop, Unlimited};
+ghost use Rattle.determinize_syntax.specs.declared.flags.Flags.{Flags};
 ghost use Rattle.determinize_below.specs.declared.look.Look.TheVariants as looks;
 ghost use Rattle.determinize_pattern.specs.Meaning as meanings;
 ghost use Rattle.determinize_pattern.specs.Characters.{IsCharClass};
 ghost use Rattle.determinize_pattern.specs.Patterns.{IsClass, choice_of, literal, meaning, repeated};
 ghost use Rattle.determinize_syntax.specs.Private.Reading.{Reads, rest};
 ghost use Rattle.determinize_syntax.specs.Spells as spells;
-ghost use Rattle.determinize_syntax.specs.Spells.{Atom, Choice, IsOneOf, Items, Repeated, Spells, SpellsUnder};
+ghost use Rattle.determinize_syntax.specs.Spells.{Atom, Choice, IsOneOf, Items, Repeated, Spells, SpellsUnder, is_limit};
 ghost use Rattle.determinize_syntax.specs.Words.{◌∈◌, at_line, dot_set, folded, knows_cases, only};
 
 use crate::bracket::bracket;
@@ -28,6 +31,8 @@ const NEST_LIMIT: u8 = 250;
 /// Returns the pattern that the text denotes.
 pub fn parse(alloc: Global, text: &str) -> Result<Pattern, ParseError>
     ensures spells { IfOk result (λ p. Spells (meaning p) text.now) }
+    ensures complete { (re : Re) → Spells re text.now
+        → IfErr result (λ e. is_limit e.kind ≡ true) }
 {
     parse_with(alloc, text, Flags::new())
 }
@@ -35,6 +40,8 @@ pub fn parse(alloc: Global, text: &str) -> Result<Pattern, ParseError>
 /// Returns the pattern that the text denotes, with these flags at its beginning.
 pub fn parse_with(alloc: Global, text: &str, flags: Flags) -> Result<Pattern, ParseError>
     ensures spells { IfOk result (λ p. SpellsUnder flags (meaning p) text.now) }
+    ensures complete { (re : Re) → SpellsUnder flags re text.now
+        → IfErr result (λ e. is_limit e.kind ≡ true) }
 {
     let mut cursor = Cursor::new(text);
     let mut context = Context::new(alloc);
@@ -55,6 +62,9 @@ fn choice<'a>(
 ) -> Result<Pattern, ParseError>
     ensures read { IfOk result (λ p. Reads cursor.old cursor.new
         (SpellsUnder flags (meaning p))) }
+    ensures whole { (k : List Flags) → FromItem k flags (rest cursor.old)
+        → Unlimited result (λ p. (g : Flags) × FromItem k g (rest cursor.new)
+        × IsEnd (rest cursor.new)) }
 {
     let mut flags = flags;
     let mut depth = 0;
@@ -81,13 +91,15 @@ fn items<'a>(
 ) -> Result<Vec<Pattern>, ParseError>
     ensures read { IfOk result (λ ps. Reads cursor.old cursor.new
         (Items flags.old flags.new (map meaning ps.items))) }
+    ensures whole { (k : List Flags) → FromItem k flags.old (rest cursor.old)
+        → Unlimited result (λ ps. FromItem k flags.new (rest cursor.new)
+        × IsStop (rest cursor.new)) }
 {
     let mut depth = 0;
     let mut items = Vec::new(context.alloc);
     loop {
-        match cursor.peek() {
-            None | Some(b'|' | b')') => break,
-            Some(_) => {}
+        if is_branch_end(cursor) {
+            break;
         }
         if let Some(set) = setting(cursor, *flags)? {
             *flags = set;
@@ -101,6 +113,24 @@ fn items<'a>(
     Ok(items)
 }
 
+/// Returns whether a branch ends at the cursor.
+fn is_branch_end(cursor: &Cursor<'_>) -> bool
+    ensures end { result ≡ true → IsStop (rest cursor.now) }
+    ensures other { result ≡ false → IsStop (rest cursor.now) → ⊥ }
+{
+    match cursor.peek() {
+        None => true,
+        Some(next) => ends_branch(next),
+    }
+}
+
+/// Returns whether the byte ends a branch.
+fn ends_branch(byte: u8) -> bool
+    ensures { result ≡ (byte ∈ "|)") }
+{
+    matches!(byte, b'|' | b')')
+}
+
 /// Reads an atom and its operators.
 #[cycle(parser)]
 fn repeated<'a>(
@@ -112,6 +142,8 @@ fn repeated<'a>(
     ensures read { IfOk result (λ p. Reads cursor.old cursor.new
         (λ t. (e : Bool) × Repeated flags e (meaning p) t)) }
     ensures progress { OnOk result (length (rest cursor.new) < length (rest cursor.old)) }
+    ensures whole { (k : List Flags) → FromAtom k flags (rest cursor.old)
+        → Unlimited result (λ p. FromItem k flags (rest cursor.new)) }
 {
     let mut pattern = atom(context, cursor, flags, levels)?;
     let mut start = cursor.pos();
@@ -137,6 +169,8 @@ fn atom<'a>(
 ) -> Result<Pattern, ParseError>
     ensures read { IfOk result (λ p. Reads cursor.old cursor.new (Atom flags (meaning p))) }
     ensures progress { OnOk result (length (rest cursor.new) < length (rest cursor.old)) }
+    ensures whole { (k : List Flags) → FromAtom k flags (rest cursor.old)
+        → Unlimited result (λ p. FromOperator k flags false (rest cursor.new)) }
 {
     let start = cursor.pos();
     if cursor.take(b'(') {
@@ -171,6 +205,8 @@ fn escaped_atom(
 ) -> Result<Pattern, ParseError>
     ensures read { IfOk result (λ p. Reads cursor.old cursor.new
         (λ t. Atom flags (meaning p) (0x5C ∷ t))) }
+    ensures whole { (k : List Flags) → FromAtom k flags (0x5C ∷ rest cursor.old)
+        → Unlimited result (λ p. FromOperator k flags false (rest cursor.new)) }
 {
     let escape = read_escape(cursor, start)?;
     if let Some(kind) = escape.unavailable(flags) {
@@ -188,6 +224,9 @@ fn escaped_atom(
 fn literal_atom(alloc: Global, cursor: &mut Cursor<'_>, flags: Flags) -> Result<Pattern, ParseError>
     ensures read { IfOk result (λ p. Reads cursor.old cursor.new (Atom flags (meaning p))) }
     ensures progress { OnOk result (length (rest cursor.new) < length (rest cursor.old)) }
+    ensures whole { (k : List Flags) → FromAtom k flags (rest cursor.old)
+        → ((c : ℕ) → slice_get (rest cursor.old) 0 ≡ Some c → (c ∈ "(^$.\\[") ≡ false)
+        → Unlimited result (λ p. FromOperator k flags false (rest cursor.new)) }
 {
     let Some(next) = cursor.peek() else {
         return Err(cursor.error_before(ErrorKind::RepetitionMissing));
@@ -221,6 +260,8 @@ fn group<'a>(
 ) -> Result<Pattern, ParseError>
     ensures read { IfOk result (λ p. Reads cursor.old cursor.new
         (λ t. Atom flags (meaning p) (0x28 ∷ t))) }
+    ensures whole { (k : List Flags) → FromAtom k flags (0x28 ∷ rest cursor.old)
+        → Unlimited result (λ p. FromOperator k flags false (rest cursor.new)) }
 {
     let opening = read_opening(context, cursor, start, flags)?;
     if levels == 0 {

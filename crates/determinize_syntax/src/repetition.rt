@@ -1,7 +1,9 @@
 //! Operators of repetitions.
 
-ghost use Rattle.std.specs.Prelude.{◌≡◌, ◌<◌, ◌∷◌, IfNone, IfOk, IfSome, OnOk, OnSome, Some, length};
-ghost use Rattle.determinize_syntax.specs.Private.Reading.{IsDigit, Reads, rest};
+ghost use Rattle.std.specs.Prelude.{◌≡◌, ◌<◌, ◌∷◌, ℕ, Bool, IfNone, IfOk, IfSome, List, MatchOption, OnOk, OnSome, Some, length};
+ghost use Rattle.determinize_syntax.specs.Private.Following.{AfterOperator, CountsTo, FromItem, FromOperator, IsCount, IsPastDigits, Unlimited};
+ghost use Rattle.determinize_syntax.specs.Private.Reading.{IsDigit, Part, Reads, rest};
+ghost use Rattle.determinize_syntax.specs.declared.flags.Flags.{Flags};
 ghost use Rattle.determinize_syntax.specs.Spells.{Operator};
 ghost use Rattle.determinize_syntax.specs.Words.{number};
 
@@ -22,6 +24,9 @@ pub fn operator(cursor: &mut Cursor<'_>) -> Result<Option<Bounds>, ParseError>
     ensures progress { IfOk result (λ o. OnSome o
         (length (rest cursor.new) < length (rest cursor.old))) }
     ensures none { IfOk result (λ o. IfNone o (cursor.new ≡ cursor.old)) }
+    ensures whole { (k : List Flags) (f : Flags) (e : Bool) → FromOperator k f e (rest cursor.old)
+        → Unlimited result (λ o. MatchOption o (FromItem k f (rest cursor.new))
+        (λ b. AfterOperator k f (rest cursor.new))) }
 {
     let start = cursor.pos();
     if cursor.take(b'*') {
@@ -47,6 +52,8 @@ pub fn operator(cursor: &mut Cursor<'_>) -> Result<Option<Bounds>, ParseError>
 fn counts(cursor: &mut Cursor<'_>, start: usize) -> Result<Bounds, ParseError>
     ensures read { IfOk result (λ b.
         Reads cursor.old cursor.new (λ t. Operator b.min b.max (0x7B ∷ t))) }
+    ensures whole { (u : List ℕ) → CountsTo u (rest cursor.old)
+        → Unlimited result (λ b. rest cursor.new ≡ u) }
 {
     let min = decimal(cursor, start)?;
     if cursor.take(b'}') {
@@ -78,6 +85,8 @@ fn counts(cursor: &mut Cursor<'_>, start: usize) -> Result<Bounds, ParseError>
 /// Reads a number of the counts whose brace is at `start`.
 fn decimal(cursor: &mut Cursor<'_>, start: usize) -> Result<u32, ParseError>
     ensures read { IfOk result (λ n. Reads cursor.old cursor.new (λ t. number 10 t ≡ Some n)) }
+    ensures whole { (n : ℕ) (u : List ℕ) → Part (rest cursor.old) u (IsCount n) → IsPastDigits u
+        → Unlimited result (λ m. (m ≡ n) × (rest cursor.new ≡ u)) }
 {
     let first = cursor.pos();
     let Some(mut value) = digit(cursor) else {
@@ -103,6 +112,7 @@ fn digit(cursor: &mut Cursor<'_>) -> Option<u32>
     ensures read { IfSome result (λ n.
         Reads cursor.old cursor.new (IsDigit n)) }
     ensures none { IfNone result (cursor.new ≡ cursor.old) }
+    ensures past { IfNone result (IsPastDigits (rest cursor.old)) }
 {
     let next = cursor.peek()?;
     if !next.is_ascii_digit() || !cursor.take(next) {

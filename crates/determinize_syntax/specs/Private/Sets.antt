@@ -9,6 +9,7 @@ use Rattle.determinize_pattern.specs.declared.chars.ClassUnicodeRange.{ClassUnic
 use Rattle.determinize_pattern.specs.declared.class.ClassBytesRange.{ClassBytesRange}
 use Rattle.determinize_syntax.specs.Words.{Set, ◌∈◌, space_set, word_set}
 use Rattle.determinize_syntax.specs.declared.kind.ClassKind.{ClassKind}
+use Prim.Native.String.{String}
 use Rattle.determinize_syntax.specs.declared.kind.ClassKind.TheVariants.{Alnum, Alpha, Ascii, Blank, Cntrl, Digit, Graph, Lower, Print, Punct, Space, Upper, Word, Xdigit}
 
 -- the bytes of the ranges
@@ -56,3 +57,20 @@ set_of Space = space_set
 set_of Upper = is_ascii_uppercase
 set_of Word = word_set
 set_of Xdigit = is_ascii_hexdigit
+
+-- the name of a class
+abbrev pub name_of : ClassKind → String
+name_of Alnum = "alnum"
+name_of Alpha = "alpha"
+name_of Ascii = "ascii"
+name_of Blank = "blank"
+name_of Cntrl = "cntrl"
+name_of Digit = "digit"
+name_of Graph = "graph"
+name_of Lower = "lower"
+name_of Print = "print"
+name_of Punct = "punct"
+name_of Space = "space"
+name_of Upper = "upper"
+name_of Word = "word"
+name_of Xdigit = "xdigit"

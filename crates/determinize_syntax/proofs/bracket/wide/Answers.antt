@@ -3,6 +3,8 @@ use Rattle.determinize_syntax.specs.Private.Reading.{rest}
 use Rattle.determinize_syntax.specs.Spells.{itself}
 use Rattle.determinize_syntax.proofs.Characters.{is_true}
 use Rattle.determinize_syntax.proofs.Parts.{shorter_by_character}
+use Rattle.std.proofs.Common.{◌∙◌, sym}
+use Rattle.std.proofs.lemmas.Str.{encode_same}
 use Rattle.determinize_syntax.proofs.bracket.wide.Goals as goal
 
 pub returns-in-Some-clause-read : goal.returns-in-Some-clause-read
@@ -13,3 +15,7 @@ returns-in-Some-clause-read c =
 pub returns-in-Some-clause-progress : goal.returns-in-Some-clause-progress
 returns-in-Some-clause-progress c =
     shorter_by_character c.in-Some.character (rest c.args.cursor.now) (rest c.take_wide.new.self) c.in-Some.ensures.read.1
+
+pub returns-in-Some-clause-whole : goal.returns-in-Some-clause-whole
+returns-in-Some-clause-whole c d u unicode is e =
+    encode_same c.in-Some.character d (rest c.take_wide.new.self) u (sym c.in-Some.ensures.read.1 ∙ e)

@@ -1,10 +1,16 @@
-use Rattle.std.proofs.Common.{length}
+use Rattle.std.proofs.Common.{[], length, true}
 use Rattle.determinize_syntax.specs.Private.Reading.{Reads, rest}
-use Rattle.determinize_syntax.specs.Spells.{Sets}
+use Rattle.determinize_syntax.specs.Private.Following.{IsAfterLetters}
+use Rattle.determinize_syntax.specs.Private.Letters.{Letters}
+use Rattle.determinize_syntax.specs.Spells.{Bytes, Sets}
+use Rattle.determinize_syntax.specs.declared.flags.Flags.{Flags}
 use Rattle.determinize_syntax.proofs.flags.letters.Given as goal
 
 abbrev pub invariant-loop-cursor : goal.invariant-loop-cursor
-invariant-loop-cursor l = Reads l.fn.cursor l.cursor (Sets l.fn.flags l.on l.flags)
+invariant-loop-cursor l =
+    Reads l.fn.cursor l.cursor (Sets l.fn.flags l.on l.flags)
+    × ((g : Flags) (u : Bytes) → Letters g u [] true l.fn.flags (rest l.fn.cursor) → IsAfterLetters u
+    → Reads l.fn.cursor l.cursor (λ t. Letters g u t l.on l.flags (rest l.cursor)))
 
 abbrev pub decreases-loop-cursor : goal.decreases-loop-cursor
 decreases-loop-cursor l = length (rest l.cursor)

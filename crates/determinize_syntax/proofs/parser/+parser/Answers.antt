@@ -1,5 +1,9 @@
-use Rattle.std.proofs.Common.{◌≡◌, ◌<◌, ◌≤◌, length, ◌∷◌, ◌∙◌, [], Bool, IfNone, IfSome, OnSome, arith, false, ap, map, refl, subst, sym, true}
+use Rattle.std.proofs.Common.{◌≡◌, ◌<◌, ◌≤◌, ◌⊎◌, length, ◌∷◌, ◌∙◌, [], Bool, IfNone, IfSome, OnSome, arith, false, ap, map, refl, subst, sym, true}
 use Rattle.determinize_pattern.specs.Patterns.{meaning, repeated}
+use Rattle.std.specs.Prelude.{MatchOption}
+use Rattle.ordered_reach.proofs.Cases.{by_cases}
+use Rattle.determinize_syntax.specs.Private.Following.{AfterOperator, FromAtom, FromItem, IsEnd, IsStop}
+use Rattle.determinize_syntax.proofs.Stepping.{at_bar, group_closed, group_unclosed, operator_taken, passed_on, sign_atom, stop_is_end}
 use Rattle.determinize_syntax.specs.Private.Reading.{IsNotAt, IsSetting, Part, Reads, rest}
 use Rattle.determinize_syntax.specs.Spells.{Atom, Branches, Items, Operator, Repeated, dot, SpellsUnder, line_end, line_start, no_branch, no_item, once}
 use Rattle.determinize_syntax.proofs.Parts.{again_read, branch_read, choice_read, group_read, item_read, ok_then, prefixed, renamed, set_read, shorter, took}
@@ -36,67 +40,104 @@ atom-returns-then-take-6-clause-read t c =
 
 pub choice-loop-branches-init : goal.choice-loop-branches-init
 choice-loop-branches-init t c = (
-  [],
-  refl,
-  subst (λ l. Branches c.args.flags c.args.flags (map meaning l) []) (sym c.new-branches.ensures.items)
-      (no_branch c.args.flags),
+  (
+    [],
+    refl,
+    subst (λ l. Branches c.args.flags c.args.flags (map meaning l) []) (sym c.new-branches.ensures.items)
+        (no_branch c.args.flags),
+  ),
+  λ k h. h,
 )
 
 pub choice-loop-branches-preserved : goal.choice-loop-branches-preserved
-choice-loop-branches-preserved t c =
-    branch_read c.args.flags c.loop-branches.flags c.items.new.flags c.loop-branches.branches.items c.push.new.self.items
-    c.sequence.result (map meaning c.in_ok-items.items.items) c.loop-branches.invariant c.in_ok-items.ensures.read
-    (c.take.ensures.read c.if-not-take.false) c.in_ok-push.ensures.items c.sequence.ensures
+choice-loop-branches-preserved t c = (
+  branch_read c.args.flags c.loop-branches.flags c.items.new.flags c.loop-branches.branches.items c.push.new.self.items
+      c.sequence.result (map meaning c.in_ok-items.items.items) c.loop-branches.invariant.0 c.in_ok-items.ensures.read
+      (c.take.ensures.read c.if-not-take.false) c.in_ok-push.ensures.items c.sequence.ensures,
+  λ k h. at_bar k c.items.new.flags (rest c.items.new.cursor)
+      (c.in_ok-items.ensures.whole k (c.loop-branches.invariant.1 k h)).0 (rest c.take.new.self)
+      (c.take.ensures.read c.if-not-take.false),
+)
 
-pub choice-returns : goal.choice-returns
-choice-returns t c =
+pub choice-returns-in_err-items-clause-whole : goal.choice-returns-in_err-items-clause-whole
+choice-returns-in_err-items-clause-whole t c k h =
+    passed_on _ c.from_residual.result c.in_err-items.field-0.0 c.from_residual.ensures.1
+    (c.in_err-items.ensures.whole k (c.loop-branches.invariant.1 k h))
+
+pub choice-returns-clause-whole : goal.choice-returns-clause-whole
+choice-returns-clause-whole t c k h =
+    let left = sym (c.take.ensures.left c.if-not-take.true) in
+    let x = c.in_ok-items.ensures.whole k (c.loop-branches.invariant.1 k h) in (
+      c.items.new.flags,
+      subst (λ y. FromItem k c.items.new.flags (rest y)) left x.0,
+      subst (λ y. IsEnd (rest y)) left
+          (stop_is_end (rest c.items.new.cursor) x.1 (c.take.ensures.other c.if-not-take.true)),
+    )
+
+pub choice-returns-clause-read : goal.choice-returns-clause-read
+choice-returns-clause-read t c =
     let read = choice_read c.args.flags c.loop-branches.flags c.items.new.flags c.loop-branches.branches.items
     c.push.new.self.items c.sequence.result c.alternatives.result (map meaning c.in_ok-items.items.items)
-    c.loop-branches.invariant c.in_ok-items.ensures.read c.in_ok-push.ensures.items c.sequence.ensures
+    c.loop-branches.invariant.0 c.in_ok-items.ensures.read c.in_ok-push.ensures.items c.sequence.ensures
     c.alternatives.ensures in
-    record {
-      read = subst (λ y. Part (rest c.args.cursor.now) (rest y) (SpellsUnder c.args.flags (meaning c.alternatives.result)))
-          (sym (c.take.ensures.left c.if-not-take.true)) read;
-    }
+    subst (λ y. Part (rest c.args.cursor.now) (rest y) (SpellsUnder c.args.flags (meaning c.alternatives.result)))
+    (sym (c.take.ensures.left c.if-not-take.true)) read
 
-pub group-returns-then-opening : goal.group-returns-then-opening
-group-returns-then-opening t c = record {
-  read = subst (λ re. Part (rest c.args.cursor.now) (rest c.take.new.self) (λ v. Atom c.args.flags re (0x28 ∷ v)))
-      (sym c.in_ok-capture.ensures)
-      (group_read c.args.flags c.in_ok-opening.opening.flags (meaning c.in_ok-sub.sub) c.in_ok-opening.ensures.read
-      c.in_ok-sub.ensures.read (c.take.ensures.read c.if-not-take.false));
-}
+pub group-returns-then-opening-clause-read : goal.group-returns-then-opening-clause-read
+group-returns-then-opening-clause-read t c = subst (λ re. Part (rest c.args.cursor.now) (rest c.take.new.self) (λ v. Atom c.args.flags re (0x28 ∷ v)))
+    (sym c.in_ok-capture.ensures)
+    (group_read c.args.flags c.in_ok-opening.opening.flags (meaning c.in_ok-sub.sub) c.in_ok-opening.ensures.read
+    c.in_ok-sub.ensures.read (c.take.ensures.read c.if-not-take.false))
 
-pub group-returns : goal.group-returns
-group-returns t c = record {
-  read = group_read c.args.flags c.in_ok-opening.opening.flags (meaning c.in_ok-sub.sub) c.in_ok-opening.ensures.read
-      c.in_ok-sub.ensures.read (c.take.ensures.read c.if-not-take.false);
-}
+pub group-returns-clause-read : goal.group-returns-clause-read
+group-returns-clause-read t c = group_read c.args.flags c.in_ok-opening.opening.flags (meaning c.in_ok-sub.sub) c.in_ok-opening.ensures.read
+    c.in_ok-sub.ensures.read (c.take.ensures.read c.if-not-take.false)
 
 pub items-loop-cursor-init : goal.items-loop-cursor-init
 items-loop-cursor-init t c = (
-  [],
-  refl,
-  subst (λ l. Items c.args.flags.now c.args.flags.now (map meaning l) []) (sym c.new-items.ensures.items)
-      (no_item c.args.flags.now),
+  (
+    [],
+    refl,
+    subst (λ l. Items c.args.flags.now c.args.flags.now (map meaning l) []) (sym c.new-items.ensures.items)
+        (no_item c.args.flags.now),
+  ),
+  λ k h. h,
 )
 
-pub items-loop-cursor-preserved-in-Some-2 : goal.items-loop-cursor-preserved-in-Some-2
-items-loop-cursor-preserved-in-Some-2 t c =
-    let set : Reads c.loop-cursor.cursor c.setting.new.cursor (IsSetting c.loop-cursor.flags c.in-Some-2.set) =
+pub items-loop-cursor-preserved-in-Some : goal.items-loop-cursor-preserved-in-Some
+items-loop-cursor-preserved-in-Some t c =
+    let set : Reads c.loop-cursor.cursor c.setting.new.cursor (IsSetting c.loop-cursor.flags c.in-Some.set) =
     subst (λ o. IfSome o (λ g. Reads c.loop-cursor.cursor c.setting.new.cursor (IsSetting c.loop-cursor.flags g)))
-    c.in-Some-2.is c.in_ok-set.ensures.read in
-    set_read c.args.flags.now c.loop-cursor.flags c.in-Some-2.set (map meaning c.loop-cursor.items.items)
-    c.loop-cursor.invariant set
+    c.in-Some.is c.in_ok-set.ensures.read in (
+      set_read c.args.flags.now c.loop-cursor.flags c.in-Some.set (map meaning c.loop-cursor.items.items)
+          c.loop-cursor.invariant.0 set,
+      λ k h. subst (λ o. MatchOption o
+          (IsStop (rest c.loop-cursor.cursor) ⊎ FromAtom k c.loop-cursor.flags (rest c.loop-cursor.cursor))
+          (λ g. FromItem k g (rest c.setting.new.cursor))) c.in-Some.is
+          (c.in_ok-set.ensures.whole k (c.loop-cursor.invariant.1 k h)),
+    )
+
+pub items-returns-in_err-set-clause-whole : goal.items-returns-in_err-set-clause-whole
+items-returns-in_err-set-clause-whole t c k h =
+    passed_on _ c.from_residual.result c.in_err-set.field-0.0 c.from_residual.ensures.1
+    (c.in_err-set.ensures.whole k (c.loop-cursor.invariant.1 k h))
 
 pub items-loop-cursor-preserved : goal.items-loop-cursor-preserved
 items-loop-cursor-preserved t c =
     let same : c.setting.new.cursor ≡ c.loop-cursor.cursor =
     subst (λ o. IfNone o (c.setting.new.cursor ≡ c.loop-cursor.cursor)) c.in_default.is c.in_ok-set.ensures.none in
     let read = subst (λ y. Part (rest y) (rest c.repeated.new.cursor)
-    (λ v. (e : Bool) × Repeated c.loop-cursor.flags e (meaning c.in_ok-item.item) v)) same c.in_ok-item.ensures.read in
-    item_read c.args.flags.now c.loop-cursor.flags c.loop-cursor.items.items c.push.new.self.items c.in_ok-item.item
-    c.loop-cursor.invariant read c.in_ok-push.ensures.items
+    (λ v. (e : Bool) × Repeated c.loop-cursor.flags e (meaning c.in_ok-item.item) v)) same c.in_ok-item.ensures.read in (
+      item_read c.args.flags.now c.loop-cursor.flags c.loop-cursor.items.items c.push.new.self.items c.in_ok-item.item
+          c.loop-cursor.invariant.0 read c.in_ok-push.ensures.items,
+      λ k h. let atom : FromAtom k c.loop-cursor.flags (rest c.loop-cursor.cursor) =
+          by_cases (subst (λ o. MatchOption o
+          (IsStop (rest c.loop-cursor.cursor) ⊎ FromAtom k c.loop-cursor.flags (rest c.loop-cursor.cursor))
+          (λ g. FromItem k g (rest c.setting.new.cursor))) c.in_default.is
+          (c.in_ok-set.ensures.whole k (c.loop-cursor.invariant.1 k h)))
+          (λ stop. absurd (c.is_branch_end.ensures.other c.if-is_branch_end.false stop)) (λ atom. atom) in
+          c.in_ok-item.ensures.whole k (subst (λ y. FromAtom k c.loop-cursor.flags (rest y)) (sym same) atom),
+    )
 
 pub repeated-loop-bounds-init : goal.repeated-loop-bounds-init
 repeated-loop-bounds-init t c =
@@ -105,6 +146,7 @@ repeated-loop-bounds-init t c =
       renamed (Atom f re) (λ v. (e : Bool) × Repeated f e re v × (e ≡ true → IsNotAt 0x3F c.atom.new.cursor))
           c.in_ok-pattern.ensures.read (λ v h. (false, once f re v h, λ e. absurd (cc))),
       c.in_ok-pattern.ensures.progress,
+      λ k h. (false, c.in_ok-pattern.ensures.whole k h),
     )
 
 pub repeated-loop-bounds-preserved : goal.repeated-loop-bounds-preserved
@@ -126,4 +168,103 @@ repeated-loop-bounds-preserved t c =
           c.take.ensures.read (λ e. ap rest (c.take.ensures.left e)) c.take.ensures.other
           (c.in_ok-pattern-2.ensures ∙ ap (λ x. repeated b.min b.max x re) c.is_greedy-greedy.ensures),
       omega arith,
+      λ k h. let x = c.loop-bounds.invariant.2 k h in
+          operator_taken k c.args.flags (rest c.operator.new.cursor) (rest c.take.new.self)
+          (subst (λ o. MatchOption o (FromItem k c.args.flags (rest c.operator.new.cursor))
+          (λ b. AfterOperator k c.args.flags (rest c.operator.new.cursor))) c.in-Some.is
+          (c.in_ok-bounds.ensures.whole k c.args.flags x.0 x.1)) c.take.result c.take.ensures.read
+          (λ e. ap rest (c.take.ensures.left e)) c.take.ensures.other,
     )
+
+pub repeated-returns-in_err-pattern-clause-whole : goal.repeated-returns-in_err-pattern-clause-whole
+repeated-returns-in_err-pattern-clause-whole t c k h =
+    passed_on _ c.from_residual.result c.in_err-pattern.field-0.0 c.from_residual.ensures.1 (c.in_err-pattern.ensures.whole k h)
+
+pub repeated-returns-in_err-bounds-clause-whole : goal.repeated-returns-in_err-bounds-clause-whole
+repeated-returns-in_err-bounds-clause-whole t c k h =
+    let x = c.loop-bounds.invariant.2 k h in
+    passed_on _ c.from_residual-in_err-bounds.result c.in_err-bounds.field-0.0 c.from_residual-in_err-bounds.ensures.1
+    (c.in_err-bounds.ensures.whole k c.args.flags x.0 x.1)
+
+pub repeated-returns-clause-whole : goal.repeated-returns-clause-whole
+repeated-returns-clause-whole t c k h =
+    let x = c.loop-bounds.invariant.2 k h in
+    subst (λ o. MatchOption o (FromItem k c.args.flags (rest c.operator.new.cursor))
+    (λ b. AfterOperator k c.args.flags (rest c.operator.new.cursor))) c.in_default.is
+    (c.in_ok-bounds.ensures.whole k c.args.flags x.0 x.1)
+
+pub group-returns-then-not-take-clause-whole : goal.group-returns-then-not-take-clause-whole
+group-returns-then-not-take-clause-whole t c k h =
+    let o = c.in_ok-opening.ensures.whole k h in
+    let x = c.in_ok-sub.ensures.whole (c.args.flags ∷ k) o in
+    group_unclosed k c.args.flags x.0 (rest c.choice.new.cursor) x.1 x.2 (c.take.ensures.other c.if-not-take.true)
+
+pub group-returns-in_err-opening-clause-whole : goal.group-returns-in_err-opening-clause-whole
+group-returns-in_err-opening-clause-whole t c k h =
+    passed_on _ c.from_residual.result c.in_err-opening.field-0.0 c.from_residual.ensures.1 (c.in_err-opening.ensures.whole k h)
+
+pub group-returns-in_err-sub-clause-whole : goal.group-returns-in_err-sub-clause-whole
+group-returns-in_err-sub-clause-whole t c k h =
+    passed_on _ c.from_residual-in_err-sub.result c.in_err-sub.field-0.0 c.from_residual-in_err-sub.ensures.1
+    (c.in_err-sub.ensures.whole (c.args.flags ∷ k) (c.in_ok-opening.ensures.whole k h))
+
+pub group-returns-then-opening-clause-whole : goal.group-returns-then-opening-clause-whole
+group-returns-then-opening-clause-whole t c k h =
+    let x = c.in_ok-sub.ensures.whole (c.args.flags ∷ k) (c.in_ok-opening.ensures.whole k h) in
+    group_closed k c.args.flags x.0 (rest c.choice.new.cursor) (rest c.take.new.self) x.1 (c.take.ensures.read c.if-not-take.false)
+
+pub group-returns-clause-whole : goal.group-returns-clause-whole
+group-returns-clause-whole t c k h =
+    let x = c.in_ok-sub.ensures.whole (c.args.flags ∷ k) (c.in_ok-opening.ensures.whole k h) in
+    group_closed k c.args.flags x.0 (rest c.choice.new.cursor) (rest c.take.new.self) x.1 (c.take.ensures.read c.if-not-take.false)
+
+pub atom-returns-then-take-clause-whole : goal.atom-returns-then-take-clause-whole
+atom-returns-then-take-clause-whole t c k h =
+    c.group.ensures.whole k (subst (FromAtom k c.args.flags) (c.take.ensures.read c.if-take.true) h)
+
+pub atom-returns-then-take-2-clause-whole : goal.atom-returns-then-take-2-clause-whole
+atom-returns-then-take-2-clause-whole t c k h =
+    sign_atom k c.args.flags (rest c.args.cursor.now) h 0x5E (rest c.take-2.new.self)
+    (ap rest (sym (c.take.ensures.left c.if-take.false)) ∙ c.take-2.ensures.read c.if-take-2.true) refl
+
+pub atom-returns-then-take-3-clause-whole : goal.atom-returns-then-take-3-clause-whole
+atom-returns-then-take-3-clause-whole t c k h =
+    sign_atom k c.args.flags (rest c.args.cursor.now) h 0x24 (rest c.take-3.new.self)
+    (ap rest (sym (c.take-2.ensures.left c.if-take-2.false ∙ c.take.ensures.left c.if-take.false))
+    ∙ c.take-3.ensures.read c.if-take-3.true) refl
+
+pub atom-returns-then-take-4-clause-whole : goal.atom-returns-then-take-4-clause-whole
+atom-returns-then-take-4-clause-whole t c k h =
+    sign_atom k c.args.flags (rest c.args.cursor.now) h 0x2E (rest c.take-4.new.self)
+    (ap rest (sym (c.take-3.ensures.left c.if-take-3.false ∙ c.take-2.ensures.left c.if-take-2.false
+    ∙ c.take.ensures.left c.if-take.false)) ∙ c.take-4.ensures.read c.if-take-4.true) refl
+
+pub atom-returns-then-take-5-clause-whole : goal.atom-returns-then-take-5-clause-whole
+atom-returns-then-take-5-clause-whole t c k h =
+    let start = c.take-4.ensures.left c.if-take-4.false ∙ c.take-3.ensures.left c.if-take-3.false
+    ∙ c.take-2.ensures.left c.if-take-2.false ∙ c.take.ensures.left c.if-take.false in
+    c.escaped_atom.ensures.whole k
+    (subst (FromAtom k c.args.flags) (ap rest (sym start) ∙ c.take-5.ensures.read c.if-take-5.true) h)
+
+pub atom-returns-then-take-6-clause-whole : goal.atom-returns-then-take-6-clause-whole
+atom-returns-then-take-6-clause-whole t c k h =
+    let start = c.take-5.ensures.left c.if-take-5.false ∙ c.take-4.ensures.left c.if-take-4.false
+    ∙ c.take-3.ensures.left c.if-take-3.false ∙ c.take-2.ensures.left c.if-take-2.false ∙ c.take.ensures.left c.if-take.false in
+    c.bracket.ensures.whole k
+    (subst (FromAtom k c.args.flags) (ap rest (sym start) ∙ c.take-6.ensures.read c.if-take-6.true) h)
+
+pub items-returns-clause-whole : goal.items-returns-clause-whole
+items-returns-clause-whole t c k h = (c.loop-cursor.invariant.1 k h, c.is_branch_end.ensures.end c.if-is_branch_end.true)
+
+pub items-returns-in_err-item-clause-whole : goal.items-returns-in_err-item-clause-whole
+items-returns-in_err-item-clause-whole t c k h =
+    let same : c.setting.new.cursor ≡ c.loop-cursor.cursor =
+    subst (λ o. IfNone o (c.setting.new.cursor ≡ c.loop-cursor.cursor)) c.in_default.is c.in_ok-set.ensures.none in
+    let atom : FromAtom k c.loop-cursor.flags (rest c.loop-cursor.cursor) =
+    by_cases (subst (λ o. MatchOption o
+    (IsStop (rest c.loop-cursor.cursor) ⊎ FromAtom k c.loop-cursor.flags (rest c.loop-cursor.cursor))
+    (λ g. FromItem k g (rest c.setting.new.cursor))) c.in_default.is
+    (c.in_ok-set.ensures.whole k (c.loop-cursor.invariant.1 k h)))
+    (λ stop. absurd (c.is_branch_end.ensures.other c.if-is_branch_end.false stop)) (λ atom. atom) in
+    passed_on _ c.from_residual-in_err-item.result c.in_err-item.field-0.0 c.from_residual-in_err-item.ensures.1
+    (c.in_err-item.ensures.whole k (subst (λ y. FromAtom k c.loop-cursor.flags (rest y)) (sym same) atom))

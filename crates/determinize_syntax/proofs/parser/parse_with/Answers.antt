@@ -1,11 +1,30 @@
-use Rattle.std.proofs.Common.{◌≡◌, ◌∙◌, None, subst, sym}
+use Rattle.std.proofs.Common.{◌≡◌, ◌∙◌, [], None, ap, slice_get, subst, sym, true}
+use Rattle.std.specs.Prelude.{is_some}
 use Rattle.determinize_pattern.specs.Patterns.{meaning}
+use Rattle.determinize_syntax.specs.Private.Following.{FromItem}
+use Rattle.determinize_syntax.specs.Private.Reading.{rest}
 use Rattle.determinize_syntax.specs.Spells.{SpellsUnder}
+use Rattle.determinize_syntax.proofs.Following.{text_follows}
 use Rattle.determinize_syntax.proofs.Parts.{none_of, whole_read}
+use Rattle.determinize_syntax.proofs.Stepping.{error_passed_on, whole_ended}
 use Rattle.determinize_syntax.proofs.parser.parse_with.Goals as goal
 
-pub returns : goal.returns
-returns c =
+pub returns-clause-spells : goal.returns-clause-spells
+returns-clause-spells c =
     let off : c.peek.result ≡ None = none_of c.peek.result (sym c.is_some.ensures ∙ c.if-is_some.false) in
     let spells = SpellsUnder c.args.flags (meaning c.in_ok-pattern.pattern) in
-    record { spells = subst spells c.new-cursor.ensures (whole_read _ _ spells c.in_ok-pattern.ensures.read (sym c.peek.ensures ∙ off)) }
+    subst spells c.new-cursor.ensures (whole_read _ _ spells c.in_ok-pattern.ensures.read (sym c.peek.ensures ∙ off))
+
+pub returns-in_err-pattern-clause-complete : goal.returns-in_err-pattern-clause-complete
+returns-in_err-pattern-clause-complete c re h =
+    error_passed_on c.from_residual.result c.in_err-pattern.field-0.0 c.from_residual.ensures.1
+    (c.in_err-pattern.ensures.whole [] (subst (FromItem [] c.args.flags) (sym c.new-cursor.ensures)
+    (text_follows c.args.flags re c.args.text.now h)))
+
+pub returns-then-is_some-clause-complete : goal.returns-then-is_some-clause-complete
+returns-then-is_some-clause-complete c re h =
+    let x = c.in_ok-pattern.ensures.whole [] (subst (FromItem [] c.args.flags) (sym c.new-cursor.ensures)
+    (text_follows c.args.flags re c.args.text.now h)) in
+    let off : c.peek.result ≡ None = c.peek.ensures ∙ ap (λ l. slice_get l 0) (whole_ended x.0 (rest c.choice.new.cursor) x.1 x.2) in
+    let never : is_some c.peek.result ≡ true = sym c.is_some.ensures ∙ c.if-is_some.true in
+    absurd (cc)

@@ -1,0 +1,16 @@
+use Rattle.std.proofs.Common.{◌∙◌, inl, sym}
+use Rattle.determinize_syntax.specs.Private.Reading.{rest}
+use Rattle.determinize_syntax.proofs.Parts.{at_end}
+use Rattle.determinize_syntax.proofs.Stepping.{no_stop, stop_here}
+use Rattle.determinize_syntax.proofs.parser.is_branch_end.Goals as goal
+
+pub returns-in-None-clause-end : goal.returns-in-None-clause-end
+returns-in-None-clause-end c e = inl (inl (at_end (rest c.args.cursor.now) (sym c.peek.ensures ∙ c.in-None.is)))
+
+pub returns-in-Some-clause-end : goal.returns-in-Some-clause-end
+returns-in-Some-clause-end c e =
+    stop_here (rest c.args.cursor.now) c.in-Some.next (sym c.peek.ensures ∙ c.in-Some.is) (sym c.ends_branch.ensures ∙ e)
+
+pub returns-in-Some-clause-other : goal.returns-in-Some-clause-other
+returns-in-Some-clause-other c e stop =
+    no_stop (rest c.args.cursor.now) c.in-Some.next (sym c.peek.ensures ∙ c.in-Some.is) (sym c.ends_branch.ensures ∙ e) stop
