@@ -1,7 +1,7 @@
 -- Flags, settings and openings of groups that may follow.
 -- Main statements: letters_next, letters_end, next_setting, no_setting, opening_next.
 -- Used by: the proofs that the parser rejects no flags and no opening of a group.
--- Idea: the letters of flags are none of the signs that may stand in their place.
+-- Idea: the letters of flags are none of the signs that may be in their place.
 use Rattle.std.proofs.Common.{◌≡◌, ◌∷◌, ◌++◌, ◌∙◌, ◌||◌, ◌==◌, ◌⊎◌, [], ap, inl, inr, Bool, List, None, Some, false, refl, slice_get, subst, sym, true, ℕ}
 use Rattle.std.specs.Prelude.{codes}
 use Rattle.std.specs.List.{list_any}

@@ -258,7 +258,7 @@ braces_some e u r q x closes =
     let same : 0x7D ≡ b.0 = heads 0x7D b.0 q (b.1 ++ 0x7D ∷ u) (sym closes ∙ x.1.1 ∙ ap (λ l. l ++ 0x7D ∷ u) b.2) in
     let never : false ≡ true = subst (λ y. is_digit y 16 ≡ true) (sym same) b.3 in absurd (cc)
 
--- the letters of escapes are told apart
+-- the letters of escapes differ
 no_perl : {A : Type 0} (c : ℕ) (k : Set) → perl_class c ≡ Some k → (c ∈ "dDwWsS") ≡ false → A
 no_perl c k e none =
     by_test (c ∈ "d") (λ t. listed "d" t refl)
