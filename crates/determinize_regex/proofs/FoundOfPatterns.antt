@@ -3,13 +3,13 @@
 -- Used by: `laws::matches_of_law`.
 -- Idea: after the usual prefix the two starts differ, so the last position where a match may begin depends on the input
 -- only; all matches are those of one relation for one input, so equal relations have equal lists.
-use Rattle.std.proofs.Common.{◌≡◌, ◌-◌, ◌↔◌, ◌∷◌, ℕ, List, None, Option, Some, [], cond, refl}
+use Rattle.std.proofs.Common.{◌≡◌, ◌∷◌, ℕ, List, None, Option, Some, [], cond, refl}
 use Rattle.determinize_below.specs.Search.{Asked}
 use Rattle.determinize_below.specs.Semantics.{Nfa}
 use Rattle.determinize_below.specs.declared.search.Anchored.{Anchored}
 use Rattle.determinize_below.specs.declared.search.Anchored.TheVariants.{No, Pattern, Yes}
 use Rattle.determinize_below.specs.declared.search.Match.{Match}
-use Rattle.determinize_find.specs.LeftmostIn.{IsLeftmostIn, is_anchored, latest}
+use Rattle.determinize_find.specs.LeftmostIn.{IsLeftmostIn, is_anchored}
 use Rattle.determinize_find.specs.Matches.{AreMatchesBy, IsNextBy, IsTakenBy, from}
 use Rattle.determinize_find.proofs.leftmost.TwoSearches.{starts_differ}
 use Rattle.determinize_nfa.specs.Prefix.{HasPrefix}

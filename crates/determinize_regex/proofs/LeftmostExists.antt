@@ -3,7 +3,7 @@
 -- Used by: `is_match` of `Regex` and of `Matcher`.
 -- Idea: the positions are tried in turn, and each has a list of ends, which is empty or has a first one.
 use Rattle.std.specs.Prelude.{option_map, slice_get}
-use Rattle.std.proofs.Common.{◌≡◌, ◌≤◌, ◌<◌, ◌-◌, ◌∙◌, ◌∷◌, ◌⊎◌, ℕ, false, inl, inr, List, None, Option, Some, [], arith, refl, suc, sym, true, zero}
+use Rattle.std.proofs.Common.{◌≡◌, ◌<◌, ◌-◌, ◌∙◌, ◌∷◌, ◌⊎◌, ℕ, false, inl, inr, List, None, Option, Some, [], arith, refl, suc, sym, zero}
 use Rattle.std.proofs.lemmas.Bool.{cases_lt, true≢false}
 use Rattle.determinize_below.specs.Search.{Asked, is_done}
 use Rattle.determinize_below.specs.Semantics.{Text}

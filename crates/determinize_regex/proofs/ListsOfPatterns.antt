@@ -4,14 +4,14 @@
 -- Idea: a run from the unanchored start skips bytes and is then one from the anchored start; fewer skipped bytes are
 -- preferred, and of the runs from one position those that accept an earlier pattern.
 use Rattle.std.specs.Prelude.{All, Contains}
-use Rattle.std.proofs.Common.{◌≡◌, ◌<◌, ◌≤◌, ◌+◌, ◌⊎◌, ◌∷◌, ℕ, List, [], ap, arith, inl, inr, length, refl, suc, sym, zero}
+use Rattle.std.proofs.Common.{◌≡◌, ◌<◌, ◌≤◌, ◌+◌, ◌⊎◌, ◌∷◌, ℕ, List, ap, arith, inl, inr, length, suc, sym, zero}
 use Rattle.std.proofs.lemmas.Bool.{cases_lt}
 use Rattle.determinize_below.specs.Edges.{pattern_in}
 use Rattle.determinize_below.specs.Semantics.{Accepts, IsBestRun, Nfa, Text}
 use Rattle.determinize_core.specs.Walk.{ListsAccepted}
 use Rattle.determinize_find.proofs.leftmost.PreferredRun.{from_start}
 use Rattle.determinize_nfa.proofs.prefixes.AfterPrefix.{IsSkip, shape}
-use Rattle.determinize_nfa.proofs.prefixes.Skips.{pass, skip, skip_before}
+use Rattle.determinize_nfa.proofs.prefixes.Skips.{skip, skip_before}
 use Rattle.determinize_nfa.proofs.runs.Choices.{true_at}
 use Rattle.determinize_nfa.specs.Prefix.{HasPrefix}
 use Rattle.determinize_nfa.specs.Runs.{AcceptsFrom}

@@ -1,14 +1,19 @@
 -- Texts that are read one after the other.
--- Main statements: spells_one_more.
+-- Main statements: spells_one_more, rejects_at.
 -- Used by: `parse_all`.
 -- Idea: the texts so far, and the next one, are those up to the place after it.
-use Rattle.std.proofs.Common.{◌≡◌, ◌+◌, ◌++◌, ◌∷◌, ◌<◌, ℕ, List, [], length, map, take}
+use Rattle.std.proofs.Common.{◌≡◌, ◌+◌, ◌++◌, ◌∙◌, ◌∷◌, ◌<◌, ℕ, List, [], length, map, sym, take, true}
 use Rattle.std.proofs.Math.ListN.{get_or}
+use Rattle.std.proofs.lemmas.Bool.{true≢false}
 use Rattle.std.proofs.lemmas.List.{map-append, take_more}
+use Rattle.std.proofs.lemmas.Option.{slice_get-get_or, slice_get-map}
+use Rattle.determinize_pattern.specs.Meaning.{Re}
 use Rattle.determinize_pattern.specs.Patterns.{meaning}
 use Rattle.determinize_pattern.specs.declared.pattern.Pattern.{Pattern}
-use Rattle.determinize_regex.specs.Spelled.{AreSpelled, one_more}
-use Rattle.determinize_syntax.specs.Spells.{SpellsUnder}
+use Rattle.determinize_regex.specs.Spelled.{AreSpelled, IsRejected, one_more}
+use Rattle.determinize_regex.specs.declared.error.Error.TheVariants.{Parse}
+use Rattle.determinize_syntax.specs.Spells.{SpellsUnder, is_limit}
+use Rattle.determinize_syntax.specs.declared.error.ParseError.{ParseError}
 use Rattle.determinize_syntax.specs.declared.flags.Flags.{Flags}
 
 module _ {T : Type 0} (bytes : T → List ℕ) (flags : Flags) where
@@ -24,3 +29,11 @@ module _ {T : Type 0} (bytes : T → List ℕ) (flags : Flags) where
     map-append bytes (take i texts) (get_or texts i d ∷ []),
   )
       (one_more _ _ _ _ so_far next)
+
+  -- the error of the text at an index
+  pub rejects_at : (texts : List T) (i : ℕ) (d : T) (e : ParseError) → i < length texts
+      → ((re : Re) → SpellsUnder flags re (bytes (get_or texts i d)) → is_limit e.kind ≡ true)
+      → IsRejected flags (map bytes texts) (Parse i e)
+  rejects_at texts i d e inside limited =
+      rw (slice_get-map bytes texts i, slice_get-get_or texts i d inside)
+      (λ fault re denotes. true≢false (sym (limited re denotes) ∙ fault))

@@ -1,5 +1,7 @@
 //! Errors of `Regex::new`.
 
+ghost use Rattle.determinize_regex.specs.Spelled.{IsOfCompile};
+
 use determinize_below::BuildError;
 use determinize_pattern::CompileError;
 use determinize_syntax::ParseError;
@@ -27,18 +29,24 @@ impl fmt::Display for Error {
 impl error::Error for Error {}
 
 impl From<CompileError> for Error {
+    ghost from_gives = { λ _ e. IsOfCompile e };
+
     fn from(error: CompileError) -> Error {
         Error::Compile(error)
     }
 }
 
 impl From<AllocError> for Error {
+    ghost from_gives = { λ _ e. IsOfCompile e };
+
     fn from(error: AllocError) -> Error {
         Error::Compile(CompileError::from(error))
     }
 }
 
 impl<T: Drop> From<AllocFailed<T>> for Error {
+    ghost from_gives = { λ _ e. IsOfCompile e };
+
     fn from(error: AllocFailed<T>) -> Error {
         Error::Compile(CompileError::from(error))
     }

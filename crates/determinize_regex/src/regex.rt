@@ -1,6 +1,6 @@
 //! Patterns that are compiled once, and searched for.
 
-ghost use Rattle.std.specs.Prelude.{◌≡◌, ◌≤◌, ◌∷◌, [], IfOk, map, false, true};
+ghost use Rattle.std.specs.Prelude.{◌≡◌, ◌≤◌, ◌∷◌, [], IfErr, IfOk, map, false, true};
 ghost use Rattle.std.specs.Bool.{Decides};
 ghost use Rattle.std.specs.Option.{IfSome};
 ghost use Rattle.determinize_engine.specs.Searches.{has_start};
@@ -9,7 +9,7 @@ ghost use Rattle.determinize_pattern.specs.Compiled.{IsNfaOf};
 ghost use Rattle.determinize_pattern.specs.Patterns.{meaning};
 ghost use Rattle.determinize_regex.specs.Parts.{AreParts, AreUtf8Parts, IsReplaced, IsReplacedUtf8};
 ghost use Rattle.determinize_regex.specs.Regexes.{AreAll, HasFirst, IsFirst};
-ghost use Rattle.determinize_regex.specs.Spelled.{AreSpelled};
+ghost use Rattle.determinize_regex.specs.Spelled.{AreSpelled, IsRejected};
 ghost use Rattle.determinize_regex.specs.Streams.{IsStreamOf};
 ghost use Rattle.determinize_syntax.specs.Words.{no_flags};
 
@@ -100,6 +100,7 @@ impl Regex {
     pub fn new(alloc: Global, pattern: &str) -> Result<Regex, Error>
         ensures spelled { IfOk result
             (λ regex. AreSpelled no_flags (map meaning regex.patterns) (pattern.now ∷ [])) }
+        ensures rejected { IfErr result (λ e. IsRejected no_flags (pattern.now ∷ []) e) }
         ensures terminator { IfOk result (λ regex. regex.terminator ≡ 10) }
         ensures limit { IfOk result (λ regex. regex.limit ≡ 10000) }
     {
@@ -113,6 +114,8 @@ impl Regex {
     pub fn new_many(alloc: Global, patterns: &[&str], config: RegexConfig) -> Result<Regex, Error>
         ensures spelled { IfOk result (λ regex.
             AreSpelled config.flags (map meaning regex.patterns) (map (λ t. t.now) patterns.now)) }
+        ensures rejected { IfErr result
+            (λ e. IsRejected config.flags (map (λ t. t.now) patterns.now) e) }
         ensures terminator { IfOk result
             (λ regex. regex.terminator ≡ config.compile.look_matcher) }
         ensures limit { IfOk result (λ regex. regex.limit ≡ config.cache_limit) }
@@ -289,8 +292,9 @@ impl Regex {
 
 /// Returns the patterns of texts.
 fn parse_all(alloc: Global, texts: &[&str], flags: Flags) -> Result<Vec<Pattern>, Error>
-    ensures { IfOk result (λ patterns.
+    ensures spelled { IfOk result (λ patterns.
         AreSpelled flags (map meaning patterns.items) (map (λ t. t.now) texts.now)) }
+    ensures rejected { IfErr result (λ e. IsRejected flags (map (λ t. t.now) texts.now) e) }
 {
     let mut patterns = Vec::new(alloc);
     for i in 0..texts.len() {

@@ -1,6 +1,6 @@
 use Rattle.std.proofs.Common.{rules}
 use Rattle.determinize_regex.specs.Spelled as spelled
-use Rattle.determinize_regex.proofs.Spelling.{spells_one_more}
+use Rattle.determinize_regex.proofs.Spelling.{rejects_at, spells_one_more}
 use Rattle.determinize_regex.proofs.regex.parse_all.Goals as goal
 
 pub loop-i-init : goal.loop-i-init
@@ -9,3 +9,7 @@ loop-i-init c = rw c.new-patterns.ensures.items spelled.none
 pub loop-i-preserved : goal.loop-i-preserved
 loop-i-preserved c = spells_one_more (λ t. t.now) c.args.flags c.loop-i.patterns.items c.push.new.self.items c.in-Ok.pattern
     c.args.texts.now c.loop-i.i _ c.loop-i-test.true (search rules) c.loop-i.invariant c.in-Ok.ensures.spells
+
+pub returns-in-Err-clause-rejected : goal.returns-in-Err-clause-rejected
+returns-in-Err-clause-rejected c = rejects_at (λ t. t.now) c.args.flags c.args.texts.now c.loop-i.i _ c.in-Err.error
+    c.loop-i-test.true c.in-Err.ensures.complete
