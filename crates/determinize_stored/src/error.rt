@@ -18,7 +18,8 @@ pub enum FormatErrorKind {
     LineTerminator,
     /// There are more than 256 classes of bytes.
     ClassCount,
-    /// The bytes are too few or too many. The offset is where they end, or where they should.
+    /// The bytes are too few or too many. The offset is where they should end or, if they are too
+    /// few, that of the first number that is not there in full.
     Length,
     /// The class of a byte is none of the classes.
     Class,

@@ -9,7 +9,6 @@ ghost use Rattle.determinize_stored.specs.Reading.{IsStop};
 use crate::error::{FormatError, FormatErrorKind};
 use crate::words::Words;
 use determinize_below::{MAX_ID, MatchKind};
-use determinize_core::start::Start;
 use determinize_dense::bytes::{MAGIC, VERSION};
 
 /// The number of numbers in the head.

@@ -47,8 +47,10 @@ impl<'b> Model for StoredDfa<'b> {
 impl<'b> StoredDfa<'b> {
     /// Returns the DFA that bytes are. Reads all of them once, and allocates nothing.
     ///
-    /// Any bytes may be passed. An error says what is wrong with them, and where: the first number
-    /// that is wrong, but that the bytes are too long is said after all else.
+    /// Any bytes may be passed. An error says what is wrong with them, and where. The head is
+    /// checked first, then whether the bytes reach to the lists of patterns, then classes, starts,
+    /// entries and the ends of lists in turn, then whether as many patterns follow as the last end
+    /// says, then the patterns, and last whether one to three bytes are left.
     pub fn from_bytes(bytes: &'b [u8]) -> Result<StoredDfa<'b>, FormatError>
         ensures file { IfOk result (λ dfa. bytes.now ≡ file_of dfa) }
         ensures whole { IfOk result (λ dfa. IsWhole dfa) }
@@ -197,7 +199,7 @@ impl<'b> StoredDfa<'b> {
     }
 
     /// Returns whether a row is row 0 and no match follows it: it lists no pattern, and row 0
-    /// follows it over each unit. So it is in what a `Dfa` wrote.
+    /// follows it over each unit. It is in the tests of what a `Dfa` wrote.
     #[inline(always)]
     pub fn is_dead_state(&self, row: RowId) -> bool
         ensures value { Decides result ((row ≡ 0) × IsStop self.now.table) }
