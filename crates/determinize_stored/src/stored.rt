@@ -49,8 +49,8 @@ impl<'b> StoredDfa<'b> {
     ///
     /// Any bytes may be passed. An error says what is wrong with them, and where. The head is
     /// checked first, then whether the bytes reach to the lists of patterns, then classes, starts,
-    /// entries and the ends of lists in turn, then whether as many patterns follow as the last end
-    /// says, then the patterns, and last whether one to three bytes are left.
+    /// entries and the ends of lists in turn, then whether the last end is the number of patterns
+    /// that follow, then the patterns, and last whether one to three bytes are left.
     pub fn from_bytes(bytes: &'b [u8]) -> Result<StoredDfa<'b>, FormatError>
         ensures file { IfOk result (λ dfa. bytes.now ≡ file_of dfa) }
         ensures whole { IfOk result (λ dfa. IsWhole dfa) }
