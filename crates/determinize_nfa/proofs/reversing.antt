@@ -1,4 +1,3 @@
-pub mod Arcs
 pub mod BothWays
 pub mod Counts
 pub mod FoundStates
@@ -8,5 +7,4 @@ pub mod Recorded
 pub mod RecordedStates
 pub mod StatesById
 pub mod Steps
-pub mod TableRuns
 pub mod Validation

@@ -1,4 +1,5 @@
 pub mod AnyByte
+pub mod Arcs
 pub mod Closed
 pub mod Gathered
 pub mod Turning

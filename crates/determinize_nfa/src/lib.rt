@@ -7,6 +7,7 @@
 //! - [`laws`] are laws of runs that callers may use in addition to the contracts.
 #![tactic(auto)]
 
+mod arcs;
 pub mod builder;
 pub mod laws;
 pub mod prefix;

@@ -1,12 +1,14 @@
 //! The states of an NFA that its anchored start reaches.
 
-ghost use Rattle.std.specs.Prelude.{◌≡◌, ◌<◌, ◌≤◌, [], All, IfOk, length, map, nat_eq, not, slice_get, true};
-ghost use Rattle.std.specs.List.{IsDistinct, filter};
-ghost use Rattle.determinize_below.specs.Nfa.{AllResolve, resolves};
+ghost use Rattle.std.specs.Prelude.{◌≡◌, ◌<◌, ◌≤◌, [], IfOk, length, nat_eq, slice_get, true};
+ghost use Rattle.std.specs.List.{IsDistinct};
+ghost use Rattle.determinize_below.specs.Nfa.{AllResolve, is_dense_sound, resolves};
 ghost use Rattle.determinize_below.specs.Node.{node_of};
-ghost use Rattle.determinize_nfa.specs.Private.Closed.{IsClosed, all_visited, targets_in, visited};
+ghost use Rattle.determinize_nfa.specs.Private.Arcs.{targets_in};
+ghost use Rattle.determinize_nfa.specs.Private.Closed.{IsClosed, all_visited, visited};
 
-use determinize_below::nfa::{State, Transition};
+use crate::arcs::arcs_of;
+use determinize_below::nfa::State;
 use determinize_below::{ID_LIMIT, NFA, SparseSet, StateID};
 use std::alloc::{AllocError, Allocator};
 
@@ -18,60 +20,16 @@ fn visit<A: Allocator>(found: &mut SparseSet<A>, id: StateID)
     found.insert(id);
 }
 
-/// Adds each of these states if it is new.
-fn visit_all<A: Allocator>(found: &mut SparseSet<A>, ids: &[StateID])
-    requires { All (λ id. id < found.old.capacity) ids.now }
-    ensures { found.new ≡ record found.old { ids = all_visited found.old.ids ids.now } }
-{
-    for id in ids {
-        visit(found, *id);
-    }
-}
-
-/// Adds the target of each of these transitions if it is new.
-fn visit_ranges<A: Allocator>(found: &mut SparseSet<A>, ranges: &[Transition])
-    requires { All (λ r. r.next < found.old.capacity) ranges.now }
-    ensures { found.new ≡ record found.old {
-      ids = all_visited found.old.ids (map (λ r. r.next) ranges.now);
-    } }
-{
-    for range in ranges {
-        visit(found, range.next);
-    }
-}
-
-/// Adds each target of a dense state if it is new.
-fn visit_table<A: Allocator>(found: &mut SparseSet<A>, targets: &[StateID])
-    requires { All (λ id. id < found.old.capacity) targets.now }
-    ensures { found.new ≡ record found.old {
-      ids = all_visited found.old.ids (filter (λ id. not (nat_eq id 0)) targets.now);
-    } }
-{
-    for id in targets {
-        if *id != StateID::ZERO {
-            visit(found, *id);
-        }
-    }
-}
-
 /// Adds each state that a state has a transition to if it is new.
 fn visit_targets<N: Allocator, A: Allocator>(found: &mut SparseSet<A>, state: &State<N>)
-    requires { resolves found.old.capacity (node_of state.now) ≡ true }
+    requires resolves { resolves found.old.capacity (node_of state.now) ≡ true }
+    requires whole { is_dense_sound (node_of state.now) ≡ true }
     ensures { found.new ≡ record found.old {
       ids = all_visited found.old.ids (targets_in (node_of state.now));
     } }
 {
-    match state {
-        State::ByteRange { trans } => visit(found, trans.next),
-        State::Sparse(sparse) => visit_ranges(found, sparse.transitions.as_slice()),
-        State::Dense(dense) => visit_table(found, dense.transitions.as_slice()),
-        State::Look { next, .. } | State::Capture { next } => visit(found, *next),
-        State::Union { alternates } => visit_all(found, alternates.as_slice()),
-        State::BinaryUnion { alt1, alt2 } => {
-            visit(found, *alt1);
-            visit(found, *alt2)
-        }
-        State::Fail | State::Match { .. } => {}
+    for arc in arcs_of(state) {
+        visit(found, arc.next());
     }
 }
 

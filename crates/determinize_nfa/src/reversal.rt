@@ -7,20 +7,20 @@
 ghost use Rattle.std.specs.Prelude.{◌≡◌, ◌+◌, ◌++◌, ◌<◌, ◌≤◌, ◌∷◌, [], All, IfErr, IfOk, OnOk, length, map, nat_eq, true};
 ghost use Rattle.std.specs.List.{IsDistinct, filter};
 ghost use Rattle.determinize_below.specs.Edges.{is_match_node};
-ghost use Rattle.determinize_below.specs.Look as looks;
 ghost use Rattle.determinize_below.specs.Nfa.{AllResolve, is_dense_sound, resolves};
 ghost use Rattle.determinize_below.specs.Semantics as nodes;
 ghost use Rattle.determinize_below.specs.Node.{node_of};
+ghost use Rattle.determinize_nfa.specs.Private.Arcs.{next_of};
 ghost use Rattle.determinize_nfa.specs.Private.Gathered as states;
 ghost use Rattle.determinize_nfa.specs.Private.Turning.{IsTurnedOver};
 ghost use Rattle.determinize_nfa.specs.Private.Turning as turning;
-ghost use Rattle.determinize_nfa.specs.Reversal as reversals;
-ghost use Rattle.determinize_nfa.specs.Reversal.{IsReverseOf, IsTooLarge, most_states, reads_in};
+ghost use Rattle.determinize_nfa.specs.Reversal.{IsReverseOf, IsTooLarge, most_states};
 
+use crate::arcs::{Arc, arcs_of};
 use crate::builder::push_state;
 use crate::reached::reached;
 use determinize_below::nfa::{BuildError, State, Transition};
-use determinize_below::{ID_LIMIT, Look, NFA, PatternID, StateID};
+use determinize_below::{ID_LIMIT, NFA, PatternID, StateID};
 use std::alloc::{AllocError, Allocator};
 use std::marker::Model;
 
@@ -90,111 +90,31 @@ impl<A: Allocator + Copy> Turned<A> {
         self.add(from, id)
     }
 
-    /// Adds the transition over a range of bytes, reversed.
-    fn add_range(&mut self, state: StateID, range: Transition) -> Result<(), BuildError>
-        requires next { range.next < length self.old.into }
+    /// Adds a transition of a state, reversed.
+    fn add_arc(&mut self, state: StateID, arc: Arc) -> Result<(), BuildError>
+        requires next { next_of arc < length self.old.into }
         requires small { length self.old.into ≤ ID_LIMIT }
-        ensures turned { OnOk result
-            (self.new ≡ turning.with_state self.old range.next (turning.range_to state range)) }
+        ensures turned { OnOk result (self.new ≡ turning.with_arc self.old state arc) }
         ensures err { IfErr result (λ e.
-            IsTooLarge (turning.total self.old + 1) e) }
+            IsTooLarge (turning.total (turning.with_arc self.old state arc)) e) }
     {
-        let Transition { start, end, next } = range;
-        let trans = Transition {
-            start,
-            end,
-            next: state,
-        };
-        self.add_state(next, State::ByteRange { trans })
-    }
-
-    /// Adds the transition where an assertion holds, reversed.
-    fn add_look(&mut self, state: StateID, look: Look, next: StateID) -> Result<(), BuildError>
-        requires next { next < length self.old.into }
-        requires small { length self.old.into ≤ ID_LIMIT }
-        ensures turned { OnOk result (self.new
-            ≡ turning.with_state self.old next (nodes.Look (looks.reversed look) state)) }
-        ensures err { IfErr result (λ e.
-            IsTooLarge (turning.total self.old + 1) e) }
-    {
-        let (look, from) = (look.reversed(), next);
-        self.add_state(from, State::Look { look, next: state })
-    }
-
-    /// Adds the transitions of a sparse state, reversed.
-    fn add_ranges(&mut self, state: StateID, ranges: &[Transition]) -> Result<(), BuildError>
-        requires next { All (λ r. r.next < length self.old.into) ranges.now }
-        requires small { length self.old.into ≤ ID_LIMIT }
-        ensures turned { OnOk result (self.new ≡ turning.with_ranges self.old state ranges.now) }
-        ensures err { IfErr result (λ e.
-            IsTooLarge (turning.total self.old + length ranges.now) e) }
-    {
-        for range in ranges {
-            self.add_range(state, *range)?;
-        }
-        Ok(())
-    }
-
-    /// Adds the transitions of a dense state, reversed: one for each run of bytes with one target.
-    fn add_table(&mut self, state: StateID, targets: &[StateID]) -> Result<(), BuildError>
-        requires next { All (λ id. id < length self.old.into) targets.now }
-        requires whole { length targets.now ≡ 256 }
-        requires small { length self.old.into ≤ ID_LIMIT }
-        ensures turned { OnOk result
-            (self.new ≡ turning.with_ranges self.old state (turning.runs 0 0 targets.now)) }
-        ensures err { IfErr result (λ e.
-            IsTooLarge (turning.total self.old + reads_in (nodes.Dense targets.now)) e) }
-    {
-        let mut start = 0;
-        for (byte, next) in targets.iter().enumerate() {
-            if is_first(*next, &targets[byte + 1..]) {
-                continue;
+        match arc {
+            Arc::Range(range) => {
+                let trans = Transition {
+                    next: state,
+                    ..range
+                };
+                self.add_state(range.next, State::ByteRange { trans })
             }
-            if *next != StateID::ZERO {
-                let (start, end, next) = (start as u8, byte as u8, *next);
-                self.add_range(state, Transition { start, end, next })?;
+            Arc::Test(look, next) => {
+                let look = look.reversed();
+                self.add_state(next, State::Look { look, next: state })
             }
-            start = byte + 1;
+            Arc::Free(next) => self.add(next, state),
         }
-        Ok(())
     }
 
-    /// Adds the transitions of a union, reversed.
-    fn add_each(&mut self, state: StateID, alternates: &[StateID]) -> Result<(), BuildError>
-        requires { All (λ id. id < length self.old.into) alternates.now }
-        ensures turned { OnOk result
-            (self.new ≡ turning.with_frees self.old state alternates.now) }
-        ensures err { IfErr result (λ e. e ≡ BuildError.OutOfMemory) }
-    {
-        for next in alternates {
-            self.add(*next, state)?;
-        }
-        Ok(())
-    }
-
-    /// Adds the transitions of a union of two states, reversed.
-    fn add_both(&mut self, state: StateID, alt1: StateID, alt2: StateID) -> Result<(), BuildError>
-        requires first { alt1 < length self.old.into }
-        requires second { alt2 < length self.old.into }
-        ensures turned { OnOk result
-            (self.new ≡ turning.added (turning.added self.old alt1 state) alt2 state) }
-        ensures err { IfErr result (λ e. e ≡ BuildError.OutOfMemory) }
-    {
-        self.add(alt1, state)?;
-        self.add(alt2, state)
-    }
-
-    /// Adds a `Match` state.
-    fn add_end(&mut self, state: StateID) -> Result<(), BuildError>
-        ensures turned { OnOk result
-            (self.new ≡ record self.old { ends = self.old.ends ++ state ∷ [] }) }
-        ensures err { IfErr result (λ e. e ≡ BuildError.OutOfMemory) }
-    {
-        self.ends.push(state)?;
-        Ok(())
-    }
-
-    /// Adds the transitions of a state, reversed.
+    /// Adds the transitions of a state, reversed, and the state itself if it is a `Match`.
     fn add_node<N: Allocator>(&mut self, id: StateID, state: &State<N>) -> Result<(), BuildError>
         requires resolves { resolves (length self.old.into) (node_of state.now) ≡ true }
         requires whole { is_dense_sound (node_of state.now) ≡ true }
@@ -202,19 +122,15 @@ impl<A: Allocator + Copy> Turned<A> {
         ensures turned { OnOk result
             (self.new ≡ turning.with_node self.old id (node_of state.now)) }
         ensures err { IfErr result (λ e.
-            IsTooLarge (turning.total self.old + reads_in (node_of state.now)) e) }
+            IsTooLarge (turning.total (turning.with_node self.old id (node_of state.now))) e) }
     {
-        match state {
-            State::ByteRange { trans } => self.add_range(id, *trans),
-            State::Sparse(sparse) => self.add_ranges(id, sparse.transitions.as_slice()),
-            State::Dense(dense) => self.add_table(id, dense.transitions.as_slice()),
-            State::Look { look, next } => self.add_look(id, *look, *next),
-            State::Union { alternates } => self.add_each(id, alternates.as_slice()),
-            State::BinaryUnion { alt1, alt2 } => self.add_both(id, *alt1, *alt2),
-            State::Capture { next } => self.add(*next, id),
-            State::Fail => Ok(()),
-            State::Match { .. } => self.add_end(id),
+        for arc in arcs_of(state) {
+            self.add_arc(id, arc)?;
         }
+        if let State::Match { .. } = state {
+            self.ends.push(id)?;
+        }
+        Ok(())
     }
 
     /// Adds the transition from `begin` to the anchored start, reversed, and the transitions of
@@ -262,16 +178,6 @@ impl<A: Allocator + Copy> Turned<A> {
         let mut made = gathered_all(alloc, into)?;
         end_states(&mut made, ends, rest)?;
         Ok(made)
-    }
-}
-
-/// Returns whether the list begins with the id.
-fn is_first(id: StateID, ids: &[StateID]) -> bool
-    ensures { result ≡ reversals.is_first id ids.now }
-{
-    match ids.first() {
-        Some(first) => id == *first,
-        None => false,
     }
 }
 

@@ -87,7 +87,7 @@ module _ {V : Type 0} (f : V → Node) (p : Node → Bool) where
   pub none_passes : (xs : List V) → position (λ x. p (f x)) xs ≡ None
       → (s : ℕ) → s < length (map f xs) → p (get_or (map f xs) s Fail) ≡ false
   none_passes xs e s l = by_test (nat_lt n (length (map f xs)))
-      (λ t. absurd (let k : Some n ≡ None = subst (λ w. cond w (Some n) None ≡ None) t none in cc))
+      (λ t. absurd (let k : Some n ≡ None = rw t at none in cc))
       (λ t. let k : length (map f xs) ≤ n = past n (length (map f xs)) t in
       fails_before_first p (map f xs) s Fail (omega arith))
     where
@@ -178,21 +178,19 @@ module _ {V : Type 0} (f : V → Node) (xs ys : List V) (b : BuilderValue) (unio
   pub is_ahead : (start i : ℕ) → found ≡ Some i → IsUnfit b start (UnresolvedId i)
   is_ahead start i p = by_cases
       (one_of (leads_to union (get_or b.states i Fail)) (leads_to skip (get_or b.states i Fail))
-      (subst (λ ns. has_transition_to union skip (get_or ns i Fail) ≡ true) is
-      (first_passes f (has_transition_to union skip) xs i (at_first ∙ p))))
+      (rw is at (first_passes f (has_transition_to union skip) xs i (at_first ∙ p))))
       (λ h. inr (inl (inr (i, union, refl, omega (arith, e), h))))
       (λ h. inr (inl (inr (i, skip, refl, omega (arith, k), h))))
 
   none_to : found ≡ None → (s : ℕ) → s < length b.states → has_transition_to union skip (get_or b.states s Fail) ≡ false
   none_to p s l =
-      subst (λ ns. (s : ℕ) → s < length ns → has_transition_to union skip (get_or ns s Fail) ≡ false) is
-      (none_passes f (has_transition_to union skip) xs (at_first ∙ p)) s l
+      (rw is at (none_passes f (has_transition_to union skip) xs (at_first ∙ p))) s l
 
   pub none_ahead : found ≡ None → IsApart b
   none_ahead p = record {
-    union = λ s l. subst (λ w. leads_to w (get_or b.states s Fail) ≡ false) e (neither_first
+    union = λ s l. rw e at (neither_first
         (leads_to union (get_or b.states s Fail)) (leads_to skip (get_or b.states s Fail)) (none_to p s l));
-    skip = λ s l. subst (λ w. leads_to w (get_or b.states s Fail) ≡ false) k (neither_second
+    skip = λ s l. rw k at (neither_second
         (leads_to union (get_or b.states s Fail)) (leads_to skip (get_or b.states s Fail)) (none_to p s l));
   }
 

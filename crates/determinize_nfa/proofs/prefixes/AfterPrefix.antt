@@ -14,7 +14,7 @@ use Rattle.determinize_below.specs.Semantics.{state_at, target_of, Nfa, ByteRang
 use Rattle.determinize_below.specs.declared.look.Look.{Look as Assertion}
 use Rattle.ordered_reach.specs.Paths.{IsPath}
 use Rattle.determinize_below.specs.Transition.{matches}
-use Rattle.ordered_reach.proofs.lists.Elements.{Contains_In, In, In_cases}
+use Rattle.ordered_reach.proofs.lists.Elements.{All_at, Contains_In, In, In_cases}
 use Rattle.ordered_reach.proofs.runs.ByPosition.{same_pairs}
 use Rattle.ordered_reach.proofs.Cases.{by_cases, by_option, some_injective}
 use Rattle.determinize_nfa.specs.Prefix.{HasPrefix, leads_to}
@@ -24,10 +24,6 @@ use Rattle.determinize_nfa.proofs.prefixes.Skips.{pass, skip}
 
 passes : (b next : ℕ) → b < 256 → matches record { start = 0; end = 255; next = next } b ≡ true
 passes b next l = grind arith
-
-any_target : (b next : ℕ) → b < 256
-    → target_of (Some b) (ByteRange record { start = 0; end = 255; next = next }) ≡ Some next
-any_target b next l = rw (passes b next l) refl
 
 module _ (nfa : Nfa) (text : Text) (h : ℕ → Assertion → Bool) (has : HasPrefix nfa) where
   abbrev pub graph : ℕ × ℕ → List (ℕ × ℕ)
@@ -51,7 +47,7 @@ module _ (nfa : Nfa) (text : Text) (h : ℕ → Assertion → Bool) (has : HasPr
       let z : BinaryUnion a x ≡ ByteRange record { start = 0; end = 255; next = u } = sym has.first ∙ k ∙ has.any in cc
 
   pub u_not_a : a ≡ u → ⊥
-  u_not_a e = u_not_x (has.alone u (subst (λ y. leads_to u y ≡ true) (sym has.first) (leads_a e)))
+  u_not_a e = u_not_x (has.alone u (rw has.first (leads_a e)))
     where
       leads_a : a ≡ u → leads_to u (BinaryUnion a x) ≡ true
       leads_a z = or_left (nat_eq u a) (nat_eq u x) (eq-eqb u a (sym z))
@@ -74,8 +70,8 @@ module _ (nfa : Nfa) (text : Text) (h : ℕ → Assertion → Bool) (has : HasPr
       closed : (p q : ℕ × ℕ) (c : ℕ) → IsOut p → slice_get (graph p) c ≡ Some q → IsOut q
       closed p q c i e =
           let l : leads_to q.1 (state_at nfa p.1) ≡ true = under_leads nfa text h p q c e in (
-            λ z. i.1 (has.alone p.1 (subst (λ w. leads_to w (state_at nfa p.1) ≡ true) z l)),
-            λ z. i.0 (apart p.1 (subst (λ w. leads_to w (state_at nfa p.1) ≡ true) z l)),
+            λ z. i.1 (has.alone p.1 (rw z at l)),
+            λ z. i.0 (apart p.1 (rw z at l)),
           )
 
   -- where the skip is the anchored start, no run leaves the prefix
@@ -96,19 +92,14 @@ module _ (nfa : Nfa) (text : Text) (h : ℕ → Assertion → Bool) (has : HasPr
       closed p q c i e =
           let l : leads_to q.1 (state_at nfa p.1) ≡ true = under_leads nfa text h p q c e in by_cases i
           (λ z. by_cases
-          (or_cases (nat_eq q.1 a) (nat_eq q.1 x)
-          (subst (λ w. leads_to q.1 w ≡ true) (ap (λ w. state_at nfa w) z ∙ has.first) l))
+          (or_cases (nat_eq q.1 a) (nat_eq q.1 x) (rw (z, has.first) at l))
           (λ k. inr (eqb-true q.1 a k ∙ same))
           (λ k. inr (eqb-true q.1 x k)))
-          (λ z. inl (eqb-true q.1 u
-          (subst (λ w. leads_to q.1 w ≡ true) (ap (λ w. state_at nfa w) z ∙ has.any) l)))
+          (λ z. inl (eqb-true q.1 u (rw (z, has.any) at l)))
 
   module _ (small : All (λ b. b < 256) text.bytes) where
     byte_at : (k b : ℕ) → slice_get text.bytes k ≡ Some b → b < 256
-    byte_at k b e =
-        let l : k < length text.bytes = slice_get_within text.bytes k b e in
-        let z : get_or text.bytes k 0 ≡ b = get_or_from_slice_get text.bytes k b 0 e in
-        let m : get_or text.bytes k 0 < 256 = All-get_or (λ y. y < 256) text.bytes k 0 l small in omega arith
+    byte_at k b e = All_at (λ y. y < 256) text.bytes small b (k, e)
 
     choices_x : (k b : ℕ) → slice_get text.bytes k ≡ Some b → graph (k, x) ≡ (suc k, u) ∷ []
     choices_x k b e = rw (has.any, e, passes b u (byte_at k b e)) refl
@@ -120,8 +111,8 @@ module _ (nfa : Nfa) (text : Text) (h : ℕ → Assertion → Bool) (has : HasPr
     from_x : (k c : ℕ) (t : ℕ × ℕ) → slice_get (graph (k, x)) c ≡ Some t
         → (k < length text.bytes) × (c ≡ 0) × (t ≡ (suc k, u))
     from_x k c t e = by_option (slice_get text.bytes k)
-        (λ z. absurd (let w : None ≡ Some t = subst (λ l. slice_get l c ≡ Some t) (choices_x_end k z) e in cc))
-        (λ b z. let o : (c ≡ 0) × (t ≡ (suc k, u)) = one c (subst (λ l. slice_get l c ≡ Some t) (choices_x k b z) e) in
+        (λ z. absurd (let w : None ≡ Some t = rw (choices_x_end k z) at e in cc))
+        (λ b z. let o : (c ≡ 0) × (t ≡ (suc k, u)) = one c (rw (choices_x k b z) at e) in
         (slice_get_within text.bytes k b z, o.0, o.1))
       where
         one : (i : ℕ) → slice_get ((suc k, u) ∷ []) i ≡ Some t → (i ≡ 0) × (t ≡ (suc k, u))
@@ -131,10 +122,8 @@ module _ (nfa : Nfa) (text : Text) (h : ℕ → Assertion → Bool) (has : HasPr
     -- a choice to the unanchored start is over a byte
     into_u : (p q : ℕ × ℕ) (c : ℕ) → slice_get (graph p) c ≡ Some q → q.1 ≡ u → q.0 ≡ suc p.0
     into_u p q c e z =
-        let s : p.1 ≡ x
-        = has.alone p.1 (subst (λ y. leads_to y (state_at nfa p.1) ≡ true) z (under_leads nfa text h p q c e)) in
-        let w : slice_get (graph (p.0, x)) c ≡ Some q
-        = subst (λ y. slice_get (graph (p.0, y)) c ≡ Some q) s e in
+        let s : p.1 ≡ x = has.alone p.1 (rw z at (under_leads nfa text h p q c e)) in
+        let w : slice_get (graph (p.0, x)) c ≡ Some q = rw s at e in
         ap (λ y. y.0) (from_x p.0 c q w).2
 
     -- what a run has met when it comes to the unanchored start at a position
@@ -207,7 +196,7 @@ module _ (nfa : Nfa) (text : Text) (h : ℕ → Assertion → Bool) (has : HasPr
           choices_then = s.choices_then;
           is = λ j. 1 ∷ z j ∷ i j;
           within = omega arith;
-          run = subst (λ j. IsPath graph [] (j, a) s.choices_then q) (sym w) s.run;
+          run = rw w s.run;
         }
 
     further_on : (k c : ℕ) (cs : List ℕ) (q : ℕ × ℕ) → c ≡ 0 → IsOnPrefix (suc k) cs q → IsOnPrefix k (1 ∷ c ∷ cs) q
@@ -216,55 +205,42 @@ module _ (nfa : Nfa) (text : Text) (h : ℕ → Assertion → Bool) (has : HasPr
         record {
           over = suc s.over;
           ends = by_cases s.ends
-              (λ e. inl (λ i. 1 ∷ z i ∷ e.0 i, subst (λ j. q ≡ (j, u)) w e.1))
-              (λ e. inr (λ i. 1 ∷ z i ∷ e.0 i, subst (λ j. q ≡ (j, x)) w e.1));
+              (λ e. inl (λ i. 1 ∷ z i ∷ e.0 i, rw w at e.1))
+              (λ e. inr (λ i. 1 ∷ z i ∷ e.0 i, rw w at e.1));
         }
 
     -- each run is of one of these shapes
     pub parted : (cs : List ℕ) (k : ℕ) (q : ℕ × ℕ) → k ≤ length text.bytes → IsPath graph (met k) (k, u) cs q
         → IsSkip k cs q ⊎ IsOnPrefix k cs q
-    parted [] k q l p =
-        let z : k ≡ k + 0 = omega arith in
-        inr (record { over = 0; ends = inl (refl, subst (λ j. q ≡ (j, u)) z p.1) })
+    parted [] k q l p = let z : k + 0 ≡ k = omega arith in inr (record { over = 0; ends = inl (refl, rw z p.1) })
     parted (zero ∷ cs) k q l p =
-        let e : (k, a) ≡ p.1.0
-        = some_injective (k, a) p.1.0 (subst (λ w. slice_get w 0 ≡ Some p.1.0) (choices_u k) p.1.1) in
-        let r : IsPath graph [] (k, a) cs q
-        = forget k cs q (subst (λ w. IsPath graph ((k, u) ∷ met k) w cs q) (sym e) p.1.2) in
-        let z : k ≡ k + 0 = omega arith in
+        let e : (k, a) ≡ p.1.0 = some_injective (k, a) p.1.0 (rw (choices_u k) at p.1.1) in
+        let z : k + 0 ≡ k = omega arith in
         inl (record {
           over = 0;
           choices_then = cs;
           is = refl;
           within = omega arith;
-          run = subst (λ w. IsPath graph [] (w, a) cs q) z r;
+          run = rw z (forget k cs q (rw e p.1.2));
         })
     parted (suc zero ∷ []) k q l p =
-        let e : (k, x) ≡ p.1.0
-        = some_injective (k, x) p.1.0 (subst (λ w. slice_get w 1 ≡ Some p.1.0) (choices_u k) p.1.1) in
-        let z : k ≡ k + 0 = omega arith in
-        inr (record { over = 0; ends = inr (refl, subst (λ j. q ≡ (j, x)) z (p.1.2.1 ∙ sym e)) })
+        let e : (k, x) ≡ p.1.0 = some_injective (k, x) p.1.0 (rw (choices_u k) at p.1.1) in
+        let z : k + 0 ≡ k = omega arith in inr (record { over = 0; ends = inr (refl, rw z (p.1.2.1 ∙ sym e)) })
     parted (suc zero ∷ c ∷ cs) k q l p =
-        let e : (k, x) ≡ p.1.0
-        = some_injective (k, x) p.1.0 (subst (λ w. slice_get w 1 ≡ Some p.1.0) (choices_u k) p.1.1) in
-        let r : IsPath graph ((k, u) ∷ met k) (k, x) (c ∷ cs) q
-        = subst (λ w. IsPath graph ((k, u) ∷ met k) w (c ∷ cs) q) (sym e) p.1.2 in
+        let e : (k, x) ≡ p.1.0 = some_injective (k, x) p.1.0 (rw (choices_u k) at p.1.1) in
+        let r : IsPath graph ((k, u) ∷ met k) (k, x) (c ∷ cs) q = rw (← e) at p.1.2 in
         let f : (k < length text.bytes) × (c ≡ 0) × (r.1.0 ≡ (suc k, u)) = from_x k c r.1.0 r.1.1 in
         let g : k < length text.bytes = f.0 in
         by_cases
-        (parted cs (suc k) q (omega arith)
-        (subst (λ w. IsPath graph ((k, x) ∷ (k, u) ∷ met k) w cs q) f.2 r.1.2))
+        (parted cs (suc k) q (omega arith) (rw f.2 at r.1.2))
         (λ s. inl (further_skip k c cs q f.1 s))
         (λ s. inr (further_on k c cs q f.1 s))
     parted (suc (suc c) ∷ cs) k q l p =
-        absurd (let z : None ≡ Some p.1.0 = subst (λ w. slice_get w (suc (suc c)) ≡ Some p.1.0) (choices_u k) p.1.1 in
-        cc)
+        absurd (let z : None ≡ Some p.1.0 = rw (choices_u k) at p.1.1 in cc)
 
     no_pattern_on : (q : ℕ × ℕ) (i s : ℕ) → q ≡ (i, s) → pattern_of nfa s ≡ None → (y : ℕ)
         → pattern_of nfa q.1 ≡ Some y → ⊥
-    no_pattern_on q i s e n y m =
-        let z : pattern_of nfa q.1 ≡ pattern_of nfa s = ap (λ w. pattern_of nfa w.1) e in
-        let v : Some y ≡ None = sym m ∙ z ∙ n in cc
+    no_pattern_on q i s e n y m = let v : None ≡ Some y = rw (e, n) at m in cc
 
     -- a run to a pattern has left the prefix
     pub shape : (cs : List ℕ) (k : ℕ) (q : ℕ × ℕ) (pattern : ℕ) → k ≤ length text.bytes
@@ -287,13 +263,13 @@ module _ (nfa : Nfa) (text : Text) (h : ℕ → Assertion → Bool) (has : HasPr
     -- after some bytes a run is where the rest of it begins
     pub pass_run : (d k : ℕ) (cs : List ℕ) (q : ℕ × ℕ) → k + d ≤ length text.bytes
         → IsPath graph (met (k + d)) (k + d, u) cs q → IsPath graph (met k) (k, u) (pass d cs) q
-    pass_run zero k cs q l p = let z : k + 0 ≡ k = omega arith in subst (λ w. IsPath graph (met w) (w, u) cs q) z p
+    pass_run zero k cs q l p = let z : k + 0 ≡ k = omega arith in rw z at p
     pass_run (suc d) k cs q l p =
         let z : k + suc d ≡ suc k + d = omega arith in
         let g : k < length text.bytes = omega arith in
         let b : slice_get text.bytes k ≡ Some (get_or text.bytes k 0) = slice_get-get_or text.bytes k 0 g in
         let r : IsPath graph (met (suc k)) (suc k, u) (pass d cs) q
-        = pass_run d (suc k) cs q (omega arith) (subst (λ w. IsPath graph (met w) (w, u) cs q) z p) in (
+        = pass_run d (suc k) cs q (omega arith) (rw z at p) in (
           not_met k u,
           (
             (k, x),

@@ -44,7 +44,7 @@ passes_all next = eq-eqb next next refl
 pub start_is : (nfa : Nfa) (id f s : ℕ) (node : Node) → id ≡ nfa.start_unanchored
     → slice_get nfa.states id ≡ Some node → node ≡ BinaryUnion f s
     → state_at nfa nfa.start_unanchored ≡ BinaryUnion f s
-start_is nfa id f s node z e n = subst (λ w. state_at nfa w ≡ BinaryUnion f s) z (state_is nfa id node e ∙ n)
+start_is nfa id f s node z e n = rw (← z) (state_is nfa id node e ∙ n)
 
 -- the test of the other state, as it was read
 pub any_read : (nfa : Nfa) (id s : ℕ) (node : Node) (b : Bool) → id ≡ nfa.start_unanchored
@@ -73,10 +73,8 @@ module _ (nfa : Nfa) (f s : ℕ) (e : state_at nfa nfa.start_unanchored ≡ Bina
   -- the other must pass over all bytes
   pub not_any : passes_any nfa.start_unanchored (state_at nfa s) ≡ false → ¬ (HasPrefix nfa)
   not_any n h =
-      let z : state_at nfa s ≡ ByteRange (all_to nfa.start_unanchored)
-      = subst (λ w. state_at nfa w ≡ ByteRange (all_to nfa.start_unanchored)) (same_skip h) h.any in
-      false≢true
-      (sym n ∙ subst (λ w. passes_any nfa.start_unanchored w ≡ true) (sym z) (passes_all nfa.start_unanchored))
+      let z : state_at nfa s ≡ ByteRange (all_to nfa.start_unanchored) = rw (same_skip h) at h.any in
+      false≢true (sym n ∙ rw z (passes_all nfa.start_unanchored))
 
   -- and nothing else lead back
   pub Decides-alone : (b : Bool) → f ≡ nfa.start_anchored → passes_any nfa.start_unanchored (state_at nfa s) ≡ true
@@ -84,7 +82,7 @@ module _ (nfa : Nfa) (f s : ℕ) (e : state_at nfa nfa.start_unanchored ≡ Bina
   Decides-alone b first any d = (
     λ h. record {
       skip = s;
-      first = subst (λ w. state_at nfa nfa.start_unanchored ≡ BinaryUnion w s) first e;
+      first = rw first at e;
       any = any_is nfa.start_unanchored (state_at nfa s) any;
       alone = d.0 h;
     },
@@ -98,10 +96,9 @@ pub Decides-apart : (nfa : Nfa) (id s : ℕ) (node : Node) (b : Bool) → HasPre
 Decides-apart nfa id s node b has z e n d = (
   λ y. record {
     prefix = has;
-    apart = subst (λ w. Alone w nfa.start_unanchored) (skip_is has) (subst (λ w. Alone s w) z (d.0 y));
+    apart = rw (skip_is has, z) at (d.0 y);
   },
-  λ h. d.1 (subst (λ w. Alone s w) (sym z)
-      (subst (λ w. Alone w nfa.start_unanchored) (sym (skip_is h.prefix)) h.apart)),
+  λ h. d.1 (rw (z, skip_is h.prefix) h.apart),
 )
   where
     Alone : ℕ → ℕ → Type 0

@@ -1,55 +1,60 @@
 -- The states of a reversed NFA that read a byte or test an assertion, in their order, and how many there are.
--- Main statements: length-states, length-states_most, total_most.
--- Used by: the clause `size` of `reversed`.
+-- Main statements: length-states, length-states_most, room_arc, room_node.
+-- Used by: the clauses `size` of `reversed` and `err` of the functions of `Turned`.
 -- Idea: each reached state adds the number that `reads_in` counts, and each state is reached once.
 use Rattle.std.specs.List.{AllByRecursion, IsDistinct, flat_map, sum_by}
 use Rattle.std.specs.Prelude.{nat_eq, slice_get}
 use Rattle.std.proofs.Common.{◌≡◌, ◌≤◌, ◌+◌, ◌++◌, ◌∙◌, ◌∷◌, ◌<◌, ℕ, List, Some, [], ap, arith, append-nil, append_assoc, drop, false, get_or, inl, inr, length, map, refl, set, suc, sym, zero}
 use Rattle.std.proofs.Math.Seq.{drop-cons}
 use Rattle.std.proofs.lemmas.Bool.{eq-eqb, false≢true}
-use Rattle.std.proofs.lemmas.List.{get_or-set_other, length-append, length-drop, length-map}
+use Rattle.std.proofs.lemmas.List.{get_or-set_other, length-append, length-map}
 use Rattle.std.proofs.lemmas.List.Concat.{length-flat_map}
 use Rattle.std.proofs.lemmas.List.Sums.{sum_by-cons}
 use Rattle.std.proofs.lemmas.Map.Keys.{IsDistinct-head, IsDistinct-tail}
-use Rattle.determinize_below.specs.Semantics.{state_at, Nfa, Node, ByteRange, Sparse, Dense, Look, Union, Fail, Match}
+use Rattle.determinize_below.specs.Semantics.{state_at, Nfa, Node, Sparse, Dense, Look, Union, Fail, Match}
 use Rattle.determinize_below.specs.Look.{reversed}
 use Rattle.determinize_below.specs.declared.nfa.BuildError.{BuildError}
 use Rattle.determinize_below.specs.declared.primitives.TheConstants.{ID_LIMIT}
 use Rattle.determinize_below.specs.declared.nfa.transitions.Transition.{Transition}
 use Rattle.ordered_reach.proofs.Cases.{by_cases}
+use Rattle.determinize_nfa.specs.Private.Arcs.{arcs_of, runs}
 use Rattle.determinize_nfa.specs.Private.Gathered.{gathered, states_of}
-use Rattle.determinize_nfa.specs.Private.Turning.{Turned, added, none_turned, range_to, total, turned_over, with_frees, with_node, with_nodes, runs, with_ranges, with_state}
+use Rattle.determinize_nfa.specs.Private.Turning.{Turned, added, none_turned, range_to, total, turned_over, with_arc, with_arcs, with_end, with_node, with_nodes}
+use Rattle.determinize_nfa.specs.Reversal.{IsTooLarge, most_states, reads_in}
+use Rattle.determinize_nfa.specs.declared.arcs.Arc.{Arc}
+use Rattle.determinize_nfa.specs.declared.arcs.Arc.TheVariants.{Free, Range, Test}
+use Rattle.determinize_nfa.proofs.kinds.TableRuns.{length-runs}
 use Rattle.determinize_nfa.proofs.prefixes.Parts.{state_is}
-use Rattle.determinize_nfa.proofs.reversing.Steps.{IsOver}
-use Rattle.determinize_nfa.specs.Reversal.{IsTooLarge, is_first, most_states, reads_in}
-use Rattle.determinize_nfa.proofs.reversing.TableRuns.{length-runs, runs_end}
+use Rattle.determinize_nfa.proofs.reversing.Steps.{IsOver, count-arcs, count-nodes}
+
+-- what a transition from the state s becomes: a state, or none
+abbrev pub back : ℕ → Arc → List Node
+back s (Range r) = range_to s r ∷ []
+back s (Test look next) = Look (reversed look) s ∷ []
+back s (Free next) = []
 
 -- the states for a state
 abbrev pub made_by : ℕ → Node → List Node
-made_by s (ByteRange r) = range_to s r ∷ []
-made_by s (Sparse rs) = map (range_to s) rs
-made_by s (Dense ids) = map (range_to s) (runs 0 0 ids)
-made_by s (Look look next) = Look (reversed look) s ∷ []
-made_by s _ = []
+made_by s node = flat_map (back s) (arcs_of node)
 
-pub rest_ranges : (s : ℕ) (rs : List Transition) (h : Turned)
-    → (with_ranges h s rs).rest ≡ h.rest ++ map (range_to s) rs
-rest_ranges s [] h = sym (append-nil h.rest)
-rest_ranges s (r ∷ rs) h =
-    rest_ranges s rs (with_state h r.next (range_to s r))
-    ∙ append_assoc h.rest (range_to s r ∷ []) (map (range_to s) rs)
+rest_arc : (s : ℕ) (arc : Arc) (h : Turned) → (with_arc h s arc).rest ≡ h.rest ++ back s arc
+rest_arc s (Range r) h = refl
+rest_arc s (Test look next) h = refl
+rest_arc s (Free next) h = sym (append-nil h.rest)
 
-rest_frees : (s : ℕ) (ids : List ℕ) (h : Turned) → (with_frees h s ids).rest ≡ h.rest
-rest_frees s [] h = refl
-rest_frees s (id ∷ ids) h = rest_frees s ids (added h id s)
+rest_arcs : (s : ℕ) (arcs : List Arc) (h : Turned) → (with_arcs h s arcs).rest ≡ h.rest ++ flat_map (back s) arcs
+rest_arcs s [] h = sym (append-nil h.rest)
+rest_arcs s (arc ∷ arcs) h =
+    rest_arcs s arcs (with_arc h s arc)
+    ∙ ap (λ w. w ++ flat_map (back s) arcs) (rest_arc s arc h)
+    ∙ append_assoc h.rest (back s arc) (flat_map (back s) arcs)
+
+rest_end : (s : ℕ) (node : Node) (h : Turned) → (with_end h s node).rest ≡ h.rest
+rest_end s (Match pattern) h = refl
+rest_end s node h = refl
 
 rest_node : (s : ℕ) (node : Node) (h : Turned) → (with_node h s node).rest ≡ h.rest ++ made_by s node
-rest_node s (ByteRange r) h = refl
-rest_node s (Sparse rs) h = rest_ranges s rs h
-rest_node s (Dense ids) h = rest_ranges s (runs 0 0 ids) h
-rest_node s (Look look next) h = refl
-rest_node s (Union ids) h = rest_frees s ids h ∙ sym (append-nil h.rest)
-rest_node s l h = sym (append-nil h.rest)
+rest_node s node h = rest_end s node (with_arcs h s (arcs_of node)) ∙ rest_arcs s (arcs_of node) h
 
 module _ (nfa : Nfa) where
   -- the states for those of a list
@@ -66,9 +71,19 @@ module _ (nfa : Nfa) where
   pub rest_over : (met : List ℕ) → (turned_over nfa met).rest ≡ made_of_each met
   rest_over met = rest_nodes met (added (none_turned (length nfa.states)) nfa.start_anchored (length nfa.states))
 
-pub length-made : (s : ℕ) (node : Node) → length (made_by s node) ≡ reads_in node
-length-made s (Sparse rs) = length-map rs (range_to s)
-length-made s (Dense ids) = length-map (runs 0 0 ids) (range_to s) ∙ length-runs ids 0 0
+-- one for each range and each assertion
+length-ranges : (s : ℕ) (rs : List Transition) → length (flat_map (back s) (map Range rs)) ≡ length rs
+length-ranges s [] = refl
+length-ranges s (r ∷ rs) = ap suc (length-ranges s rs)
+
+no_frees : (s : ℕ) (ids : List ℕ) → length (flat_map (back s) (map Free ids)) ≡ 0
+no_frees s [] = refl
+no_frees s (id ∷ ids) = no_frees s ids
+
+length-made : (s : ℕ) (node : Node) → length (made_by s node) ≡ reads_in node
+length-made s (Sparse rs) = length-ranges s rs
+length-made s (Dense ids) = length-ranges s (runs 0 0 ids) ∙ length-runs ids 0 0
+length-made s (Union ids) = no_frees s ids
 length-made s l = refl
 
 -- a sum over distinct places of a list is at most that over the list
@@ -133,50 +148,50 @@ length-states_most nfa met h d e n =
     let k : length (turned_over nfa met).rest ≡ length h.rest = ap (λ (t : Turned). length t.rest) e in
     omega (arith, a, b, k, n)
 
--- there is room for the states of the next state of the list
-pub total_most : (nfa : Nfa) (met : List ℕ) (h : Turned) (k s : ℕ) (node : Node) → IsDistinct nat_eq met
+-- the number of states does not fall
+total_arcs : (s : ℕ) (arcs : List Arc) (h : Turned) → total h ≤ total (with_arcs h s arcs)
+total_arcs s arcs h =
+    let a = count-arcs s arcs h in
+    let b : length (with_arcs h s arcs).rest ≡ length (h.rest ++ flat_map (back s) arcs) = ap length (rest_arcs s arcs h) in
+    let c = length-append h.rest (flat_map (back s) arcs) in omega (arith, a, b, c)
+
+total_end : (s : ℕ) (node : Node) (h : Turned) → total (with_end h s node) ≡ total h
+total_end s (Match pattern) h = refl
+total_end s node h = refl
+
+total_nodes : (nfa : Nfa) (ss : List ℕ) (h : Turned) → total h ≤ total (with_nodes nfa h ss)
+total_nodes nfa [] h = omega arith
+total_nodes nfa (s ∷ ss) h =
+    let a = total_arcs s (arcs_of (state_at nfa s)) h in
+    let b = total_end s (state_at nfa s) (with_arcs h s (arcs_of (state_at nfa s))) in
+    let c = total_nodes nfa ss (with_node h s (state_at nfa s)) in omega (arith, a, b, c)
+
+-- there is room for the next transition of a state
+pub room_arc : (s : ℕ) (node : Node) (arc : Arc) (left arcs : List Arc) (old h : Turned)
+    → with_arcs old s (arcs_of node) ≡ with_arcs h s left → left ≡ arc ∷ arcs
+    → total (with_arc h s arc) ≤ total (with_node old s node)
+room_arc s node arc left arcs old h w e =
+    let a = total_arcs s arcs (with_arc h s arc) in
+    let b : total (with_arcs old s (arcs_of node)) ≡ total (with_arcs h s left) = ap total w in
+    let c : total (with_arcs h s left) ≡ total (with_arcs h s (arc ∷ arcs)) = ap (λ l. total (with_arcs h s l)) e in
+    let d = total_end s node (with_arcs old s (arcs_of node)) in omega (arith, a, b, c, d)
+
+-- and for the next state of the list
+pub room_node : (nfa : Nfa) (met : List ℕ) (h : Turned) (k s : ℕ) (node : Node) → IsDistinct nat_eq met
     → IsOver nfa (turned_over nfa met) h met k → k < length met → get_or met k 0 ≡ s
-    → slice_get nfa.states s ≡ Some node → total h + reads_in node ≤ most_states nfa
-total_most nfa met h k s node d o l e n =
+    → slice_get nfa.states s ≡ Some node → total (with_node h s node) ≤ most_states nfa
+room_node nfa met h k s node d o l e n =
     let items : drop k met ≡ s ∷ drop (suc k) met = drop-cons met k 0 l ∙ ap (λ x. x ∷ drop (suc k) met) e in
-    let all : (turned_over nfa met).rest ≡ h.rest ++ (made_by s (state_at nfa s) ++ made_of_each nfa (drop (suc k) met))
-    = ap (λ (t : Turned). t.rest) o.rest ∙ rest_nodes nfa (drop k met) h
-    ∙ ap (λ ss. h.rest ++ made_of_each nfa ss) items in
-    let a : length (turned_over nfa met).rest
-    ≡ length (h.rest ++ (made_by s (state_at nfa s) ++ made_of_each nfa (drop (suc k) met))) = ap length all in
-    let b = length-append h.rest (made_by s (state_at nfa s) ++ made_of_each nfa (drop (suc k) met)) in
-    let c = length-append (made_by s (state_at nfa s)) (made_of_each nfa (drop (suc k) met)) in
-    let m : length (made_by s (state_at nfa s)) ≡ reads_in node
-    = length-made s (state_at nfa s) ∙ ap reads_in (state_is nfa s node n) in
-    let most = length-over nfa met d in
-    let count : length h.into ≡ length nfa.states = o.count in omega (arith, a, b, c, m, most, count)
-
--- and for those of the ranges of a state that are left
-total_left : (s : ℕ) (rs left : List Transition) (old h : Turned) → length h.into ≡ length old.into
-    → with_ranges old s rs ≡ with_ranges h s left → total h + length left ≡ total old + length rs
-total_left s rs left old h n w =
-    let e : old.rest ++ map (range_to s) rs ≡ h.rest ++ map (range_to s) left
-    = sym (rest_ranges s rs old) ∙ ap (λ (t : Turned). t.rest) w ∙ rest_ranges s left h in
-    let z : length (old.rest ++ map (range_to s) rs) ≡ length (h.rest ++ map (range_to s) left) = ap length e in
-    let a = length-append old.rest (map (range_to s) rs) in
-    let b = length-append h.rest (map (range_to s) left) in
-    let c = length-map rs (range_to s) in
-    let d = length-map left (range_to s) in omega (arith, z, a, b, c, d, n)
-
-pub total_ranges : (s : ℕ) (rs : List Transition) (i : ℕ) (old h : Turned) → length h.into ≡ length old.into
-    → with_ranges old s rs ≡ with_ranges h s (drop i rs) → i < length rs → total h + 1 ≤ total old + length rs
-total_ranges s rs i old h n w l =
-    let e = total_left s rs (drop i rs) old h n w in let k = length-drop i rs in omega (arith, e, k, l)
-
-pub total_table : (s : ℕ) (ids : List ℕ) (a b : ℕ) (old h : Turned) → length h.into ≡ length old.into
-    → with_ranges old s (runs 0 0 ids) ≡ with_ranges h s (runs a b (drop b ids)) → b < length ids
-    → is_first (get_or ids b 0) (drop (b + 1) ids) ≡ false → nat_eq (get_or ids b 0) 0 ≡ false
-    → total h + 1 ≤ total old + reads_in (Dense ids)
-total_table s ids a b old h n w l f g =
-    let e = total_left s (runs 0 0 ids) (runs a b (drop b ids)) old h n w in
-    let m = length-runs ids 0 0 in
-    let some : 1 ≤ length (runs a b (drop b ids)) = rw (runs_end ids a b l f, g) (omega arith) in
-    omega (arith, e, m, some)
+    let all : turned_over nfa met ≡ with_nodes nfa (with_node h s node) (drop (suc k) met)
+    = o.rest ∙ ap (λ ss. with_nodes nfa h ss) items
+    ∙ ap (λ x. with_nodes nfa (with_node h s x) (drop (suc k) met)) (state_is nfa s node n) in
+    let a = total_nodes nfa (drop (suc k) met) (with_node h s node) in
+    let b : total (turned_over nfa met) ≡ total (with_nodes nfa (with_node h s node) (drop (suc k) met)) = ap total all in
+    let c : length (turned_over nfa met).into ≡ length (with_nodes nfa h (drop k met)).into
+    = ap (λ (t : Turned). length t.into) o.rest in
+    let count = count-nodes nfa (drop k met) h in
+    let same : length h.into ≡ length nfa.states = o.count in
+    let most = length-over nfa met d in omega (arith, a, b, c, count, same, most)
 
 pub larger : (m n : ℕ) (e : BuildError) → m ≤ n → IsTooLarge m e → IsTooLarge n e
 larger m n e l f = by_cases f

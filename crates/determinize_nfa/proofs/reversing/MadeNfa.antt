@@ -5,20 +5,19 @@
 -- the validation (Validation) apply.
 use Rattle.std.specs.List.{IsDistinct, filter}
 use Rattle.std.specs.Prelude.{All, nat_eq}
-use Rattle.std.proofs.Common.{◌≡◌, ◌<◌, ◌⊎◌, ◌∙◌, ◌∷◌, ℕ, List, Some, [], ap, arith, inl, inr, length, subst, suc, sym}
+use Rattle.std.proofs.Common.{◌≡◌, ◌<◌, ◌⊎◌, ◌∙◌, ◌∷◌, ℕ, List, Some, [], ap, arith, inl, inr, length, suc, sym}
 use Rattle.determinize_below.specs.Nfa.{IsAccepted, failure}
 use Rattle.determinize_below.specs.Edges.{is_match_node}
 use Rattle.determinize_below.specs.Semantics.{Nfa, Node, Match}
 use Rattle.determinize_below.specs.declared.nfa.BuildError.{BuildError}
 use Rattle.determinize_below.specs.declared.nfa.BuildError.TheVariants.{OutOfMemory}
 use Rattle.determinize_below.specs.declared.primitives.TheConstants.{ID_LIMIT}
-use Rattle.ordered_reach.proofs.lists.Elements.{In}
+use Rattle.ordered_reach.proofs.lists.Elements.{All_at, In}
 use Rattle.ordered_reach.proofs.Cases.{by_cases}
 use Rattle.determinize_nfa.specs.Private.Closed.{IsClosed}
 use Rattle.determinize_nfa.specs.Private.Turning.{Turned, turned_over}
 use Rattle.determinize_nfa.specs.Private.Gathered.{states_of}
 use Rattle.determinize_nfa.specs.Reversal.{IsReverseOf, IsTooLarge, most_states}
-use Rattle.determinize_nfa.proofs.reversing.FoundStates.{In_below}
 use Rattle.determinize_nfa.proofs.reversing.Recorded.{IsRecorded}
 use Rattle.determinize_nfa.proofs.reversing.BothWays.{IsMadeOf, made_reverse}
 use Rattle.determinize_nfa.proofs.reversing.Counts.{length-states, length-states_most, rest_over}
@@ -31,21 +30,20 @@ pub made_of_all : (nfa backward : Nfa) (met : List ℕ) (h : Turned) → IsAccep
     → IsReverseOf backward nfa
 made_of_all nfa backward met h accepted closed below is made =
     made_reverse nfa backward met h made
-    (subst (λ t. IsRecorded nfa met t) is
-    (all_recorded nfa accepted met closed (λ s k. In_below (length nfa.states) met s below k)))
+    (rw is at (all_recorded nfa accepted met closed (λ s k. All_at (λ id. id < length nfa.states) met below s k)))
 
 -- what was recorded of the states of a list is a state that reads or tests, with ids below the count
 plain_rest : (nfa : Nfa) (count : ℕ) (met : List ℕ) (h : Turned) → ((s : ℕ) → In s met → s < count)
     → turned_over nfa met ≡ h → (x : Node) → In x h.rest → IsPlain count x
 plain_rest nfa count met h below is x k = each_plain nfa count met below x
-    (subst (λ w. In x w) (ap (λ (t : Turned). t.rest) (sym is) ∙ rest_over nfa met) k)
+    (rw (sym is, rest_over nfa met) at k)
 
 -- the NFA has one match state
 pub made_match : (nfa backward : Nfa) (met : List ℕ) (h : Turned) → All (λ s. s < length nfa.states) met
     → turned_over nfa met ≡ h → IsMadeOf nfa backward h → filter is_match_node backward.states ≡ Match 0 ∷ []
 made_match nfa backward met h below is made = ap (λ ns. filter is_match_node ns) made.states
     ∙ one_match h (λ x k.
-    (plain_rest nfa (length nfa.states) met h (λ s j. In_below (length nfa.states) met s below j) is x k).pattern)
+    (plain_rest nfa (length nfa.states) met h (λ s j. All_at (λ id. id < length nfa.states) met below s j) is x k).pattern)
 
 -- what is wrong with the NFA, if anything, is that it is too large
 pub made_error : (nfa : Nfa) (met : List ℕ) (h : Turned) → IsAccepted nfa → IsClosed nfa met
@@ -59,10 +57,10 @@ made_error nfa met h accepted closed below d is start e z f = by_cases f
     (λ k. inl k)
   where
     inside : (s : ℕ) → In s met → s < length nfa.states
-    inside s k = In_below (length nfa.states) met s below k
+    inside s k = All_at (λ id. id < length nfa.states) met below s k
 
     recorded : IsRecorded nfa met h
-    recorded = subst (λ t. IsRecorded nfa met t) is (all_recorded nfa accepted met closed inside)
+    recorded = rw is at (all_recorded nfa accepted met closed inside)
 
     plain : (x : Node) → In x h.rest → IsPlain (length (states_of h)) x
     plain x k = plain_rest nfa (length (states_of h)) met h

@@ -1,22 +1,23 @@
 -- What the recorded transitions say of the NFA: each is a transition of it, and those of the states so far are there.
--- Main statements: the records IsSound and IsRecorded, grown_then, arcs_stay.
+-- Main statements: the records IsSound, HasNode and IsRecorded, grown_then, node_stays.
 -- Used by: all of this folder.
 -- Idea: what is recorded only grows, and an entry keeps its place, so a fact of one entry stays true.
 use Rattle.std.specs.Prelude.{slice_get, slice_set}
-use Rattle.std.proofs.Common.{◌≡◌, ◌<◌, ◌+◌, ◌++◌, ◌⊎◌, ◌∙◌, ◌∷◌, ℕ, Bool, List, None, Some, [], ap, arith, get_or, inl, inr, length, refl, subst, suc, sym, true, zero}
+use Rattle.std.proofs.Common.{◌≡◌, ◌<◌, ◌+◌, ◌++◌, ◌⊎◌, ◌∙◌, ◌∷◌, ℕ, Bool, List, Some, [], ap, arith, get_or, inl, inr, length, refl, suc, true, zero}
 use Rattle.std.proofs.lemmas.Bool.{cases_eq}
 use Rattle.std.proofs.lemmas.List.{get_or-set_other, get_or-set_same, length-set}
 use Rattle.determinize_below.specs.Semantics.{edges_of, state_at, target_of, Nfa, Node, ByteRange, Look}
-use Rattle.determinize_below.specs.Edges.{pattern_in}
-use Rattle.determinize_below.specs.Edges.{pattern_of}
+use Rattle.determinize_below.specs.Edges.{pattern_in, pattern_of}
 use Rattle.determinize_below.specs.Look.{reversed}
 use Rattle.determinize_below.specs.Transition.{matches}
 use Rattle.determinize_below.specs.declared.look.Look.{Look as Assertion}
-use Rattle.determinize_below.specs.declared.nfa.transitions.Transition.{Transition}
-use Rattle.ordered_reach.proofs.lists.Elements.{In, In_append_cases, In_append_left, In_append_right}
+use Rattle.ordered_reach.proofs.lists.Elements.{In, In_append_cases, In_append_left, In_append_right, In_cases, In_head, In_none}
 use Rattle.ordered_reach.proofs.Cases.{by_cases}
+use Rattle.determinize_nfa.specs.Private.Arcs.{arcs_of}
 use Rattle.determinize_nfa.specs.Private.Closed.{IsClosed}
 use Rattle.determinize_nfa.specs.Private.Turning.{Turned, added, range_to, sources, with_state}
+use Rattle.determinize_nfa.specs.declared.arcs.Arc.{Arc}
+use Rattle.determinize_nfa.specs.declared.arcs.Arc.TheVariants.{Free, Range, Test}
 
 -- the id of a state that reads a byte or tests an assertion
 abbrev pub id_of : Nfa → ℕ → ℕ
@@ -25,7 +26,8 @@ id_of nfa i = length nfa.states + 2 + i
 -- the state is a transition of the NFA to t, reversed
 abbrev pub IsArc : Nfa → ℕ → Node → Type 0
 IsArc nfa t (ByteRange r) = (b : ℕ) → matches r b ≡ true → target_of (Some b) (state_at nfa r.next) ≡ Some t
-IsArc nfa t (Look look next) = state_at nfa next ≡ Look (reversed look) t
+IsArc nfa t (Look look next) =
+    (holds : Assertion → Bool) → holds (reversed look) ≡ true → In t (edges_of holds (state_at nfa next))
 IsArc nfa t _ = ⊥
 
 -- the id is that of a state with a transition to t without input, of the match state if t is the
@@ -42,21 +44,20 @@ pub record IsSound (nfa : Nfa) (h : Turned) : Type 0 where
   pub into : (t y : ℕ) → In y (sources h t) → IsSource nfa h.rest t y
   pub ends : (s : ℕ) → In s h.ends → (pattern : ℕ) × (pattern_of nfa s ≡ Some pattern)
 
--- the transition over the bytes of r, from t back to s, is recorded
-abbrev pub HasRange : Nfa → Turned → ℕ → ℕ → Transition → Type 0
-HasRange nfa h s t r = (i : ℕ) × In (id_of nfa i) (sources h t) × (slice_get h.rest i ≡ Some (range_to s r))
+-- a state that reads or tests, and the transition from t to it, are recorded
+abbrev pub HasState : Nfa → Turned → ℕ → Node → Type 0
+HasState nfa h t node = (i : ℕ) × In (id_of nfa i) (sources h t) × (slice_get h.rest i ≡ Some node)
 
--- the reversed assertion, from t back to s, is recorded
-abbrev pub HasLook : Nfa → Turned → ℕ → ℕ → Assertion → Type 0
-HasLook nfa h s t look = (i : ℕ) × In (id_of nfa i) (sources h t) × (slice_get h.rest i ≡ Some (Look (reversed look) s))
+-- the transition of the state s is recorded, reversed
+abbrev pub HasArc : Nfa → Turned → ℕ → Arc → Type 0
+HasArc nfa h s (Range r) = HasState nfa h r.next (range_to s r)
+HasArc nfa h s (Test look next) = HasState nfa h next (Look (reversed look) s)
+HasArc nfa h s (Free next) = In s (sources h next)
 
--- every transition of the state s, which is this one, is recorded
-pub record HasArcs (nfa : Nfa) (h : Turned) (s : ℕ) (node : Node) : Type 0 where
+-- the state s, which is this one, is recorded with all of its transitions
+pub record HasNode (nfa : Nfa) (h : Turned) (s : ℕ) (node : Node) : Type 0 where
   pub ends : (pattern : ℕ) → pattern_in node ≡ Some pattern → In s h.ends
-  pub free : (holds : Assertion → Bool) (t : ℕ) → In t (edges_of holds node)
-      → In s (sources h t) ⊎ ((look : Assertion) × HasLook nfa h s t look × (holds look ≡ true))
-  pub bytes : (b t : ℕ) → target_of (Some b) node ≡ Some t
-      → (r : Transition) × HasRange nfa h s t r × (matches r b ≡ true)
+  pub arcs : (arc : Arc) → In arc (arcs_of node) → HasArc nfa h s arc
 
 -- what was recorded stays
 pub record IsGrown (old new : Turned) : Type 0 where
@@ -69,7 +70,7 @@ pub record IsRecorded (nfa : Nfa) (met : List ℕ) (h : Turned) : Type 0 where
   pub closed : IsClosed nfa met
   pub sound : IsSound nfa h
   pub begins : In (length nfa.states) (sources h nfa.start_anchored)
-  pub arcs : (s : ℕ) → In s met → HasArcs nfa h s (state_at nfa s)
+  pub nodes : (s : ℕ) → In s met → HasNode nfa h s (state_at nfa s)
 
 pub grown_self : (h : Turned) → IsGrown h h
 grown_self h = record { into = λ t y k. k; rest = λ i node k. k; ends = λ s k. k }
@@ -82,15 +83,18 @@ grown_then a b c f g = record {
 }
 
 -- what was recorded of a state stays
-pub arcs_stay : (nfa : Nfa) (old new : Turned) (s : ℕ) (node : Node) → IsGrown old new → HasArcs nfa old s node
-    → HasArcs nfa new s node
-arcs_stay nfa old new s node g a = record {
+pub arc_stays : (nfa : Nfa) (old new : Turned) (s : ℕ) (arc : Arc) → IsGrown old new → HasArc nfa old s arc
+    → HasArc nfa new s arc
+arc_stays nfa old new s (Range r) g d = (d.0, g.into r.next (id_of nfa d.0) d.1, g.rest d.0 (range_to s r) d.2)
+arc_stays nfa old new s (Test look next) g d =
+    (d.0, g.into next (id_of nfa d.0) d.1, g.rest d.0 (Look (reversed look) s) d.2)
+arc_stays nfa old new s (Free next) g d = g.into next s d
+
+pub node_stays : (nfa : Nfa) (old new : Turned) (s : ℕ) (node : Node) → IsGrown old new → HasNode nfa old s node
+    → HasNode nfa new s node
+node_stays nfa old new s node g a = record {
   ends = λ pattern e. g.ends s (a.ends pattern e);
-  free = λ holds t k. by_cases (a.free holds t k)
-      (λ d. inl (g.into t s d))
-      (λ d. inr (d.0, (d.1.0, g.into t (id_of nfa d.1.0) d.1.1, g.rest d.1.0 (Look (reversed d.0) s) d.1.2), d.2));
-  bytes = λ b t k. let d = a.bytes b t k in
-      (d.0, (d.1.0, g.into t (id_of nfa d.1.0) d.1.1, g.rest d.1.0 (range_to s d.0) d.1.2), d.2);
+  arcs = λ arc k. arc_stays nfa old new s arc g (a.arcs arc k);
 }
 
 -- an id that goes to the end of one list: there, and elsewhere
@@ -98,40 +102,34 @@ module _ (into : List (List ℕ)) (t y : ℕ) (l : t < length into) where
   abbrev longer : List (List ℕ)
   longer = slice_set into t (get_or into t [] ++ y ∷ [])
 
-  pub same_there : get_or longer t [] ≡ get_or into t [] ++ y ∷ []
+  same_there : get_or longer t [] ≡ get_or into t [] ++ y ∷ []
   same_there = get_or-set_same into t (get_or into t [] ++ y ∷ []) [] l
+
+  elsewhere : (u : ℕ) → (u ≡ t → ⊥) → get_or longer u [] ≡ get_or into u []
+  elsewhere u n = get_or-set_other into t u (get_or into t [] ++ y ∷ []) [] n
 
   pub stays_in : (u z : ℕ) → In z (get_or into u []) → In z (get_or longer u [])
   stays_in u z k = by_cases (cases_eq u t)
-      (λ e. subst (λ w. In z (get_or longer w [])) (sym e) (subst (λ w. In z w) (sym same_there)
-      (In_append_left z (get_or into t []) (y ∷ []) (subst (λ w. In z (get_or into w [])) e k))))
-      (λ n. subst (λ w. In z w) (sym (get_or-set_other into t u (get_or into t [] ++ y ∷ []) [] n)) k)
+      (λ e. rw (e, same_there) (In_append_left z (get_or into t []) (y ∷ []) (rw e at k)))
+      (λ n. rw (elsewhere u n) k)
 
   pub is_there : In y (get_or longer t [])
-  is_there = subst (λ w. In y w) (sym same_there) (In_append_right y (get_or into t []) (y ∷ []) (0, refl))
+  is_there = rw same_there (In_append_right y (get_or into t []) (y ∷ []) (In_head y []))
 
   pub came_in : {P : Type 0} (u z : ℕ) → In z (get_or longer u []) → (In z (get_or into u []) → P)
       → (u ≡ t → z ≡ y → P) → P
   came_in u z k f g = by_cases (cases_eq u t)
-      (λ e. In_append_cases z (get_or into t []) (y ∷ [])
-      (subst (λ w. In z w) same_there (subst (λ w. In z (get_or longer w [])) e k))
-      (λ d. f (subst (λ w. In z (get_or into w [])) (sym e) d))
-      (λ d. g e (one d)))
-      (λ n. f (subst (λ w. In z w) (get_or-set_other into t u (get_or into t [] ++ y ∷ []) [] n) k))
-    where
-      one : In z (y ∷ []) → z ≡ y
-      one d = go d.0 d.1
-        where
-          go : (i : ℕ) → slice_get (y ∷ []) i ≡ Some z → z ≡ y
-          go zero e = (let k : y ≡ z = cc in sym k)
-          go (suc i) e = absurd (let k : None ≡ Some z = e in cc)
+      (λ e. In_append_cases z (get_or into t []) (y ∷ []) (rw (e, same_there) at k)
+      (λ d. f (rw e d))
+      (λ d. In_cases z y [] d (λ w. g e w) (λ w. In_none z w)))
+      (λ n. f (rw (elsewhere u n) at k))
 
 pub slice_get-left : {A : Type 0} (xs ys : List A) (i : ℕ) (x : A) → slice_get xs i ≡ Some x
     → slice_get (xs ++ ys) i ≡ Some x
 slice_get-left {A} xs ys i x e = go xs i e
   where
     go : (xs : List A) (i : ℕ) → slice_get xs i ≡ Some x → slice_get (xs ++ ys) i ≡ Some x
-    go [] i e = absurd (let k : None ≡ Some x = e in cc)
+    go [] i e = cc
     go (z ∷ xs) zero e = e
     go (z ∷ xs) (suc i) e = go xs i e
 
@@ -160,7 +158,7 @@ module _ (nfa : Nfa) (h : Turned) (sound : IsSound nfa h) where
   sound_added t y l d = record {
     count = length-set h.into t (sources h t ++ y ∷ []) ∙ sound.count;
     into = λ u z k. came_in h.into t y (within t l) u z k (λ f. sound.into u z f)
-        (λ e f. subst (λ w. IsSource nfa h.rest w z) (sym e) (subst (λ w. IsSource nfa h.rest t w) (sym f) d));
+        (λ e f. rw (e, f) d);
     ends = sound.ends;
   }
 
@@ -186,22 +184,13 @@ module _ (nfa : Nfa) (h : Turned) (sound : IsSound nfa h) where
     count = length-set h.into t (sources h t ++ last_id ∷ []) ∙ sound.count;
     into = λ u z k. came_in h.into t last_id (within t l) u z k
         (λ f. source_stays nfa h.rest (node ∷ []) u z (sound.into u z f))
-        (λ e f. inr (inr (
-          length h.rest,
-          node,
-          f
-              ∙ last_is,
-          slice_get-last h.rest node,
-          subst (λ w. IsArc nfa w node) (sym e) arc,
-        )));
+        (λ e f. inr (inr (length h.rest, node, f ∙ last_is, slice_get-last h.rest node, rw e arc)));
     ends = sound.ends;
   }
 
-  pub there_state : (t : ℕ) (node : Node) → t < length nfa.states
-      → (i : ℕ) × In (id_of nfa i) (sources (with_state h t node) t)
-      × (slice_get (with_state h t node).rest i ≡ Some node)
+  pub there_state : (t : ℕ) (node : Node) → t < length nfa.states → HasState nfa (with_state h t node) t node
   there_state t node l = (
     length h.rest,
-    subst (λ w. In w (sources (with_state h t node) t)) last_is (is_there h.into t last_id (within t l)),
+    rw (← last_is) (is_there h.into t last_id (within t l)),
     slice_get-last h.rest node,
   )

@@ -11,7 +11,7 @@ use Rattle.determinize_below.specs.Edges.{pattern_in}
 use Rattle.determinize_below.specs.Edges.{pattern_of}
 use Rattle.determinize_below.specs.declared.look.Look.{Look as Assertion}
 use Rattle.determinize_below.proofs.nfas.Edges.{state_past}
-use Rattle.ordered_reach.proofs.lists.Elements.{In}
+use Rattle.ordered_reach.proofs.lists.Elements.{In, In_none}
 use Rattle.ordered_reach.proofs.Cases.{by_cases}
 use Rattle.determinize_nfa.specs.Private.Gathered.{gathered, states_of}
 use Rattle.determinize_nfa.specs.Private.Turning.{Turned, sources}
@@ -86,15 +86,15 @@ module _ (nfa : Nfa) (s : ℕ) where
   -- an id with a pattern, or with a transition over a byte, is that of a state
   pub pattern_within : (pattern : ℕ) → pattern_of nfa s ≡ Some pattern → s < length nfa.states
   pattern_within pattern e = is_state
-      (λ z. absurd (let k : None ≡ Some pattern = subst (λ w. pattern_in w ≡ Some pattern) z e in cc))
+      (λ z. absurd (let k : None ≡ Some pattern = rw z at e in cc))
       (λ l. l)
 
   pub target_within : (u : Option ℕ) (t : ℕ) → target_of u (state_at nfa s) ≡ Some t → s < length nfa.states
   target_within u t e = is_state
-      (λ z. absurd (let k : None ≡ Some t = subst (λ w. target_of u w ≡ Some t) z e in cc))
+      (λ z. absurd (let k : None ≡ Some t = rw z at e in cc))
       (λ l. l)
 
   pub edge_within : (holds : Assertion → Bool) (t : ℕ) → In t (edges_of holds (state_at nfa s)) → s < length nfa.states
   edge_within holds t k = is_state
-      (λ z. absurd (let e : Some t ≡ None = sym (subst (λ w. In t (edges_of holds w)) z k).1 in cc))
+      (λ z. In_none t (rw z at k))
       (λ l. l)

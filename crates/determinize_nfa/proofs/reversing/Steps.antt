@@ -1,14 +1,16 @@
 -- One more recorded transition, and one more reached state, as the program records them.
--- Main statements: added_is, ended, count-node, over_start, over_more, over_all.
+-- Main statements: added_is, ended, count-arc, count-arcs, over_start, over_more, over_all.
 -- Used by: `add`, `add_nodes` and `end_states` of the reversal.
 -- Idea: a push to one list of a list of lists is the definition of `added`.
 use Rattle.std.specs.Prelude.{OnOk, if◌then◌else◌, is_ok, slice_get}
 use Rattle.std.proofs.Common.{◌≡◌, ◌<◌, ◌≤◌, ◌+◌, ◌++◌, ◌∙◌, ◌∷◌, ℕ, Err, List, Ok, Result, Some, [], ap, append_assoc, arith, drop, get_or, length, map, refl, replicate, set, suc, sym, zero}
 use Rattle.std.proofs.Math.Seq.{drop-cons}
 use Rattle.std.proofs.lemmas.List.{get_or-map, length-replicate, length-set, map-append, map-set}
-use Rattle.determinize_below.specs.Semantics.{Nfa, Node, ByteRange, Sparse, Dense, Look, Union, BinaryUnion, Capture}
-use Rattle.determinize_below.specs.declared.nfa.transitions.Transition.{Transition}
-use Rattle.determinize_nfa.specs.Private.Turning.{Turned, added, none_turned, range_to, sources, with_frees, with_node, with_nodes, with_ranges, runs, turned_over, with_state}
+use Rattle.determinize_below.specs.Semantics.{state_at, Match, Nfa, Node}
+use Rattle.determinize_nfa.specs.Private.Arcs.{arcs_of}
+use Rattle.determinize_nfa.specs.Private.Turning.{Turned, added, none_turned, sources, turned_over, with_arc, with_arcs, with_end, with_node, with_nodes}
+use Rattle.determinize_nfa.specs.declared.arcs.Arc.{Arc}
+use Rattle.determinize_nfa.specs.declared.arcs.Arc.TheVariants.{Free, Range, Test}
 use Rattle.determinize_nfa.proofs.prefixes.Parts.{state_is}
 
 -- an id goes to the end of one of some lists
@@ -42,25 +44,25 @@ ended f made one two whole rest m u (Ok x) b c d =
 ended f made one two whole rest m u (Err e) b c d = tt
 
 -- there is one list for each state
-count-ranges : (s : ℕ) (rs : List Transition) (h : Turned) → length (with_ranges h s rs).into ≡ length h.into
-count-ranges s [] h = refl
-count-ranges s (r ∷ rs) h =
-    count-ranges s rs (with_state h r.next (range_to s r))
-    ∙ length-set h.into r.next (sources h r.next ++ (length h.into + 2 + length h.rest) ∷ [])
+pub count-arc : (s : ℕ) (arc : Arc) (h : Turned) → length (with_arc h s arc).into ≡ length h.into
+count-arc s (Range r) h = length-set h.into r.next (sources h r.next ++ (length h.into + 2 + length h.rest) ∷ [])
+count-arc s (Test look next) h = length-set h.into next (sources h next ++ (length h.into + 2 + length h.rest) ∷ [])
+count-arc s (Free next) h = length-set h.into next (sources h next ++ s ∷ [])
 
-count-frees : (s : ℕ) (ids : List ℕ) (h : Turned) → length (with_frees h s ids).into ≡ length h.into
-count-frees s [] h = refl
-count-frees s (id ∷ ids) h = count-frees s ids (added h id s) ∙ length-set h.into id (sources h id ++ s ∷ [])
+pub count-arcs : (s : ℕ) (arcs : List Arc) (h : Turned) → length (with_arcs h s arcs).into ≡ length h.into
+count-arcs s [] h = refl
+count-arcs s (arc ∷ arcs) h = count-arcs s arcs (with_arc h s arc) ∙ count-arc s arc h
 
-pub count-node : (s : ℕ) (node : Node) (h : Turned) → length (with_node h s node).into ≡ length h.into
-count-node s (ByteRange r) h = count-ranges s (r ∷ []) h
-count-node s (Sparse rs) h = count-ranges s rs h
-count-node s (Dense ids) h = count-ranges s (runs 0 0 ids) h
-count-node s (Look look next) h = length-set h.into next (sources h next ++ (length h.into + 2 + length h.rest) ∷ [])
-count-node s (Union ids) h = count-frees s ids h
-count-node s (BinaryUnion a b) h = count-frees s (a ∷ b ∷ []) h
-count-node s (Capture next) h = count-frees s (next ∷ []) h
-count-node s l h = refl
+count-end : (s : ℕ) (node : Node) (h : Turned) → length (with_end h s node).into ≡ length h.into
+count-end s (Match pattern) h = refl
+count-end s node h = refl
+
+count-node : (s : ℕ) (node : Node) (h : Turned) → length (with_node h s node).into ≡ length h.into
+count-node s node h = count-end s node (with_arcs h s (arcs_of node)) ∙ count-arcs s (arcs_of node) h
+
+pub count-nodes : (nfa : Nfa) (ss : List ℕ) (h : Turned) → length (with_nodes nfa h ss).into ≡ length h.into
+count-nodes nfa [] h = refl
+count-nodes nfa (s ∷ ss) h = count-nodes nfa ss (with_node h s (state_at nfa s)) ∙ count-node s (state_at nfa s) h
 
 -- the states of a list, one by one
 pub record IsOver (nfa : Nfa) (whole h : Turned) (met : List ℕ) (k : ℕ) : Type 0 where

@@ -5,24 +5,28 @@
 use Rattle.std.specs.List.{list_all, list_any}
 use Rattle.std.specs.Option.{option_or}
 use Rattle.std.specs.Prelude.{nat_lt}
-use Rattle.std.proofs.Common.{◌≡◌, ◌<◌, ◌+◌, ◌&&◌, ◌++◌, ◌∙◌, ◌∷◌, ◌||◌, ℕ, Bool, List, None, Option, Some, [], ap, arith, cond, false, length, map, not, refl, subst, suc, sym, true}
+use Rattle.std.proofs.Common.{◌≡◌, ◌<◌, ◌+◌, ◌&&◌, ◌++◌, ◌∙◌, ◌∷◌, ◌||◌, ℕ, Bool, List, None, Option, Some, [], ap, arith, cond, false, length, map, not, refl, suc, sym, true}
 use Rattle.std.proofs.lemmas.Bool.{and_from}
 use Rattle.std.proofs.lemmas.Bool.Decides.{nat_tests}
 use Rattle.std.proofs.lemmas.List.Folds.{list_any-append}
 use Rattle.std.proofs.lemmas.Option.{get_or_from_slice_get, slice_get_within}
-use Rattle.determinize_below.specs.Semantics.{state_at, Nfa, Node, ByteRange, Sparse, Dense, Look, Union, Match}
+use Rattle.determinize_below.specs.Semantics.{state_at, Nfa, Node, ByteRange, Look, Union, Match}
 use Rattle.determinize_below.specs.Edges.{pattern_in}
+use Rattle.determinize_below.specs.Look.{reversed}
 use Rattle.determinize_below.specs.Nfa.{failure, is_dense_sound, is_match_of, is_repeated, is_sparse_sound, resolves, state_failure, states_failure}
 use Rattle.determinize_below.specs.declared.nfa.BuildError.{BuildError}
 use Rattle.determinize_below.specs.declared.nfa.BuildError.TheVariants.{TooManyStates, UnresolvedStart}
 use Rattle.determinize_below.specs.declared.primitives.TheConstants.{ID_LIMIT}
-use Rattle.ordered_reach.proofs.lists.Elements.{In, In_append_cases, In_cases, In_head, In_map_from, In_none, In_tail}
+use Rattle.ordered_reach.proofs.lists.Elements.{In, In_append_cases, In_cases, In_flat_map_from, In_head, In_map_from, In_none, In_tail}
 use Rattle.ordered_reach.proofs.Cases.{by_cases, by_test, some_injective}
 use Rattle.determinize_nfa.specs.Private.Gathered.{gathered, states_of}
-use Rattle.determinize_nfa.specs.Private.Turning.{range_to, runs, sources, Turned}
+use Rattle.determinize_nfa.specs.Private.Arcs.{arcs_of}
+use Rattle.determinize_nfa.specs.Private.Turning.{range_to, sources, Turned}
+use Rattle.determinize_nfa.specs.declared.arcs.Arc.{Arc}
+use Rattle.determinize_nfa.specs.declared.arcs.Arc.TheVariants.{Free, Range, Test}
 use Rattle.determinize_nfa.proofs.reversing.StatesById.{pattern_within}
 use Rattle.determinize_nfa.proofs.reversing.Recorded.{IsSound}
-use Rattle.determinize_nfa.proofs.reversing.Counts.{length-states, made_by, made_of_each}
+use Rattle.determinize_nfa.proofs.reversing.Counts.{back, length-states, made_by, made_of_each}
 
 -- a state without a pattern that passes validation
 pub record IsPlain (count : ℕ) (node : Node) : Type 0 where
@@ -39,19 +43,17 @@ range_plain : (count s start end : ℕ) → s < count
     → IsPlain count (ByteRange record { start = start; end = end; next = s })
 range_plain count s start end l = record { resolves = below s count l; ascends = refl; whole = refl; pattern = refl }
 
+back_plain : (count s : ℕ) → s < count → (arc : Arc) (x : Node) → In x (back s arc) → IsPlain count x
+back_plain count s l (Range r) x k = In_cases x (range_to s r) [] k
+    (λ z. rw z (range_plain count s r.start r.end l))
+    (λ i. In_none x i)
+back_plain count s l (Test look next) x k = In_cases x (Look (reversed look) s) [] k
+    (λ z. rw z (record { resolves = below s count l; ascends = refl; whole = refl; pattern = refl }))
+    (λ i. In_none x i)
+back_plain count s l (Free next) x k = In_none x k
+
 made_plain : (count s : ℕ) → s < count → (node x : Node) → In x (made_by s node) → IsPlain count x
-made_plain count s l (ByteRange r) x k = In_cases x (range_to s r) [] k
-    (λ z. subst (λ w. IsPlain count w) (sym z) (range_plain count s r.start r.end l))
-    (λ i. In_none x i)
-made_plain count s l (Sparse rs) x k = In_map_from (range_to s) x rs k
-    (λ r i z. subst (λ w. IsPlain count w) (sym z) (range_plain count s r.start r.end l))
-made_plain count s l (Dense ids) x k = In_map_from (range_to s) x (runs 0 0 ids) k
-    (λ r i z. subst (λ w. IsPlain count w) (sym z) (range_plain count s r.start r.end l))
-made_plain count s l (Look look next) x k = In_cases x _ [] k
-    (λ z. subst (λ w. IsPlain count w) (sym z)
-    record { resolves = below s count l; ascends = refl; whole = refl; pattern = refl })
-    (λ i. In_none x i)
-made_plain count s l o x k = In_none x k
+made_plain count s l node x k = In_flat_map_from (back s) (arcs_of node) x k (λ arc i j. back_plain count s l arc x j)
 
 pub each_plain : (nfa : Nfa) (count : ℕ) (met : List ℕ) → ((s : ℕ) → In s met → s < count)
     → (x : Node) → In x (made_of_each nfa met) → IsPlain count x
@@ -143,9 +145,9 @@ module _ (nfa : Nfa) (h : Turned) (sound : IsSound nfa h)
       let c = count_is in omega (arith, c)))
 
   into_plain : (x : Node) → In x (map gathered h.into) → IsPlain (length (states_of h)) x
-  into_plain x k = In_map_from gathered x h.into k (λ ids i e. subst (λ w. IsPlain (length (states_of h)) w) (sym e)
-      (gathered_plain (length (states_of h)) ids (λ y j. source_below i.0 y
-      (subst (λ w. In y w) (sym (get_or_from_slice_get h.into i.0 ids [] i.1)) j))))
+  into_plain x k = In_map_from gathered x h.into k (λ ids i e.
+      let is : sources h i.0 ≡ ids = get_or_from_slice_get h.into i.0 ids [] i.1 in
+      rw e (gathered_plain (length (states_of h)) ids (λ y j. source_below i.0 y (rw is j))))
 
   ends_plain : IsPlain (length (states_of h)) (Union h.ends)
   ends_plain = record {
@@ -162,7 +164,7 @@ module _ (nfa : Nfa) (h : Turned) (sound : IsSound nfa h)
       (Union h.ends ∷ h.rest))) (first_match earlier i n)
       ∙ plain_only (length (states_of h)) (Union h.ends ∷ h.rest) (earlier ++ Match 0 ∷ []) (i + 1)
       (λ x k. In_cases x (Union h.ends) h.rest k
-      (λ e. subst (λ w. IsPlain (length (states_of h)) w) (sym e) ends_plain) (λ j. rest x j)))
+      (λ e. rw e ends_plain) (λ j. rest x j)))
       (map gathered h.into) [] 0 into_plain refl
     where
       first_match : (earlier : List Node) (i : ℕ) → list_any (is_match_of 0) earlier ≡ false
@@ -173,12 +175,8 @@ module _ (nfa : Nfa) (h : Turned) (sound : IsSound nfa h)
   pub only_size : (start : ℕ) (e : BuildError) → start ≡ suc (length nfa.states)
       → failure (states_of h) start start ≡ Some e → (e ≡ TooManyStates) × (ID_LIMIT < length (states_of h))
   only_size start e z k = by_test (nat_lt ID_LIMIT (length (states_of h)))
-      (λ t. (
-        sym (some_injective TooManyStates e (subst (λ b. cond b (Some TooManyStates) rest_of ≡ Some e) t k)),
-        above t,
-      ))
-      (λ t. absurd (let j : None ≡ Some e = sym fine ∙ subst (λ b. cond b (Some TooManyStates) rest_of ≡ Some e) t k
-      in cc))
+      (λ t. (sym (some_injective TooManyStates e (rw t at k)), above t))
+      (λ t. absurd (let j : None ≡ Some e = sym fine ∙ rw t at k in cc))
     where
       rest_of : Option BuildError
       rest_of = cond (not (nat_lt start (length (states_of h)) && nat_lt start (length (states_of h))))

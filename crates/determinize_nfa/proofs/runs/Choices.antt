@@ -3,26 +3,23 @@
 -- Main statements: choice_cases, choice_later, choice_leads, and the same under any assertions (choices_under).
 -- Used by: all that follows a run step by step.
 -- Idea: the choices at a pair are the byte transitions, then the epsilon ones (`run_edges`).
-use Rattle.std.specs.List.{find, list_any}
 use Rattle.std.specs.Option.{option_to_list}
-use Rattle.std.specs.Prelude.{nat_eq, option_map, slice_get}
-use Rattle.std.proofs.Common.{◌≡◌, ◌≤◌, ◌∙◌, ◌∷◌, ◌&&◌, ℕ, Bool, List, None, Option, Some, [], ap, arith, cond, false, get_or, map, not, refl, subst, suc, sym, true, zero}
-use Rattle.std.proofs.lemmas.Bool.{eq-eqb, false≢true, or_left, or_right}
-use Rattle.determinize_below.specs.Semantics.{edges_of, state_at, target_of, Nfa, Node, ByteRange, Sparse, Dense, Look, Union, BinaryUnion, Capture, Text, after_at, before_at, choices}
-use Rattle.determinize_below.specs.Transition.{sparse_target}
+use Rattle.std.specs.Prelude.{slice_get}
+use Rattle.std.proofs.Common.{◌≡◌, ◌≤◌, ℕ, Bool, List, None, Option, Some, [], ap, arith, map, refl, suc, true}
+use Rattle.determinize_below.specs.Semantics.{edges_of, state_at, target_of, Nfa, Node, Text, after_at, before_at, choices}
 use Rattle.determinize_below.specs.Edges.{edges}
 use Rattle.determinize_below.specs.Positions.{byte_edges, true_edges, truth}
 use Rattle.ordered_reach.specs.Runs.{placed, run_edges}
-use Rattle.determinize_below.specs.Transition.{dense_target, matches, matches_unit}
 use Rattle.determinize_below.specs.declared.look.Look.{Look as Assertion}
-use Rattle.determinize_below.specs.declared.nfa.transitions.Transition.{Transition}
 use Rattle.ordered_reach.proofs.lists.Elements.{In, In_append_cases, In_append_left, In_append_right, In_cases, In_map, In_map_from, In_none}
-use Rattle.ordered_reach.proofs.Cases.{by_test, some_injective}
 use Rattle.determinize_nfa.specs.Prefix.{leads_to}
+use Rattle.determinize_nfa.specs.declared.arcs.Arc.TheVariants.{Free, Range, Test}
+use Rattle.determinize_nfa.proofs.kinds.ArcsOfStates.{arc_leads, byte_arc, edge_arc}
+use Rattle.determinize_nfa.proofs.kinds.OneArc.{no_end}
 
 In_option : {A : Type 0} (o : Option A) (x : A) → In x (option_to_list o) → o ≡ Some x
-In_option None x h = absurd (let k : Some x ≡ None = sym h.1 in cc)
-In_option (Some y) x h = In_cases x y [] h (λ e. ap Some (sym e)) (λ k. absurd (let z : Some x ≡ None = sym k.1 in cc))
+In_option None x h = In_none x h
+In_option (Some y) x h = In_cases x y [] h (λ e. cc) (λ k. In_none x k)
 
 -- the choices of a run, where h has the assertions that hold at each position
 abbrev pub choices_under : Nfa → Text → (ℕ → Assertion → Bool) → ℕ × ℕ → List (ℕ × ℕ)
@@ -41,10 +38,10 @@ under_cases nfa text h p q c e f g =
     In_append_cases q (map (placed (suc p.0)) (byte_edges nfa text p.0 p.1))
     (map (placed p.0) (edges nfa (h p.0) p.1)) (c, e)
     (λ k. In_map_from (placed (suc p.0)) q (byte_edges nfa text p.0 p.1) k
-    (λ t m z. f (ap (λ x. x.0) z) (In_option (target_of (slice_get text.bytes p.0) (state_at nfa p.1)) q.1
-    (subst (λ y. In y (byte_edges nfa text p.0 p.1)) (sym (ap (λ x. x.1) z)) m))))
+    (λ t m z. let same : q.1 ≡ t = ap (λ x. x.1) z in
+    f (ap (λ x. x.0) z) (In_option (target_of (slice_get text.bytes p.0) (state_at nfa p.1)) q.1 (rw same m))))
     (λ k. In_map_from (placed p.0) q (edges nfa (h p.0) p.1) k
-    (λ t m z. g (ap (λ x. x.0) z) (subst (λ y. In y (edges nfa (h p.0) p.1)) (sym (ap (λ x. x.1) z)) m)))
+    (λ t m z. let same : q.1 ≡ t = ap (λ x. x.1) z in g (ap (λ x. x.0) z) (rw same m)))
 
 pub choice_cases : {P : Type 0} (nfa : Nfa) (text : Text) (p q : ℕ × ℕ) (c : ℕ)
     → slice_get (choices nfa text p) c ≡ Some q
@@ -80,66 +77,16 @@ pub choice_later : (nfa : Nfa) (text : Text) (p q : ℕ × ℕ) (c : ℕ) → sl
     → p.0 ≤ q.0
 choice_later nfa text = under_later nfa text (true_at nfa text)
 
-pub In_any : (id : ℕ) (ids : List ℕ) → In id ids → list_any (nat_eq id) ids ≡ true
-In_any id [] h = absurd (let k : Some id ≡ None = sym h.1 in cc)
-In_any id (x ∷ ids) h = In_cases id x ids h
-    (λ e. or_left (nat_eq id x) (list_any (nat_eq id) ids) (eq-eqb id x e))
-    (λ k. or_right (nat_eq id x) (list_any (nat_eq id) ids) (In_any id ids k))
-
-In_one : (x y : ℕ) → In x (y ∷ []) → nat_eq x y ≡ true
-In_one x y h = In_cases x y [] h (λ e. eq-eqb x y e) (λ k. absurd (let z : Some x ≡ None = sym k.1 in cc))
-
 -- an edge without input leads where the state leads
-pub edge_leads : (holds : Assertion → Bool) (node : Node) (t : ℕ) → In t (edges_of holds node) → leads_to t node ≡ true
-edge_leads holds (Look look next) t h = by_test (holds look)
-    (λ e. In_one t next (subst (λ b. In t (cond b (next ∷ []) [])) e h))
-    (λ e. In_none t (subst (λ b. In t (cond b (next ∷ []) [])) e h))
-edge_leads holds (Union ids) t h = In_any t ids h
-edge_leads holds (BinaryUnion a b) t h = In_cases t a (b ∷ []) h
-    (λ e. or_left (nat_eq t a) (nat_eq t b) (eq-eqb t a e))
-    (λ k. or_right (nat_eq t a) (nat_eq t b) (In_one t b k))
-edge_leads holds (Capture next) t h = In_one t next h
-edge_leads holds s t h = In_none t h
+edge_leads : (holds : Assertion → Bool) (node : Node) (t : ℕ) → In t (edges_of holds node) → leads_to t node ≡ true
+edge_leads holds node t k = edge_arc holds node t k
+    (λ i. arc_leads (Free t) node i)
+    (λ look i e. arc_leads (Test look t) node i)
 
-range_leads : (r : Transition) (u : Option ℕ) (t : ℕ) → cond (matches_unit r u) (Some r.next) None ≡ Some t
-    → nat_eq t r.next ≡ true
-range_leads r u t e = by_test (matches_unit r u)
-    (λ z. eq-eqb t r.next (sym (some_injective r.next t (subst (λ b. cond b (Some r.next) None ≡ Some t) z e))))
-    (λ z. absurd (let k : None ≡ Some t = subst (λ b. cond b (Some r.next) None ≡ Some t) z e in cc))
-
-sparse_leads : (ts : List Transition) (b t : ℕ) → sparse_target ts b ≡ Some t
-    → list_any (λ r. nat_eq t r.next) ts ≡ true
-sparse_leads [] b t e = absurd (let k : None ≡ Some t = e in cc)
-sparse_leads (r ∷ ts) b t e = by_test (matches r b)
-    (λ z. or_left (nat_eq t r.next) (list_any (λ w. nat_eq t w.next) ts)
-    (eq-eqb t r.next (sym (some_injective r.next t
-    (subst (λ y. option_map (λ w. w.next) (cond y (Some r) (find (λ w. matches w b) ts)) ≡ Some t) z e)))))
-    (λ z. or_right (nat_eq t r.next) (list_any (λ w. nat_eq t w.next) ts)
-    (sparse_leads ts b t (subst (λ y. option_map (λ w. w.next) (cond y (Some r) (find (λ w. matches w b) ts))
-    ≡ Some t) z e)))
-
-at_any : (ids : List ℕ) (b t : ℕ) → get_or ids b 0 ≡ t → nat_eq t 0 ≡ false → list_any (nat_eq t) ids ≡ true
-at_any [] b t e z = absurd (false≢true (sym z ∙ eq-eqb t 0 (sym e)))
-at_any (x ∷ ids) zero t e z = or_left (nat_eq t x) (list_any (nat_eq t) ids) (eq-eqb t x (sym e))
-at_any (x ∷ ids) (suc b) t e z = or_right (nat_eq t x) (list_any (nat_eq t) ids) (at_any ids b t e z)
-
-dense_leads : (ids : List ℕ) (b t : ℕ) → dense_target ids b ≡ Some t
-    → (not (nat_eq t 0) && list_any (nat_eq t) ids) ≡ true
-dense_leads ids b t e = by_test (nat_eq (get_or ids b 0) 0)
-    (λ z. absurd (let k : None ≡ Some t = subst (λ y. cond y None (Some (get_or ids b 0)) ≡ Some t) z e in cc))
-    (λ z. let k : get_or ids b 0 ≡ t = some_injective (get_or ids b 0) t
-    (subst (λ y. cond y None (Some (get_or ids b 0)) ≡ Some t) z e) in
-    let w : nat_eq t 0 ≡ false = subst (λ y. nat_eq y 0 ≡ false) k z in
-    rw w (at_any ids b t k w))
-
--- a byte leads where the state leads
-pub target_leads : (u : Option ℕ) (node : Node) (t : ℕ) → target_of u node ≡ Some t → leads_to t node ≡ true
-target_leads u (ByteRange r) t e = range_leads r u t e
-target_leads None (Sparse ts) t e = absurd (let k : None ≡ Some t = e in cc)
-target_leads (Some b) (Sparse ts) t e = sparse_leads ts b t e
-target_leads None (Dense ids) t e = absurd (let k : None ≡ Some t = e in cc)
-target_leads (Some b) (Dense ids) t e = dense_leads ids b t e
-target_leads u s t e = absurd (let k : None ≡ Some t = e in cc)
+-- and so does a byte
+target_leads : (u : Option ℕ) (node : Node) (t : ℕ) → target_of u node ≡ Some t → leads_to t node ≡ true
+target_leads None node t e = no_end node t e
+target_leads (Some b) node t e = let d = byte_arc node b t e in rw d.2 at (arc_leads (Range d.0) node d.1)
 
 -- a choice leads where the state leads
 pub under_leads : (nfa : Nfa) (text : Text) (h : ℕ → Assertion → Bool) (p q : ℕ × ℕ) (c : ℕ)

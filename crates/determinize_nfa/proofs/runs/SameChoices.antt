@@ -51,16 +51,14 @@ module _ (nfa : Nfa) (text other : Text) (h g : ℕ → Assertion → Bool) wher
     where
       no_target : In q.1 (edges nfa (h p.0) p.1) → (o : Option ℕ) → target nfa o p.1 ≡ []
       no_target f o = by_cases (edges-or-target nfa (h p.0) o p.1)
-          (λ n. In_none q.1 (subst (λ l. In q.1 l) n f))
+          (λ n. In_none q.1 (rw n at f))
           (λ n. n)
 
       free : In q.1 (edges nfa (h p.0) p.1) → slice_get (choices_under nfa other g p) c ≡ Some q
       free f =
           let k : slice_get (joined p [] (edges nfa (h p.0) p.1)) c ≡ Some q
-          = subst (λ l. slice_get (joined p l (edges nfa (h p.0) p.1)) c ≡ Some q)
-          (no_target f (slice_get text.bytes p.0)) e in
-          subst (λ l. slice_get (joined p l (edges nfa (g p.0) p.1)) c ≡ Some q)
-          (sym (no_target f (slice_get other.bytes p.0)))
+          = rw (no_target f (slice_get text.bytes p.0)) at e in
+          rw (no_target f (slice_get other.bytes p.0))
           (edges_at (h p.0) (g p.0) (state_at nfa p.1) p.0 c q m k)
 
   -- and at a capture

@@ -74,7 +74,7 @@ module _ (nfa : Nfa) (text : Text) (k : ℕ) where
       = path_unmap same_pairs same_pairs (shifted k) (shifted_one k) (choices nfa (since text k))
       (choices nfa text) choices-since cs [] (j, start) (k + i, p.0) p.1 in
       let e : (i, p.0) ≡ r.0 = shifted_one k (i, p.0) r.0 r.1 in
-      (p.0, subst (λ w. IsPath (choices nfa (since text k)) [] (j, start) cs w) (sym e) r.2, p.2)
+      (p.0, rw e r.2, p.2)
 
   unmoved : (j start : ℕ) (cs : List ℕ) (i pattern : ℕ) → AcceptsFrom nfa (since text k) j start cs i pattern
       → AcceptsFrom nfa text (k + j) start cs (k + i) pattern

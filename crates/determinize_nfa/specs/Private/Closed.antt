@@ -1,7 +1,6 @@
 -- The states that the anchored start of an NFA reaches.
-use Rattle.std.specs.Prelude.{◌≡◌, ◌++◌, ◌∷◌, ℕ, List, Some, [], cond, map, nat_eq, not, slice_get, true}
-use Rattle.std.specs.List.{filter}
-use Rattle.determinize_below.specs.Semantics.{state_at, Nfa, Node, ByteRange, Sparse, Dense, Look, Union, BinaryUnion, Capture, Fail, Match}
+use Rattle.std.specs.Prelude.{◌≡◌, ◌++◌, ◌∷◌, ℕ, List, Some, [], cond, slice_get, true}
+use Rattle.determinize_below.specs.Semantics.{state_at, Nfa}
 use Rattle.determinize_below.specs.Members.{has_id}
 use Rattle.determinize_nfa.specs.Prefix.{leads_to}
 
@@ -13,18 +12,6 @@ Has ids id = (i : ℕ) × (slice_get ids i ≡ Some id)
 pub record IsClosed (nfa : Nfa) (met : List ℕ) : Type 0 where
   pub start : Has met nfa.start_anchored
   pub further : (s t : ℕ) → Has met s → leads_to t (state_at nfa s) ≡ true → Has met t
-
--- the targets of the transitions of a state
-abbrev pub targets_in : Node → List ℕ
-targets_in (ByteRange t) = t.next ∷ []
-targets_in (Sparse ts) = map (λ t. t.next) ts
-targets_in (Dense ids) = filter (λ id. not (nat_eq id 0)) ids
-targets_in (Look look next) = next ∷ []
-targets_in (Union ids) = ids
-targets_in (BinaryUnion a b) = a ∷ b ∷ []
-targets_in (Capture next) = next ∷ []
-targets_in Fail = []
-targets_in (Match pattern) = []
 
 -- the ids with one more at the end, if it is new
 abbrev pub visited : List ℕ → ℕ → List ℕ

@@ -1,12 +1,14 @@
 -- The transitions of an NFA, reversed one after another.
-use Rattle.std.specs.Prelude.{◌≡◌, ◌++◌, ◌+◌, ◌∷◌, ℕ, List, [], cond, length, nat_eq, replicate, slice_index_or, slice_set, suc}
+use Rattle.std.specs.Prelude.{◌≡◌, ◌++◌, ◌+◌, ◌∷◌, ℕ, List, [], length, nat_eq, replicate, slice_index_or, slice_set}
 use Rattle.std.specs.List.{IsDistinct}
 use Rattle.determinize_below.specs.Nfa.{AllResolve}
-use Rattle.determinize_below.specs.Semantics.{state_at, Nfa, Node, ByteRange, Sparse, Dense, Look, Union, BinaryUnion, Capture, Fail, Match}
+use Rattle.determinize_below.specs.Semantics.{state_at, ByteRange, Look, Match, Nfa, Node}
 use Rattle.determinize_below.specs.Look.{reversed}
 use Rattle.determinize_below.specs.declared.nfa.transitions.Transition.{Transition}
+use Rattle.determinize_nfa.specs.Private.Arcs.{arcs_of}
 use Rattle.determinize_nfa.specs.Private.Closed.{IsClosed}
-use Rattle.determinize_nfa.specs.Reversal.{is_first}
+use Rattle.determinize_nfa.specs.declared.arcs.Arc.{Arc}
+use Rattle.determinize_nfa.specs.declared.arcs.Arc.TheVariants.{Free, Range, Test}
 
 -- for each state the ids that it has transitions to in the reversed NFA, the states of the reversed
 -- NFA that read a byte or test an assertion, and the `Match` states
@@ -43,39 +45,25 @@ with_state h t node = record {
 abbrev pub range_to : ℕ → Transition → Node
 range_to s r = ByteRange record { start = r.start; end = r.end; next = s }
 
--- the transitions from s over ranges of bytes, reversed
-abbrev pub with_ranges : Turned → ℕ → List Transition → Turned
-with_ranges h s [] = h
-with_ranges h s (r ∷ rs) = with_ranges (with_state h r.next (range_to s r)) s rs
+-- a transition from s, reversed
+abbrev pub with_arc : Turned → ℕ → Arc → Turned
+with_arc h s (Range r) = with_state h r.next (range_to s r)
+with_arc h s (Test look next) = with_state h next (Look (reversed look) s)
+with_arc h s (Free next) = added h next s
 
--- with the range from byte a to byte b of a table, if it has a target there
-abbrev pub with_run : ℕ → ℕ → ℕ → List Transition → List Transition
-with_run a b id rs = cond (nat_eq id 0) rs (record { start = a; end = b; next = id } ∷ rs)
+-- the transitions from s, reversed
+abbrev pub with_arcs : Turned → ℕ → List Arc → Turned
+with_arcs h s [] = h
+with_arcs h s (arc ∷ arcs) = with_arcs (with_arc h s arc) s arcs
 
--- the ranges of a table from byte b on, one for each run of bytes with one target; the first run
--- begins at byte a
-abbrev pub runs : ℕ → ℕ → List ℕ → List Transition
-runs a b [] = []
-runs a b (id ∷ ids) = cond (is_first id ids)
-    (runs a (suc b) ids)
-    (with_run a b id (runs (suc b) (suc b) ids))
+-- a state with a pattern
+abbrev pub with_end : Turned → ℕ → Node → Turned
+with_end h s (Match pattern) = record { into = h.into; rest = h.rest; ends = h.ends ++ s ∷ [] }
+with_end h s _ = h
 
--- the transitions from s without input, reversed
-abbrev pub with_frees : Turned → ℕ → List ℕ → Turned
-with_frees h s [] = h
-with_frees h s (id ∷ ids) = with_frees (added h id s) s ids
-
--- the transitions of a state, reversed
+-- the transitions of a state, reversed, and the state itself if it has a pattern
 abbrev pub with_node : Turned → ℕ → Node → Turned
-with_node h s (ByteRange r) = with_state h r.next (range_to s r)
-with_node h s (Sparse rs) = with_ranges h s rs
-with_node h s (Dense ids) = with_ranges h s (runs 0 0 ids)
-with_node h s (Look look next) = with_state h next (Look (reversed look) s)
-with_node h s (Union ids) = with_frees h s ids
-with_node h s (BinaryUnion a b) = added (added h a s) b s
-with_node h s (Capture next) = added h next s
-with_node h s Fail = h
-with_node h s (Match pattern) = record { into = h.into; rest = h.rest; ends = h.ends ++ s ∷ [] }
+with_node h s node = with_end (with_arcs h s (arcs_of node)) s node
 
 -- the transitions of the states of a list, reversed
 abbrev pub with_nodes : Nfa → Turned → List ℕ → Turned

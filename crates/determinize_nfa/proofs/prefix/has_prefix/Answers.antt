@@ -44,6 +44,4 @@ returns g c =
     (any_read c.args.nfa.now c.start_unanchored-start.result c.in-BinaryUnion.alt2
     (node_of c.state-2.result.now) c.is_any_byte.result c.start_unanchored-start.ensures.value
     c.state-2.ensures.state c.is_any_byte.ensures ∙ b)
-    (subst (λ (u : ℕ). Decides c.leads_alone.result
-    ((t : ℕ) → leads_to u (state_at c.args.nfa.now t) ≡ true → t ≡ c.in-BinaryUnion.alt2))
-    c.start_unanchored-start.ensures.value c.leads_alone.ensures)
+    (rw c.start_unanchored-start.ensures.value at c.leads_alone.ensures)

@@ -1,11 +1,11 @@
-use Rattle.std.proofs.Common.{rules, ◌≡◌, ◌<◌, ◌+◌, ◌∙◌, ℕ, List, None, Some, ap, arith, length, subst, sym, true}
+use Rattle.std.proofs.Common.{rules, ◌≡◌, ◌<◌, ◌∙◌, None, Some, ap, arith, length, sym}
 use Rattle.std.specs.Prelude.{slice_get}
 use Rattle.determinize_below.specs.Members.{Members}
-use Rattle.determinize_below.specs.Nfa.{resolves}
 use Rattle.determinize_below.specs.Node.{node_of}
 use Rattle.determinize_below.proofs.nfas.SoundNfa.{each_passes}
-use Rattle.determinize_nfa.specs.Private.Closed.{all_visited, targets_in}
-use Rattle.determinize_nfa.proofs.reversing.FoundStates.{IsFound, found_all, found_index, found_more, found_start}
+use Rattle.determinize_nfa.specs.Private.Arcs.{targets_in}
+use Rattle.determinize_nfa.specs.Private.Closed.{all_visited}
+use Rattle.determinize_nfa.proofs.reversing.FoundStates.{found_all, found_index, found_more, found_start}
 use Rattle.determinize_nfa.proofs.reached.reached.Goals as goal
 
 pub loop-id-init : goal.loop-id-init
@@ -13,8 +13,7 @@ loop-id-init g c =
     let below : c.args.nfa.now.start_anchored < length c.args.nfa.now.states = search rules in
     record {
       capacity = ap (λ (m : Members). m.capacity) c.in_ok-found.ensures.start;
-      found = subst (λ (m : Members). IsFound c.args.nfa.now m.ids 0) (sym c.in_ok-found.ensures.start)
-          (found_start c.args.nfa.now below);
+      found = rw c.in_ok-found.ensures.start (found_start c.args.nfa.now below);
     }
 
 pub state-requires : goal.state-requires
@@ -24,9 +23,9 @@ state-requires g c =
 
 pub visit_targets-requires : goal.visit_targets-requires
 visit_targets-requires g c =
-    subst (λ (n : ℕ). resolves n (node_of c.state.result.now) ≡ true) (sym c.loop-id.invariant.capacity)
-    (each_passes c.args.nfa.now c.state.ensures.accepted c.in-Some.id
-    (node_of c.state.result.now) c.state.ensures.state).resolves
+    let passed = each_passes c.args.nfa.now c.state.ensures.accepted c.in-Some.id (node_of c.state.result.now)
+    c.state.ensures.state in
+    record { resolves = rw c.loop-id.invariant.capacity passed.resolves; whole = passed.whole }
 
 pub overflow_add-index : goal.overflow_add-index
 overflow_add-index g c =
@@ -50,7 +49,7 @@ loop-id-preserved g c =
     = ap (λ (m : Members). m.ids) c.visit_targets.ensures in
     record {
       capacity = ap (λ (m : Members). m.capacity) c.visit_targets.ensures ∙ c.loop-id.invariant.capacity;
-      found = subst (λ (xs : List ℕ). IsFound c.args.nfa.now xs (c.loop-id.index + 1)) (sym ids)
+      found = rw ids
           (found_more c.args.nfa.now c.state.ensures.accepted c.loop-id.found.ids c.loop-id.index c.in-Some.id
           (node_of c.state.result.now) c.loop-id.invariant.found is c.state.ensures.state);
     }

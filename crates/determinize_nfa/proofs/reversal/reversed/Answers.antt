@@ -35,7 +35,7 @@ returns-in_err-start-clause-err g c =
 pub returns-in_err-turned-clause-err : goal.returns-in_err-turned-clause-err
 returns-in_err-turned-clause-err g c = if_err_and c.from_residual-in_err-turned.result
     (λ (e : BuildError). e ≡ c.in_err-turned.field-0.0) (λ (e : BuildError). IsTooLarge (most_states c.args.nfa.now) e)
-    (λ e h. subst (λ (w : BuildError). IsTooLarge (most_states c.args.nfa.now) w) (sym h) c.in_err-turned.ensures.err)
+    (λ e h. rw h c.in_err-turned.ensures.err)
     c.from_residual-in_err-turned.ensures.1
 
 pub returns-in_err-states-clause-err : goal.returns-in_err-states-clause-err
@@ -99,7 +99,6 @@ returns g c =
           (λ e d. made_error c.args.nfa.now over.met turned
           c.len-count.ensures.accepted over.closed over.below
           over.distinct over.is c.in_ok-start.start e start
-          (subst (λ (ns : List Node). (failure ns c.in_ok-start.start c.in_ok-start.start ≡ Some e) ⊎ (e ≡ OutOfMemory))
-          states d))
+          (rw states at d))
           c.from_parts.ensures.err;
     }

@@ -134,8 +134,7 @@ returns-clause-separate g c =
     (λ (n : Nfa). n ≡ built (prefixed c.args.self.now c.args.start_anchored) c.args.start_anchored
     (length c.args.self.now.states))
     (λ (n : Nfa). HasPrefixApart n)
-    (λ n e. subst (λ (m : Nfa). HasPrefixApart m) (sym e)
-    (has_prefix_apart c.args.self.now c.args.start_anchored below (apart g c)))
+    (λ n e. rw e (has_prefix_apart c.args.self.now c.args.start_anchored below (apart g c)))
     (returns-clause-ok g c)
 
 pub returns-clause-prefix : goal.returns-clause-prefix

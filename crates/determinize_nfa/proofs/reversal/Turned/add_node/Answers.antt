@@ -1,44 +1,40 @@
-use Rattle.std.proofs.Common.{◌≡◌, ◌+◌, inl}
-use Rattle.std.proofs.lemmas.Result.{IfErr-weaker}
+use Rattle.std.proofs.Common.{rules, ◌≡◌, ◌<◌, ◌∙◌, ap, arith, length}
+use Rattle.std.proofs.lemmas.List.Elements.{All-rest}
+use Rattle.determinize_below.proofs.Exits.{if_err_and}
 use Rattle.determinize_below.specs.Node.{node_of}
 use Rattle.determinize_below.specs.declared.nfa.BuildError.{BuildError}
-use Rattle.determinize_below.specs.declared.nfa.BuildError.TheVariants.{OutOfMemory}
-use Rattle.determinize_nfa.specs.Private.Turning.{total}
-use Rattle.determinize_nfa.specs.Reversal.{IsTooLarge, reads_in}
+use Rattle.determinize_nfa.specs.Private.Arcs.{next_of}
+use Rattle.determinize_nfa.specs.Private.Turning.{Turned, total, with_arc, with_node}
+use Rattle.determinize_nfa.specs.Reversal.{IsTooLarge}
+use Rattle.determinize_nfa.proofs.kinds.ArcsOfStates.{arcs_resolve}
+use Rattle.determinize_nfa.proofs.reversing.Counts.{larger, room_arc}
+use Rattle.determinize_nfa.proofs.reversing.Steps.{count-arc}
 use Rattle.determinize_nfa.proofs.reversal.Turned.add_node.Goals as goal
 
-pub returns-in-ByteRange-clause-turned : goal.returns-in-ByteRange-clause-turned
-returns-in-ByteRange-clause-turned g c = rw c.in-ByteRange.is c.add_range.ensures.turned
+pub loop-arc-init : goal.loop-arc-init
+loop-arc-init g c = record {
+  count = search rules;
+  rest = grind arith;
+  below = rw (c.into_iter-arc-iterator.ensures.into_iter_gives, c.arcs_of-arc-items.ensures)
+      (arcs_resolve (length c.args.self.now.into) (node_of c.args.state.now) c.requires.resolves);
+}
 
-pub returns-in-ByteRange-clause-err : goal.returns-in-ByteRange-clause-err
-returns-in-ByteRange-clause-err g c = rw c.in-ByteRange.is c.add_range.ensures.err
+pub loop-arc-preserved : goal.loop-arc-preserved
+loop-arc-preserved g c = record {
+  count = ap (λ (t : Turned). length t.into) c.in_ok-add_arc.ensures.turned
+      ∙ count-arc c.args.id c.in-Some.arc c.loop-arc.self ∙ c.loop-arc.invariant.count;
+  rest = grind (arith, c.in_ok-add_arc.ensures.turned);
+  below = All-rest (λ arc. next_of arc < length c.args.self.now.into) _ _ _ c.in-Some.ensures.steps
+      c.loop-arc.invariant.below;
+}
 
-pub returns-in-Look-clause-turned : goal.returns-in-Look-clause-turned
-returns-in-Look-clause-turned g c = rw c.in-Look.is c.add_look.ensures.turned
-
-pub returns-in-Look-clause-err : goal.returns-in-Look-clause-err
-returns-in-Look-clause-err g c = rw c.in-Look.is c.add_look.ensures.err
-
-pub returns-in-BinaryUnion-clause-turned : goal.returns-in-BinaryUnion-clause-turned
-returns-in-BinaryUnion-clause-turned g c = rw c.in-BinaryUnion.is c.add_both.ensures.turned
-
-pub returns-in-BinaryUnion-clause-err : goal.returns-in-BinaryUnion-clause-err
-returns-in-BinaryUnion-clause-err g c = IfErr-weaker c.add_both.result (λ (e : BuildError). e ≡ OutOfMemory)
-    (λ (e : BuildError). IsTooLarge (total c.args.self.now + reads_in (node_of c.args.state.now)) e) (λ e h. inl h)
-    c.add_both.ensures.err
-
-pub returns-in-Capture-clause-turned : goal.returns-in-Capture-clause-turned
-returns-in-Capture-clause-turned g c = rw c.in-Capture.is c.add.ensures.turned
-
-pub returns-in-Capture-clause-err : goal.returns-in-Capture-clause-err
-returns-in-Capture-clause-err g c = IfErr-weaker c.add.result (λ (e : BuildError). e ≡ OutOfMemory)
-    (λ (e : BuildError). IsTooLarge (total c.args.self.now + reads_in (node_of c.args.state.now)) e) (λ e h. inl h)
-    c.add.ensures.err
-
-pub returns-in-Match-clause-turned : goal.returns-in-Match-clause-turned
-returns-in-Match-clause-turned g c = rw c.in-Match.is c.add_end.ensures.turned
-
-pub returns-in-Match-clause-err : goal.returns-in-Match-clause-err
-returns-in-Match-clause-err g c = IfErr-weaker c.add_end.result (λ (e : BuildError). e ≡ OutOfMemory)
-    (λ (e : BuildError). IsTooLarge (total c.args.self.now + reads_in (node_of c.args.state.now)) e) (λ e h. inl h)
-    c.add_end.ensures.err
+pub returns-in_err-add_arc-clause-err : goal.returns-in_err-add_arc-clause-err
+returns-in_err-add_arc-clause-err g c =
+    let room = room_arc c.args.id (node_of c.args.state.now) c.in-Some.arc c.loop-arc.arc-iterator c.next.new.self
+    c.args.self.now c.loop-arc.self c.loop-arc.invariant.rest c.in-Some.ensures.steps in
+    if_err_and c.from_residual.result (λ (e : BuildError). e ≡ c.in_err-add_arc.field-0.0)
+    (λ (e : BuildError). IsTooLarge (total (with_node c.args.self.now c.args.id (node_of c.args.state.now))) e)
+    (λ e h. rw h (larger (total (with_arc c.loop-arc.self c.args.id c.in-Some.arc))
+    (total (with_node c.args.self.now c.args.id (node_of c.args.state.now))) c.in_err-add_arc.field-0.0 room
+    c.in_err-add_arc.ensures.err))
+    c.from_residual.ensures.1

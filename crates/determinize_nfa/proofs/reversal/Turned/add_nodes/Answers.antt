@@ -1,13 +1,12 @@
-use Rattle.std.proofs.Common.{◌≡◌, ◌+◌, ◌<◌, ◌≤◌, ◌∙◌, ℕ, arith, get_or, inl, length, subst, sym, true}
+use Rattle.std.proofs.Common.{◌≡◌, ◌<◌, ◌∙◌, arith, get_or, inl, length, sym}
 use Rattle.std.proofs.lemmas.Grind.{get_or_default_zero}
-use Rattle.determinize_below.specs.Nfa.{resolves}
 use Rattle.determinize_below.specs.Node.{node_of}
 use Rattle.determinize_below.specs.declared.nfa.BuildError.{BuildError}
 use Rattle.determinize_below.proofs.nfas.SoundNfa.{each_passes}
 use Rattle.determinize_nfa.specs.Private.Turning.{total, turned_over, with_node}
-use Rattle.determinize_nfa.specs.Reversal.{IsTooLarge, most_states, reads_in}
+use Rattle.determinize_nfa.specs.Reversal.{IsTooLarge, most_states}
 use Rattle.determinize_below.proofs.Exits.{if_err_and}
-use Rattle.determinize_nfa.proofs.reversing.Counts.{larger, total_most}
+use Rattle.determinize_nfa.proofs.reversing.Counts.{larger, room_node}
 use Rattle.determinize_nfa.proofs.reversing.Steps.{over_all, over_more, over_start}
 use Rattle.determinize_nfa.proofs.reversal.Turned.add_nodes.Goals as goal
 
@@ -17,7 +16,7 @@ loop-id-init g c = over_start c.args.nfa.now c.args.ids.now c.add.new.self
 
 pub add_node-requires-clause-resolves : goal.add_node-requires-clause-resolves
 add_node-requires-clause-resolves g c =
-    subst (λ (n : ℕ). resolves n (node_of c.state.result.now) ≡ true) (sym c.loop-id.invariant.count)
+    rw c.loop-id.invariant.count
     (each_passes c.args.nfa.now c.state.ensures.accepted c.id-item.result
     (node_of c.state.result.now) c.state.ensures.state).resolves
 
@@ -40,14 +39,12 @@ returns-in_err-add_node-clause-err g c =
     let item : get_or c.args.ids.now c.loop-id.id-index 0 ≡ c.id-item.result
     = sym (get_or_default_zero c.args.ids.now c.loop-id.id-index c.id-item.result low)
     ∙ sym c.id-item.is in
-    let room : total c.loop-id.self + reads_in (node_of c.state.result.now) ≤ most_states c.args.nfa.now
-    = total_most c.args.nfa.now c.args.ids.now c.loop-id.self c.loop-id.id-index c.id-item.result
+    let room = room_node c.args.nfa.now c.args.ids.now c.loop-id.self c.loop-id.id-index c.id-item.result
     (node_of c.state.result.now) c.requires.distinct c.loop-id.invariant low item c.state.ensures.state in
     if_err_and c.from_residual-in_err-add_node.result (λ (e : BuildError). e ≡ c.in_err-add_node.field-0.0)
     (λ (e : BuildError). IsTooLarge (most_states c.args.nfa.now) e)
-    (λ e h. subst (λ (w : BuildError). IsTooLarge (most_states c.args.nfa.now) w) (sym h)
-    (larger (total c.loop-id.self + reads_in (node_of c.state.result.now)) (most_states c.args.nfa.now)
-    c.in_err-add_node.field-0.0 room c.in_err-add_node.ensures.err))
+    (λ e h. rw h (larger (total (with_node c.loop-id.self c.id-item.result (node_of c.state.result.now)))
+    (most_states c.args.nfa.now) c.in_err-add_node.field-0.0 room c.in_err-add_node.ensures.err))
     c.from_residual-in_err-add_node.ensures.1
 
 pub returns-clause-turned : goal.returns-clause-turned

@@ -31,5 +31,4 @@ pub returns-in_err-add_nodes-clause-err : goal.returns-in_err-add_nodes-clause-e
 returns-in_err-add_nodes-clause-err g c = if_err_and c.from_residual-in_err-add_nodes.result
     (λ (e : BuildError). e ≡ c.in_err-add_nodes.field-0.0)
     (λ (e : BuildError). IsTooLarge (most_states c.args.nfa.now) e)
-    (λ e h. subst (λ (w : BuildError). IsTooLarge (most_states c.args.nfa.now) w) (sym h)
-    c.in_err-add_nodes.ensures.err) c.from_residual-in_err-add_nodes.ensures.1
+    (λ e h. rw h c.in_err-add_nodes.ensures.err) c.from_residual-in_err-add_nodes.ensures.1

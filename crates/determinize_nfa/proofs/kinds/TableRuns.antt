@@ -12,7 +12,7 @@ use Rattle.determinize_below.specs.Transition.{dense_target, matches}
 use Rattle.determinize_below.specs.declared.nfa.transitions.Transition.{Transition}
 use Rattle.ordered_reach.proofs.lists.Elements.{In, In_cases, In_head, In_none, In_tail}
 use Rattle.ordered_reach.proofs.Cases.{by_cases, by_test, some_injective}
-use Rattle.determinize_nfa.specs.Private.Turning.{runs, with_run}
+use Rattle.determinize_nfa.specs.Private.Arcs.{runs, with_run}
 use Rattle.determinize_nfa.specs.Reversal.{is_first, runs_in}
 
 -- the range of the bytes from a to b with a target
@@ -127,6 +127,13 @@ byte_run ids b t e = by_test (nat_eq (get_or ids b 0) 0)
     let low : d.0.start ≤ b = d.3 in let high : b ≤ d.0.end = d.4 in
     (d.0, d.1, d.2 ∙ k, grind (arith, nat_tests)))
     (λ l. absurd (false≢true (sym z ∙ ap (λ w. nat_eq w 0) (get_or_past ids b 0 l)))))
+
+-- where the next byte has the same target, the run goes on
+pub runs_on : (ids : List ℕ) (a b : ℕ) → b < length ids → is_first (get_or ids b 0) (drop (b + 1) ids) ≡ true
+    → runs a b (drop b ids) ≡ runs a (b + 1) (drop (b + 1) ids)
+runs_on ids a b l f =
+    let z : b + 1 ≡ suc b = omega arith in
+    rw (drop-cons ids b 0 l, z) (let g : is_first (get_or ids b 0) (drop (suc b) ids) ≡ true = rw z at f in rw g refl)
 
 -- where a run ends, its range is the first
 pub runs_end : (ids : List ℕ) (a b : ℕ) → b < length ids → is_first (get_or ids b 0) (drop (b + 1) ids) ≡ false

@@ -23,8 +23,8 @@ look_edge holds look next e = rw e (0, refl)
 pub look_edge_is : {P : Type 0} (holds : Assertion → Bool) (look : Assertion) (next t : ℕ)
     → In t (edges_of holds (Look look next)) → (holds look ≡ true → t ≡ next → P) → P
 look_edge_is holds look next t h f = by_test (holds look)
-    (λ e. f e (In_cases t next [] (subst (λ b. In t (cond b (next ∷ []) [])) e h) (λ z. z) (λ k. In_none t k)))
-    (λ e. In_none t (subst (λ b. In t (cond b (next ∷ []) [])) e h))
+    (λ e. f e (In_cases t next [] (rw e at h) (λ z. z) (λ k. In_none t k)))
+    (λ e. In_none t (rw e at h))
 
 pub range_target : (r : Transition) (b : ℕ) → matches r b ≡ true → target_of (Some b) (ByteRange r) ≡ Some r.next
 range_target r b e = rw e refl
@@ -33,5 +33,5 @@ pub range_target_is : {P : Type 0} (r : Transition) (u : Option ℕ) (t : ℕ) �
     → ((b : ℕ) → u ≡ Some b → matches r b ≡ true → t ≡ r.next → P) → P
 range_target_is r None t e f = no_end (ByteRange r) t e
 range_target_is r (Some b) t e f = by_test (matches r b)
-    (λ z. f b refl z (sym (some_injective r.next t (subst (λ w. cond w (Some r.next) None ≡ Some t) z e))))
-    (λ z. absurd (let k : None ≡ Some t = subst (λ w. cond w (Some r.next) None ≡ Some t) z e in cc))
+    (λ z. f b refl z (sym (some_injective r.next t (rw z at e))))
+    (λ z. absurd (let k : None ≡ Some t = rw z at e in cc))

@@ -1,0 +1,191 @@
+-- The transitions of a state in one list are those that the definitions by kinds give it.
+-- Main statements: leads_is, arc_resolves, edges_are, byte_arc, arc_reads, and edge_arc, arc_leads, leads_arc.
+-- Used by: Choices, and the folder reversing, which speaks of the list alone.
+-- Idea: a case for each kind, here only; of a table the runs are as TableRuns says.
+use Rattle.std.specs.List.{flat_map, list_all, list_any}
+use Rattle.std.specs.Prelude.{All, nat_eq, nat_lt}
+use Rattle.std.proofs.Common.{◌≡◌, ◌<◌, ◌≤◌, ◌&&◌, ◌∷◌, ℕ, Bool, List, None, Some, [], ap, append-nil, arith, cond, false, get_or, map, not, refl, suc, sym, true}
+use Rattle.std.proofs.Math.Bool.{or-false}
+use Rattle.std.proofs.lemmas.Bool.{eq-eqb, eqb-true}
+use Rattle.std.proofs.lemmas.Bool.Decides.{nat_tests}
+use Rattle.std.proofs.lemmas.List.Folds.{list_all-map}
+use Rattle.std.proofs.lemmas.Option.{slice_get-get_or}
+use Rattle.determinize_below.specs.Semantics.{BinaryUnion, ByteRange, Capture, Dense, Look, Node, Sparse, Union, edges_of, target_of}
+use Rattle.determinize_below.specs.Nfa.{is_sparse_sound, resolves}
+use Rattle.determinize_below.specs.Transition.{ascends_from, matches, sparse_target}
+use Rattle.determinize_below.specs.declared.look.Look.{Look as Assertion}
+use Rattle.determinize_below.specs.declared.nfa.transitions.Transition.{Transition}
+use Rattle.ordered_reach.proofs.Cases.{by_test, some_injective}
+use Rattle.ordered_reach.proofs.lists.Elements.{In, In_cases, In_flat_map, In_flat_map_from, In_head, In_map, In_map_from, In_none, In_tail}
+use Rattle.determinize_nfa.specs.Prefix.{leads_to}
+use Rattle.determinize_nfa.specs.Reversal.{is_first}
+use Rattle.determinize_nfa.specs.Private.Arcs.{arcs_of, next_of, runs, targets_in}
+use Rattle.determinize_nfa.specs.declared.arcs.Arc.{Arc}
+use Rattle.determinize_nfa.specs.declared.arcs.Arc.TheVariants.{Free, Range, Test}
+use Rattle.determinize_nfa.proofs.kinds.OneArc.{range_target, range_target_is}
+use Rattle.determinize_nfa.proofs.kinds.TableRuns.{byte_run, run_target}
+use Rattle.determinize_nfa.proofs.kinds.TestedLists.{all_by, any_by, any_from}
+
+-- where a state leads
+any_map : {A : Type 0} (f : A → Arc) (t : ℕ) (xs : List A)
+    → list_any (λ x. nat_eq t (next_of (f x))) xs ≡ list_any (λ a. nat_eq t (next_of a)) (map f xs)
+any_map f t [] = refl
+any_map f t (x ∷ xs) = rw (any_map f t xs) refl
+
+first_any : (t id : ℕ) (ids : List ℕ) → is_first id ids ≡ true → nat_eq t id ≡ true → list_any (nat_eq t) ids ≡ true
+first_any t id [] e k = cc
+first_any t id (x ∷ xs) e k = grind (arith, nat_tests)
+
+table_leads : (t : ℕ) (ids : List ℕ) (a b : ℕ)
+    → (not (nat_eq t 0) && list_any (nat_eq t) ids) ≡ list_any (λ r. nat_eq t r.next) (runs a b ids)
+table_leads t [] a b = grind arith
+table_leads t (id ∷ ids) a b = by_test (is_first id ids)
+    (λ z. grind (arith, nat_tests, z, table_leads t ids a (suc b), first_any t id ids))
+    (λ z. by_test (nat_eq id 0)
+    (λ y. grind (arith, nat_tests, z, y, table_leads t ids (suc b) (suc b)))
+    (λ y. grind (arith, nat_tests, z, y, table_leads t ids (suc b) (suc b))))
+
+pub leads_is : (t : ℕ) (node : Node) → leads_to t node ≡ list_any (λ a. nat_eq t (next_of a)) (arcs_of node)
+leads_is t (ByteRange r) = sym (or-false (nat_eq t r.next))
+leads_is t (Sparse rs) = any_map Range t rs
+leads_is t (Dense ids) = rw (table_leads t ids 0 0) (any_map Range t (runs 0 0 ids))
+leads_is t (Look look next) = sym (or-false (nat_eq t next))
+leads_is t (Union ids) = any_map Free t ids
+leads_is t (BinaryUnion a b) = rw (or-false (nat_eq t b)) refl
+leads_is t (Capture next) = sym (or-false (nat_eq t next))
+leads_is t s = refl
+
+pub arc_leads : (a : Arc) (node : Node) → In a (arcs_of node) → leads_to (next_of a) node ≡ true
+arc_leads a node k = rw (leads_is (next_of a) node)
+    (any_by (λ x. nat_eq (next_of a) (next_of x)) a (arcs_of node) k (eq-eqb (next_of a) (next_of a) refl))
+
+pub leads_arc : (t : ℕ) (node : Node) → leads_to t node ≡ true → In t (targets_in node)
+leads_arc t node k = any_from (λ a. nat_eq t (next_of a)) (arcs_of node) (rw (leads_is t node) at k)
+    (λ a i e. rw (eqb-true t (next_of a) e) (In_map next_of a (arcs_of node) i))
+
+-- the ids in a state
+all_runs : (p : ℕ → Bool) (ids : List ℕ) (a b : ℕ) → list_all p ids ≡ true
+    → list_all (λ r. p r.next) (runs a b ids) ≡ true
+all_runs p [] a b h = refl
+all_runs p (id ∷ ids) a b h = by_test (is_first id ids)
+    (λ z. grind (arith, z, all_runs p ids a (suc b)))
+    (λ z. by_test (nat_eq id 0)
+    (λ y. grind (arith, z, y, all_runs p ids (suc b) (suc b)))
+    (λ y. grind (arith, z, y, all_runs p ids (suc b) (suc b))))
+
+resolves_all : (count : ℕ) (node : Node) → resolves count node ≡ true
+    → list_all (λ a. nat_lt (next_of a) count) (arcs_of node) ≡ true
+resolves_all count (ByteRange r) h = rw h refl
+resolves_all count (Sparse rs) h = rw (list_all-map (λ (a : Arc). nat_lt (next_of a) count) Range rs) h
+resolves_all count (Dense ids) h = rw (list_all-map (λ (a : Arc). nat_lt (next_of a) count) Range (runs 0 0 ids))
+    (all_runs (λ id. nat_lt id count) ids 0 0 h)
+resolves_all count (Look look next) h = rw h refl
+resolves_all count (Union ids) h = rw (list_all-map (λ (a : Arc). nat_lt (next_of a) count) Free ids) h
+resolves_all count (BinaryUnion a b) h = grind arith
+resolves_all count (Capture next) h = rw h refl
+resolves_all count s h = refl
+
+pub arc_resolves : (count : ℕ) (node : Node) (a : Arc) → resolves count node ≡ true → In a (arcs_of node)
+    → next_of a < count
+arc_resolves count node a h k =
+    let z : nat_lt (next_of a) count ≡ true
+    = all_by (λ x. nat_lt (next_of x) count) a (arcs_of node) k (resolves_all count node h) in grind arith
+
+pub arcs_resolve : (count : ℕ) (node : Node) → resolves count node ≡ true → All (λ a. next_of a < count) (arcs_of node)
+arcs_resolve count node h i d l =
+    arc_resolves count node (get_or (arcs_of node) i d) h (i, slice_get-get_or (arcs_of node) i d l)
+
+-- the targets without input
+abbrev pub free_of : (Assertion → Bool) → Arc → List ℕ
+free_of holds (Range r) = []
+free_of holds (Test look next) = cond (holds look) (next ∷ []) []
+free_of holds (Free next) = next ∷ []
+
+ranges_free : (holds : Assertion → Bool) (rs : List Transition) → [] ≡ flat_map (free_of holds) (map Range rs)
+ranges_free holds [] = refl
+ranges_free holds (r ∷ rs) = ranges_free holds rs
+
+frees_free : (holds : Assertion → Bool) (ids : List ℕ) → ids ≡ flat_map (free_of holds) (map Free ids)
+frees_free holds [] = refl
+frees_free holds (id ∷ ids) = ap (λ (xs : List ℕ). id ∷ xs) (frees_free holds ids)
+
+pub edges_are : (holds : Assertion → Bool) (node : Node) → edges_of holds node ≡ flat_map (free_of holds) (arcs_of node)
+edges_are holds (Sparse rs) = ranges_free holds rs
+edges_are holds (Dense ids) = ranges_free holds (runs 0 0 ids)
+edges_are holds (Look look next) = sym (append-nil (cond (holds look) (next ∷ []) []))
+edges_are holds (Union ids) = frees_free holds ids
+edges_are holds s = refl
+
+pub edge_arc : {P : Type 0} (holds : Assertion → Bool) (node : Node) (t : ℕ) → In t (edges_of holds node)
+    → (In (Free t) (arcs_of node) → P) → ((look : Assertion) → In (Test look t) (arcs_of node) → holds look ≡ true → P)
+    → P
+edge_arc {P} holds node t k f g =
+    In_flat_map_from (free_of holds) (arcs_of node) t (rw (edges_are holds node) at k) one
+  where
+    one : (a : Arc) → In a (arcs_of node) → In t (free_of holds a) → P
+    one (Range r) i j = In_none t j
+    one (Test look next) i j = by_test (holds look)
+        (λ e. In_cases t next [] (rw e at j) (λ z. g look (rw z i) e) (λ l. In_none t l))
+        (λ e. In_none t (rw e at j))
+    one (Free next) i j = In_cases t next [] j (λ z. f (rw z i)) (λ l. In_none t l)
+
+pub free_edge : (holds : Assertion → Bool) (node : Node) (t : ℕ) → In (Free t) (arcs_of node) → In t (edges_of holds node)
+free_edge holds node t k = rw (edges_are holds node)
+    (In_flat_map (free_of holds) (arcs_of node) (Free t) t k (In_head t []))
+
+pub test_edge : (holds : Assertion → Bool) (node : Node) (look : Assertion) (t : ℕ) → In (Test look t) (arcs_of node)
+    → holds look ≡ true → In t (edges_of holds node)
+test_edge holds node look t k e = rw (edges_are holds node)
+    (In_flat_map (free_of holds) (arcs_of node) (Test look t) t k (rw e (In_head t [])))
+
+-- the target of a sparse state over a byte of a transition is that of the transition
+ascends_low : (ts : List Transition) (low : ℕ) (r : Transition) → ascends_from low ts ≡ true → In r ts → low ≤ r.start
+ascends_low [] low r a k = In_none r k
+ascends_low (t ∷ ts) low r a k = In_cases r t ts k
+    (λ e. rw e (grind (arith, a)))
+    (λ i. grind (arith, a, ascends_low ts (suc t.end) r))
+
+sparse_at : (ts : List Transition) (low : ℕ) (r : Transition) (b : ℕ) → ascends_from low ts ≡ true → In r ts
+    → matches r b ≡ true → sparse_target ts b ≡ Some r.next
+sparse_at [] low r b a k m = In_none r k
+sparse_at (t ∷ ts) low r b a k m = In_cases r t ts k
+    (λ e. let y : matches t b ≡ true = rw e at m in rw (y, e) refl)
+    (λ i. let rest : ascends_from (suc t.end) ts ≡ true = grind (arith, a) in
+    let s : suc t.end ≤ r.start = ascends_low ts (suc t.end) r rest i in
+    let y : matches t b ≡ false = past t r b s m in rw y (sparse_at ts (suc t.end) r b rest i m))
+  where
+    past : (t r : Transition) (b : ℕ) → suc t.end ≤ r.start → matches r b ≡ true → matches t b ≡ false
+    past t r b s m = grind (arith, nat_tests)
+
+-- and a target is that of some transition
+sparse_from : (ts : List Transition) (b t : ℕ) → sparse_target ts b ≡ Some t
+    → (r : Transition) × In r ts × (r.next ≡ t) × (matches r b ≡ true)
+sparse_from [] b t e = absurd (let k : None ≡ Some t = e in cc)
+sparse_from (r ∷ rs) b t e = by_test (matches r b)
+    (λ z. (r, In_head r rs, some_injective r.next t (rw z at e), z))
+    (λ z. let d = sparse_from rs b t (rw z at e) in (d.0, In_tail d.0 r rs d.1, d.2, d.3))
+
+pub byte_arc : (node : Node) (b t : ℕ) → target_of (Some b) node ≡ Some t
+    → (r : Transition) × In (Range r) (arcs_of node) × (r.next ≡ t) × (matches r b ≡ true)
+byte_arc (ByteRange r) b t e = range_target_is r (Some b) t e
+    (λ c u m z. (r, In_head (Range r) [], sym z, (let k : c ≡ b = cc in rw k at m)))
+byte_arc (Sparse rs) b t e = let d = sparse_from rs b t e in (d.0, In_map Range d.0 rs d.1, d.2, d.3)
+byte_arc (Dense ids) b t e = let d = byte_run ids b t e in (d.0, In_map Range d.0 (runs 0 0 ids) d.1, d.2, d.3)
+byte_arc s b t e = absurd (let k : None ≡ Some t = e in cc)
+
+range_in : (rs : List Transition) (r : Transition) → In (Range r) (map Range rs) → In r rs
+range_in rs r k = In_map_from Range (Range r) rs k (λ x i e. let z : r ≡ x = cc in rw z i)
+
+pub arc_reads : (node : Node) (r : Transition) (b : ℕ) → is_sparse_sound node ≡ true → In (Range r) (arcs_of node)
+    → matches r b ≡ true → target_of (Some b) node ≡ Some r.next
+arc_reads (ByteRange x) r b h k m = In_cases (Range r) (Range x) [] k
+    (λ e. let z : x ≡ r = cc in rw z (range_target r b m))
+    (λ i. In_none (Range r) i)
+arc_reads (Sparse rs) r b h k m = sparse_at rs 0 r b h (range_in rs r k) m
+arc_reads (Dense ids) r b h k m = run_target ids r (range_in (runs 0 0 ids) r k) b m
+arc_reads (Look look next) r b h k m = In_cases (Range r) (Test look next) [] k (λ e. cc) (λ i. In_none (Range r) i)
+arc_reads (Union ids) r b h k m = In_map_from Free (Range r) ids k (λ x i e. cc)
+arc_reads (BinaryUnion x y) r b h k m = In_cases (Range r) (Free x) (Free y ∷ []) k (λ e. cc)
+    (λ i. In_cases (Range r) (Free y) [] i (λ e. cc) (λ j. In_none (Range r) j))
+arc_reads (Capture next) r b h k m = In_cases (Range r) (Free next) [] k (λ e. cc) (λ i. In_none (Range r) i)
+arc_reads s r b h k m = In_none (Range r) k

@@ -1,0 +1,33 @@
+-- A test of the elements of a list, and its elements.
+-- Main statements: any_by, any_from, all_by, any_In.
+-- Used by: ArcsOfStates, FoundStates.
+-- Idea: induction on the list.
+use Rattle.std.specs.List.{list_all, list_any}
+use Rattle.std.specs.Prelude.{nat_eq}
+use Rattle.std.proofs.Common.{◌≡◌, ◌∷◌, ℕ, Bool, List, [], true}
+use Rattle.std.proofs.lemmas.Bool.{and_parts, eqb-true, false≢true, or_left, or_right}
+use Rattle.ordered_reach.proofs.Cases.{by_test}
+use Rattle.ordered_reach.proofs.lists.Elements.{In, In_cases, In_head, In_none, In_tail}
+
+pub any_by : {A : Type 0} (p : A → Bool) (x : A) (xs : List A) → In x xs → p x ≡ true → list_any p xs ≡ true
+any_by p x [] k e = In_none x k
+any_by p x (y ∷ ys) k e = In_cases x y ys k
+    (λ z. or_left (p y) (list_any p ys) (rw z at e))
+    (λ i. or_right (p y) (list_any p ys) (any_by p x ys i e))
+
+pub any_from : {A P : Type 0} (p : A → Bool) (xs : List A) → list_any p xs ≡ true
+    → ((x : A) → In x xs → p x ≡ true → P) → P
+any_from p [] k f = absurd (false≢true k)
+any_from p (y ∷ ys) k f = by_test (p y)
+    (λ e. f y (In_head y ys) e)
+    (λ e. any_from p ys (rw e at k) (λ x i z. f x (In_tail x y ys i) z))
+
+pub all_by : {A : Type 0} (p : A → Bool) (x : A) (xs : List A) → In x xs → list_all p xs ≡ true → p x ≡ true
+all_by p x [] k a = In_none x k
+all_by p x (y ∷ ys) k a = In_cases x y ys k
+    (λ z. rw z (and_parts (p y) (list_all p ys) a).0)
+    (λ i. all_by p x ys i (and_parts (p y) (list_all p ys) a).1)
+
+-- an id that passes a test of some element is an element
+pub any_In : (t : ℕ) (ids : List ℕ) → list_any (nat_eq t) ids ≡ true → In t ids
+any_In t ids k = any_from (nat_eq t) ids k (λ x i e. rw (eqb-true t x e) i)
