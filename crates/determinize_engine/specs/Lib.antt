@@ -2,5 +2,6 @@ pub mod Engines
 pub mod Private
 pub mod Scans
 pub mod Searches
+pub mod StateBytes
 pub mod States
 pub mod UnitsRead

@@ -4,8 +4,9 @@
 //! it takes a copy of the state before it is known to be new, and borrows the map while a lazy DFA
 //! adds the source of the transition.
 
-ghost use Rattle.std.specs.Prelude.{◌≡◌, ◌++◌, ◌∷◌, ◌<◌, ◌≤◌, [], Some, false, length, slice_get, IfOk, IfSome, OnErr, OnOk};
+ghost use Rattle.std.specs.Prelude.{◌≡◌, ◌++◌, ◌∷◌, ◌<◌, ◌≤◌, [], Some, false, length, min, slice_get, IfOk, IfSome, OnErr, OnOk};
 ghost use Rattle.std.specs.List.{list_any};
+ghost use Rattle.determinize_engine.specs.StateBytes.{table_bytes};
 ghost use Rattle.determinize_engine.specs.States.{EachApart, IsIndex};
 ghost use Rattle.determinize_state.specs.Equality.{same};
 
@@ -14,10 +15,13 @@ use std::alloc::{AllocError, Allocator, Global};
 use std::collections::HashMap;
 use std::hash::{BuildHasherDefault, FoldHasher};
 use std::marker::Model;
-use std::mem::{size_of, size_of_val};
+use std::mem::size_of;
 
 /// The most bytes of a clone of a state that lie in the `State` itself and not on the heap.
 const SHORT: usize = 30;
+
+/// The bytes that an entry takes: the state, its clone that is the key of the map, and its index.
+const ENTRY: usize = 2 * size_of::<State>() + size_of::<usize>();
 
 /// The greatest number of states, 16647160: rows of 258 numbers then have offsets of 32 bits.
 pub const MAX_STATES: usize = u32::MAX as usize / 258;
@@ -88,11 +92,13 @@ impl<A: Allocator + Copy> StateTable<A> {
         self.states.as_slice()
     }
 
-    /// Returns the heap memory that the states and the keys of the map use, in bytes.
-    pub fn memory_usage(&self) -> usize {
-        let states = size_of_val(self.states.as_slice());
-        let indices = self.states.len().saturating_mul(size_of::<usize>());
-        let mut bytes = states.saturating_mul(2).saturating_add(indices);
+    /// Returns the heap memory that the states and the map use, in bytes: 72 for each state, and
+    /// those of the state twice if they are more than 30. An allocator that has a size is not
+    /// counted, although each state has a copy of it.
+    pub fn memory_usage(&self) -> usize
+        ensures { result ≡ min (table_bytes self.now) usize.MAX }
+    {
+        let mut bytes = self.states.len() * ENTRY;
         for state in &self.states {
             let len = state.memory_usage();
             if len > SHORT {

@@ -1,3 +1,4 @@
+pub mod CacheBytes
 pub mod Changes
 pub mod Cursors
 pub mod Rows

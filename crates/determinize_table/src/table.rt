@@ -1,13 +1,14 @@
 //! The transition table: the cached states, a row for each, the ids of the start states that
 //! searches have used, and the rule of what is cached (`keep`).
 
-ghost use Rattle.std.specs.Prelude.{◌≡◌, ◌*◌, ◌<◌, ◌≤◌, false, true, length, nat_le, slice_get, slice_index_or, slice_set, IfOk, None, Some};
+ghost use Rattle.std.specs.Prelude.{◌≡◌, ◌*◌, ◌<◌, ◌≤◌, false, true, length, min, nat_le, slice_get, slice_index_or, slice_set, IfOk, None, Some};
 ghost use Rattle.std.specs.List.{list_any};
 ghost use Rattle.determinize_core.specs.Equality.{same};
 ghost use Rattle.determinize_core.specs.Value.{Value as StateValue};
 ghost use Rattle.determinize_engine.specs.States.{IsIndex};
 ghost use Rattle.determinize_table.specs.Changes.{IsInterned, IsKept};
 ghost use Rattle.determinize_table.specs.Cursors.{IsCursor, IsIndexBefore, cursor_value};
+ghost use Rattle.determinize_table.specs.CacheBytes.{cache_bytes};
 ghost use Rattle.determinize_table.specs.Rows.{IsEmpty, IsTarget, table_of};
 ghost use Rattle.determinize_table.specs.Stored.{column, is_unit};
 ghost use Rattle.determinize_table.specs.Table.{keep, with_transition, with_value};
@@ -115,9 +116,11 @@ impl<A: Allocator + Copy> TransitionTable<A> {
         self.states.len()
     }
 
-    /// Returns the heap memory that the table uses, in bytes.
+    /// Returns the heap memory that the table uses, in bytes: that of the states, and 1032 for the
+    /// row of each.
     pub fn memory_usage(&self) -> usize
-        ensures { length self.now.states * 1032 ≤ result }
+        ensures rows { length self.now.states * 1032 ≤ result }
+        ensures value { result ≡ min (cache_bytes self.now.states) usize.MAX }
     {
         let rows = self.states.len() * COLUMNS * size_of::<u32>();
         rows.saturating_add(self.states.memory_usage())
