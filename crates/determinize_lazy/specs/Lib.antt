@@ -1,11 +1,14 @@
 pub use Rattle.determinize_engine.specs.Engines
 pub use Rattle.determinize_engine.specs.Scans
 pub use Rattle.determinize_engine.specs.Searches
+pub use Rattle.determinize_engine.specs.StateBytes
 pub use Rattle.determinize_engine.specs.UnitsRead
+pub use Rattle.determinize_table.specs.CacheBytes
 pub use Rattle.determinize_table.specs.Stored
 pub use Rattle.determinize_table.specs.Table
 pub mod Cache
 pub mod CachedSearches
+pub mod MostBytes
 pub mod Plenty
 pub mod Private
 pub mod Scanning

@@ -4,7 +4,7 @@
 //! the target of one that is added cannot be cached. No single state or transition is ever removed,
 //! so between two clears the id of a cached state stays the same.
 
-ghost use Rattle.std.specs.Prelude.{◌≡◌, ◌<◌, ◌≤◌, ◌*◌, ◌++◌, ◌∷◌, [], length, IfOk, OnErr, OnOk};
+ghost use Rattle.std.specs.Prelude.{◌≡◌, ◌<◌, ◌≤◌, ◌*◌, ◌++◌, ◌∷◌, [], length, min, IfOk, OnErr, OnOk};
 ghost use Rattle.determinize_below.specs.Nfa.{AllResolve, IsAccepted};
 ghost use Rattle.determinize_below.specs.Semantics.{between};
 ghost use Rattle.determinize_core.specs.Chain.{future, units};
@@ -15,6 +15,7 @@ ghost use Rattle.determinize_lazy.specs.Cache.{Grows, IsCutOff, IsCutOffText, af
 ghost use Rattle.determinize_lazy.specs.Plenty.{IsPlentyText};
 ghost use Rattle.determinize_lazy.specs.Private.Steps.{IsFollowed, IsSound};
 ghost use Rattle.determinize_table.specs.Cursors.{IsCursor, cursor_value};
+ghost use Rattle.determinize_table.specs.CacheBytes.{cache_bytes};
 ghost use Rattle.determinize_table.specs.Table.{IsTable, empty};
 
 use crate::view::View;
@@ -149,6 +150,7 @@ impl<'n, N: Allocator, A: Allocator + Copy> Lazy<'n, N, A> {
     /// map that finds a state by its bytes, or spare capacity for states and rows.
     pub fn memory_usage(&self) -> usize
         ensures rows { length self.now.states * 1032 ≤ result }
+        ensures cached { min (cache_bytes self.now.states) usize.MAX ≤ result }
     {
         self.table
             .memory_usage()

@@ -1,14 +1,16 @@
 //! A lazy DFA that owns its NFA. A search that only reads the cache is that of a [`Lazy`]; one that
 //! computes a state lends NFA and cache to a `Lazy`, and takes the cache back.
 
-ghost use Rattle.std.specs.Prelude.{◌≡◌, ◌<◌, ◌≤◌, ◌*◌, false, length, true, Decides, None, Ok, IfOk, OnErr, OnOk};
+ghost use Rattle.std.specs.Prelude.{◌≡◌, ◌<◌, ◌≤◌, ◌*◌, false, length, min, true, Decides, None, Ok, IfOk, OnErr, OnOk};
 ghost use Rattle.determinize_below.specs.Nfa.{IsAccepted};
 ghost use Rattle.determinize_below.specs.Search.{is_done};
 ghost use Rattle.determinize_engine.specs.Searches.{has_start, start_for, text_of, HasMatch, IsFarthestIn, IsPreferredIn, last_in};
 ghost use Rattle.determinize_lazy.specs.Cache.{Grows, cache};
+ghost use Rattle.determinize_lazy.specs.MostBytes.{most_bytes};
 ghost use Rattle.determinize_lazy.specs.Private.Invariant.{IsLazy};
 ghost use Rattle.determinize_lazy.specs.Private.Searched.{IsOverText, IsShort};
 ghost use Rattle.determinize_lazy.specs.Private.Steps.{IsSound};
+ghost use Rattle.determinize_table.specs.CacheBytes.{cache_bytes};
 ghost use Rattle.determinize_table.specs.Table.{empty};
 ghost use Rattle.std.specs.Option.{IfNone, IfSome};
 ghost use Rattle.determinize_below.specs.declared.search.MatchKind.TheVariants as kinds;
@@ -47,7 +49,7 @@ struct Kept<A: Allocator> {
 
 impl<N: Allocator, A: Allocator> Model for OwnedLazy<N, A> {
     ghost use Rattle.determinize_lazy.specs.Cache.{LazyValue};
-    ghost use Rattle.determinize_lazy.specs.Private.Invariant.{IsLazy};
+    ghost use Rattle.determinize_lazy.specs.Private.Invariant.{IsOwned};
 
     ghost Value = { LazyValue };
 
@@ -60,7 +62,7 @@ impl<N: Allocator, A: Allocator> Model for OwnedLazy<N, A> {
       computed = o.kept.computed;
     } };
 
-    ghost invariant = { λ o. IsLazy o.nfa o.match_kind o.limit o.kept.computed o.kept.table };
+    ghost invariant = { λ o. IsOwned o.nfa o.match_kind o.limit o.kept.computed o.kept.table };
 }
 
 impl<A: Allocator + Copy> Kept<A> {
@@ -180,11 +182,14 @@ impl<N: Allocator, A: Allocator + Copy> OwnedLazy<N, A> {
 
     /// Returns the heap memory that the cache uses now, in bytes.
     ///
-    /// This counts the cached states and their rows. It does not count the size of the `OwnedLazy`
-    /// itself, the NFA, free places of the map that finds a state by its bytes, or spare capacity
-    /// for states and rows.
+    /// This counts the cached states and their rows: 1104 bytes for each, and those of the state
+    /// twice if they are more than 30. It does not count the size of the `OwnedLazy` itself, the
+    /// NFA, free places of the map that finds a state by its bytes, spare capacity for states and
+    /// rows, or an allocator that has a size.
     pub fn memory_usage(&self) -> usize
         ensures rows { length self.now.states * 1032 ≤ result }
+        ensures value { result ≡ min (cache_bytes self.now.states) usize.MAX }
+        ensures most { result ≤ most_bytes self.now.limit self.now.nfa }
     {
         self.kept.table.memory_usage()
     }

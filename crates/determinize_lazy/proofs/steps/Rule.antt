@@ -1,5 +1,5 @@
 -- What the rule keeps, and what is true of a cache after it; and general laws.
--- Main statements: lazy-kept, stepped, lazy-sound.
+-- Main statements: All-kept, lazy-kept, stepped, lazy-sound.
 -- Used by: `compute`, `step`, `kept_start`; the general laws by searches and `determinize_find`, too.
 -- Idea: a step leaves the table that the rule keeps or, if it fails, the one before or none.
 use Rattle.determinize_lazy.proofs.Common.{[], AllResolve, arith, by_cases, by_test, Cache, cache, count_after, empty}
@@ -22,7 +22,7 @@ All-with_value : (P : Value → Type 0) (values : List Value) (v : Value) → Ea
 All-with_value P values v each one =
     by_test (list_any (same v) values) (λ e. rw e each) (λ e. rw e (All-push P values v each one))
 
-All-kept : (P : Value → Type 0) (limit : ℕ) (t : Table) (v : Value) (u : Option ℕ) (w : Value) → Each P t.states
+pub All-kept : (P : Value → Type 0) (limit : ℕ) (t : Table) (v : Value) (u : Option ℕ) (w : Value) → Each P t.states
     → P v → P w → Each P (keep limit t v u w).states
 All-kept P limit t v u w each source next =
     let both = λ (values : List Value) (e : Each P values).

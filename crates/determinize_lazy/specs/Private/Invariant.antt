@@ -1,5 +1,6 @@
 -- What is true of every cache.
 use Rattle.std.specs.Prelude.{ℕ, ◌≤◌, All, length}
+use Rattle.determinize_below.specs.Edges.{pattern_count}
 use Rattle.determinize_below.specs.Nfa.{AllResolve}
 use Rattle.determinize_below.specs.Semantics.{Nfa}
 use Rattle.determinize_below.specs.declared.search.MatchKind.{MatchKind}
@@ -21,3 +22,14 @@ pub record IsLazy (nfa : Nfa) (kind : MatchKind) (limit computed : ℕ)
   pub within : length stored.states ≤ limit
   pub resolve : All (λ (v : Value). AllResolve nfa v.states) stored.states
   pub starts : AreStarts nfa stored
+
+-- a value lists at most as many patterns, and as many states, as the NFA has
+abbrev pub IsSmall : Nfa → Value → Type 0
+IsSmall nfa v =
+    (length v.patterns ≤ pattern_count nfa) × (length v.states ≤ length nfa.states)
+
+-- the same of a cache that goes with its NFA, whose values are all small
+pub record IsOwned (nfa : Nfa) (kind : MatchKind) (limit computed : ℕ)
+    (stored : StoredTable) : Type 0 where
+  pub lazy : IsLazy nfa kind limit computed stored
+  pub small : All (IsSmall nfa) stored.states

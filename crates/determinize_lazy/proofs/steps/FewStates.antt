@@ -1,0 +1,164 @@
+-- How many patterns and states the values of a walk list, and how many bytes a cache of them takes.
+-- Main statements: small-over, few_bytes.
+-- Used by: OwnedLazy.
+-- Idea: a closure lists each state once, and a pattern comes from a match state.
+use Rattle.determinize_lazy.proofs.Common.{[], after_step, after_walk, AllResolve, ap, arith, by_cases, by_test, Cache}
+use Rattle.determinize_lazy.proofs.Common.{cond, Err, get_or, HalfMatch, IsAccepted, is_cached, IsCutOff, IsOver, is_some}
+use Rattle.determinize_lazy.proofs.Common.{length, List, MatchKind, nat_eq, Nfa, None, Ok, Option, Place, refl}
+use Rattle.determinize_lazy.proofs.Common.{Result, Some, start_value, step_of, suc, sym, take, take_all, true, units_read}
+use Rattle.determinize_lazy.proofs.Common.{Value, zero, ℕ, ◌+◌, ◌<◌, ◌∙◌, ◌∷◌, ◌≡◌, ◌≤◌, Bool}
+use Rattle.std.proofs.Common.{add-one, eqb-true}
+use Rattle.std.proofs.Math.Nat.{mul-le-mul_right}
+use Rattle.std.proofs.lemmas.List.Concat.{length-flat_map}
+use Rattle.std.proofs.lemmas.List.Elements.{All-contains, All-nil, All-weaker}
+use Rattle.std.proofs.lemmas.List.Sums.{count_by-le-length, length-filter, sum_by-cons, sum_by-le, sum_by_more}
+use Rattle.std.specs.List.{count_by, flat_map, sum_by}
+use Rattle.std.specs.Option.{option_to_list}
+use Rattle.std.specs.Prelude.{◌*◌, All as Each}
+use Rattle.determinize_below.proofs.nfas.SoundNfa.{ends_within_states, length-reach}
+use Rattle.determinize_below.specs.declared.look.Look.{Look as Assertion}
+use Rattle.determinize_below.specs.declared.search.MatchKind.TheVariants.{All, LeftmostFirst}
+use Rattle.determinize_below.specs.Edges.{edges, is_capture, is_match_node, pattern_count, pattern_of, patterns_of, reach}
+use Rattle.determinize_below.specs.Semantics.{Fail}
+use Rattle.determinize_core.proofs.Common.{accepted_sound, has, have_after, member, none_held, same_decides, tables_of}
+use Rattle.determinize_core.proofs.Common.{without}
+use Rattle.determinize_core.proofs.step.Resolving.{step_resolves, targets_resolve}
+use Rattle.determinize_core.specs.Step.{distinct_states, is_reopened, opened_by, patterns_read, step, targets, working_list}
+use Rattle.determinize_lazy.proofs.steps.Rule.{All-kept}
+use Rattle.determinize_lazy.specs.MostBytes.{most_bytes}
+use Rattle.determinize_lazy.specs.Private.Invariant.{IsSmall}
+use Rattle.determinize_engine.specs.StateBytes.{bytes_apart}
+use Rattle.determinize_start.specs.LookTables.{have_at_start}
+use Rattle.determinize_state.proofs.encoding.EncodedLength.{spell_short}
+use Rattle.determinize_table.specs.CacheBytes.{cache_bytes}
+use Rattle.ordered_reach.proofs.graph.FiniteGraphs.{below_member, fresh_below}
+use Rattle.ordered_reach.proofs.graph.SearchBound.{weight, weight-fresh}
+use Rattle.ordered_reach.proofs.lists.Elements.{In_Contains, member_In}
+use Rattle.ordered_reach.proofs.Cases.{or_false}
+use Rattle.ordered_reach.specs.Reach.{ends, fresh, joined, nodes_below}
+
+weight-sum : (f : ℕ → ℕ) (xs : List ℕ) → weight f none_held xs ≡ sum_by f xs
+weight-sum f [] = refl
+weight-sum f (x ∷ xs) = ap (λ k. f x + k) (weight-sum f xs) ∙ sym (sum_by-cons f x xs)
+
+one_or_none : (o : Option ℕ) → length (option_to_list o) ≡ cond (is_some o) 1 0
+one_or_none None = refl
+one_or_none (Some x) = refl
+
+-- a part of a list is no longer
+length-without : (p : ℕ → Bool) (xs : List ℕ) → length (without p xs) ≤ length xs
+length-without p xs = rw (length-filter _ xs) (count_by-le-length _ xs)
+
+length-read : (kind : MatchKind) (ps : List ℕ) → length (patterns_read kind ps) ≤ length ps
+length-read All ps = omega arith
+length-read LeftmostFirst [] = omega arith
+length-read LeftmostFirst (p ∷ ps) = omega arith
+
+module _ (nfa : Nfa) where
+  -- how many patterns a state has
+  abbrev patterns_at : ℕ → ℕ
+  patterns_at s = length (option_to_list (pattern_of nfa s))
+
+  patterns_below : (k : ℕ) → k ≤ length nfa.states
+      → weight patterns_at none_held (nodes_below k)
+      ≡ sum_by (λ x. cond (is_match_node x) 1 0) (take k nfa.states)
+  patterns_below zero l = refl
+  patterns_below (suc k) l =
+      let more = sum_by_more (λ x. cond (is_match_node x) 1 0) nfa.states k Fail (omega (arith, l)) in
+      let one : patterns_at k ≡ cond (is_match_node (get_or nfa.states k Fail)) 1 0 = one_or_none (pattern_of nfa k) in
+      rw (← add-one k) (omega (arith, more, one, patterns_below k (omega (arith, l))))
+
+  -- distinct states have at most all patterns
+  few_patterns : (xs : List ℕ) → ((x : ℕ) → member nat_eq xs x ≡ true → x < length nfa.states)
+      → length (patterns_of nfa (fresh nat_eq none_held xs)) ≤ pattern_count nfa
+  few_patterns xs inside =
+      let ys : List ℕ = fresh nat_eq none_held xs in
+      let n : ℕ = length nfa.states in
+      let whole : take n nfa.states ≡ nfa.states = take_all n nfa.states (omega arith) in
+      let all : weight patterns_at none_held (nodes_below n) ≡ pattern_count nfa =
+      patterns_below n (omega arith) ∙ ap (λ ns. count_by is_match_node ns) whole in
+      let size : length (patterns_of nfa ys) ≡ weight patterns_at none_held ys =
+      length-flat_map (λ s. option_to_list (pattern_of nfa s)) ys ∙ sym (weight-sum patterns_at ys) in
+      omega (
+        arith,
+        size,
+        weight-fresh same_decides patterns_at (nodes_below n) none_held xs (λ x m e. below_member n x (inside x m)),
+        all,
+      )
+
+module _ (nfa : Nfa) (accepted : IsAccepted nfa) where
+  reach-few_patterns : (holds : Assertion → Bool) (roots : List ℕ)
+      → ((r : ℕ) → member nat_eq roots r ≡ true → r < length nfa.states)
+      → length (patterns_of nfa (reach nfa holds roots)) ≤ pattern_count nfa
+  unfolding reach
+  reach-few_patterns holds roots inside =
+      let n : ℕ = length nfa.states in
+      few_patterns nfa (flat_map (ends nat_eq (edges nfa holds) (n + 1) none_held) roots)
+      (ends_within_states nfa (accepted_sound nfa accepted) holds (n + 1) none_held roots inside)
+
+  pub small-start : (s : ℕ) (p : Option ℕ) → s < length nfa.states → IsSmall nfa (start_value nfa s p)
+  small-start s p l = (
+    omega arith,
+    (let xs : List ℕ = reach nfa (has (have_at_start (tables_of nfa) p)) (s ∷ []) in
+        let few : length xs ≤ length nfa.states = length-reach nfa (accepted_sound nfa accepted) _ (s ∷ [])
+        (λ r k. let e : s ≡ r = eqb-true s r (or_false (nat_eq s r) k) in omega arith) in
+        omega (arith, few, length-without (is_capture nfa) xs)),
+  )
+
+  small-step : (kind : MatchKind) (v : Value) (u : Option ℕ) → AllResolve nfa v.states
+      → IsSmall nfa (step nfa kind v u)
+  unfolding step
+  small-step kind v u resolve =
+      let n : ℕ = length nfa.states in
+      let inside : (x : ℕ) → member nat_eq v.states x ≡ true → x < n =
+      λ x m. All-contains (λ id. id < n) v.states x resolve
+      (In_Contains same_decides v.states x (member_In same_decides v.states x m)) in
+      let patterns : length (patterns_of nfa (working_list nfa v u)) ≤ pattern_count nfa =
+      by_test (is_reopened nfa v u)
+      (λ e. rw e (reach-few_patterns (joined (has v.look_have) (opened_by nfa v u)) (distinct_states v)
+      (fresh_below n v.states inside)))
+      (λ e. rw e (few_patterns nfa v.states inside)) in
+      let entered : List ℕ = reach nfa (has (have_after (tables_of nfa) u)) (targets nfa kind v u) in
+      let few : length entered ≤ n = length-reach nfa (accepted_sound nfa accepted) _ (targets nfa kind v u)
+      (targets_resolve nfa accepted kind v u) in (
+        omega (arith, patterns, length-read kind (patterns_of nfa (working_list nfa v u))),
+        omega (arith, few, length-without (is_capture nfa) entered),
+      )
+
+-- a walk leaves only values of which this is so
+small-walk : (us : List (Option ℕ)) (c : Cache) (v : Value) → IsAccepted c.nfa → Each (IsSmall c.nfa) c.table.states
+    → IsSmall c.nfa v → AllResolve c.nfa v.states → Each (IsSmall c.nfa) (after_walk c v us).table.states
+small-walk [] c v accepted each one resolve = each
+small-walk (u ∷ us) c v accepted each one resolve =
+    let next : IsSmall c.nfa (step_of c v u) = small-step c.nfa accepted c.kind v u resolve in
+    small-walk us (after_step c v u) (step_of c v u) accepted
+    (by_test (is_cached c.table v u) (λ e. rw e each)
+    (λ e. rw e (All-kept (IsSmall c.nfa) c.limit c.table v u (step_of c v u) each one next)))
+    next (step_resolves c.nfa accepted c.kind v u)
+
+small-cut_off : {old : Cache} {v : Value} {us : List (Option ℕ)} {new : Cache} → IsAccepted old.nfa
+    → Each (IsSmall old.nfa) old.table.states → IsSmall old.nfa v → AllResolve old.nfa v.states
+    → IsCutOff old v us new → Each (IsSmall old.nfa) new.table.states
+small-cut_off {old} {v} {us} accepted each one resolve cut =
+    by_cases cut.table (λ e. rw e (All-nil (IsSmall old.nfa)))
+    (λ e. rw e (small-walk (take cut.steps us) old v accepted each one resolve))
+
+-- and so does a search
+pub small-over : {E : Type 0} {earliest : Bool} {us : List (Option ℕ)} {p : Place} (r : Result (Option HalfMatch) E)
+    {new : Cache} → IsAccepted p.cache.nfa → Each (IsSmall p.cache.nfa) p.cache.table.states
+    → IsSmall p.cache.nfa p.value → AllResolve p.cache.nfa p.value.states → IsOver earliest us p r new
+    → Each (IsSmall p.cache.nfa) new.table.states
+small-over {earliest = earliest} {us} {p} (Ok x) accepted each one resolve over =
+    rw over.after (small-walk (units_read (step_of p.cache) earliest p.value us) p.cache p.value accepted each one resolve)
+small-over (Err e) accepted each one resolve over = small-cut_off accepted each one resolve over.failed
+
+-- the memory of a cache
+pub few_bytes : (limit : ℕ) (nfa : Nfa) (states : List Value) → length states ≤ limit → Each (IsSmall nfa) states
+    → cache_bytes states ≤ most_bytes limit nfa
+few_bytes limit nfa states within each =
+    let m : ℕ = 26 + 8 * pattern_count nfa + 10 * length nfa.states in
+    let one : (v : Value) → IsSmall nfa v → bytes_apart v * 2 ≤ m = λ v small. grind (arith, spell_short v, small.0, small.1) in
+    let sum = sum_by-le (λ v. bytes_apart v * 2) m states
+    (All-weaker (IsSmall nfa) (λ v. bytes_apart v * 2 ≤ m) one states each) in
+    let more : length states * (1104 + m) ≤ limit * (1104 + m) = mul-le-mul_right (1104 + m) within in
+    omega (arith, sum, more)
