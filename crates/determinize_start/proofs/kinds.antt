@@ -1,1 +1,3 @@
+pub mod Occurring
 pub mod StartKinds
+pub mod StartSlots

@@ -1,6 +1,7 @@
 -- Start configurations and start kinds.
-use Rattle.std.specs.Prelude.{ℕ, suc, zero, cond, Option, Some, None, nat_eq, List, [], ◌∷◌, slice_get}
+use Rattle.std.specs.Prelude.{◌≡◌, ℕ, suc, zero, cond, Option, Some, None, nat_eq, List, [], ◌∷◌, slice_get}
 use Rattle.determinize_below.specs.Semantics.{is_word_byte}
+use Rattle.determinize_below.specs.Truth.{IsUnit}
 use Rattle.determinize_below.specs.declared.search.Anchored.{Anchored}
 use Rattle.determinize_start.specs.declared.start.Start.{Start as Kind}
 use Rattle.determinize_start.specs.declared.start.Start.TheVariants.{NonWordByte, WordByte, Text, LineLF, LineCR, CustomLineTerminator}
@@ -44,3 +45,7 @@ start_kind t b =
 abbrev pub start_kind_of : ℕ → Option ℕ → Kind
 start_kind_of t None = Text
 start_kind_of t (Some b) = start_kind t b
+
+-- whether some byte, or no byte, has the start kind
+abbrev pub Occurs : ℕ → Kind → Type 0
+Occurs t kind = (p : Option ℕ) × IsUnit p × (start_kind_of t p ≡ kind)

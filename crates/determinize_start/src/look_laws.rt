@@ -8,8 +8,9 @@ ghost use Rattle.determinize_below.specs.Truth as truth;
 ghost use Rattle.determinize_start.specs.LookTables.{AreKnownAlone, IsFlagged, from_word_after, from_word_at_start, half_crlf_after, half_crlf_at_start, have_after, have_at_start, opened, tables};
 ghost use Rattle.determinize_start.specs.StartKinds as kinds;
 ghost use Rattle.determinize_start.specs.StartRows as rows;
+ghost use Rattle.determinize_start.specs.StartSlots as slots;
 
-use crate::start::{Config, Start, StartByteMap};
+use crate::start::{Config, Start, StartByteMap, StartSlot};
 use determinize_below::{Look, LookSet};
 use std::alloc::AllocError;
 
@@ -30,6 +31,12 @@ pub fn start_clone_law(
 pub fn start_number_law(start: Start, number: usize)
     ensures back { kinds.start_of_number (kinds.number_of start) ≡ Some start }
     ensures past { 6 ≤ number → kinds.start_of_number number ≡ None }
+{}
+
+/// States that a slot is determined by its number, and that the numbers are below 12.
+pub fn slot_number_law(slot: StartSlot, number: usize)
+    ensures back { slots.slot_of_number (slots.slot_number slot) ≡ Some slot }
+    ensures past { 12 ≤ number → slots.slot_of_number number ≡ None }
 {}
 
 /// Gives examples: the start kinds of small searches, and the look-behind of start kinds and of

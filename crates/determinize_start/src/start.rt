@@ -3,11 +3,14 @@
 //! Given the NFA state to start from, the first state of a search depends on the byte before the
 //! search in reading order. Bytes that satisfy the same assertions have the same first state, so
 //! there are only six kinds of start, numbered from 0: a table of first states needs six entries
-//! for each NFA state to start from, instead of 257.
+//! for each NFA state to start from, instead of 257. [`StartSlot`] numbers those of both starts of
+//! an NFA.
 //! `StartByteMap` maps a byte to its kind. No byte has the kind `Start::Text`.
 
-ghost use Rattle.std.specs.Prelude.{◌≡◌, ℕ, ◌<◌, get_or, length, slice_get};
+ghost use Rattle.std.specs.Prelude.{Decides, ◌≡◌, ℕ, ◌<◌, get_or, length, slice_get};
 ghost use Rattle.determinize_start.specs.StartKinds as kinds;
+ghost use Rattle.determinize_start.specs.StartSlots as slots;
+ghost use Rattle.determinize_start.specs.declared.start.TheConstants.StartSlot.{COUNT};
 
 use determinize_below::alphabet::is_word_byte;
 use determinize_below::{Anchored, Input, LookMatcher};
@@ -139,6 +142,9 @@ pub enum Start {
 }
 
 impl Start {
+    /// The number of kinds.
+    pub const COUNT: usize = 6;
+
     /// Returns the kind with this number, or `None` if the number is above 5.
     pub fn from_usize(number: usize) -> Option<Start>
         ensures { result ≡ kinds.start_of_number number }
@@ -158,7 +164,7 @@ impl Start {
     pub fn len() -> usize
         ensures { result ≡ length kinds.each_start }
     {
-        6
+        Start::COUNT
     }
 
     /// Returns the number of the kind, from 0 to 5.
@@ -173,6 +179,57 @@ impl Start {
         ensures { result ≡ kinds.number_of self }
     {
         usize::from(self.as_u8())
+    }
+
+    /// Returns whether a start can be of this kind, given the line terminator: no byte is a custom
+    /// line terminator if the terminator is `\n` or `\r`.
+    pub fn occurs(self, terminator: u8) -> bool
+        ensures { Decides result (kinds.Occurs terminator self) }
+    {
+        match self {
+            Start::CustomLineTerminator => terminator != b'\n' && terminator != b'\r',
+            _ => true,
+        }
+    }
+}
+
+/// A slot of a table of first states: there are twelve, numbered from 0, first those of the
+/// anchored start by its kind, and then those of the unanchored one.
+#[derive(Clone, Copy, Debug, PartialEq, Eq)]
+pub struct StartSlot {
+    /// Whether the search starts from the anchored start of the NFA.
+    pub is_anchored: bool,
+    /// The kind of the start.
+    pub kind: Start,
+}
+
+impl StartSlot {
+    /// The number of slots.
+    pub const COUNT: usize = 2 * Start::COUNT;
+
+    /// Returns the slot with this number, or `None` if the number is above 11.
+    pub fn from_usize(number: usize) -> Option<StartSlot>
+        ensures { result ≡ slots.slot_of_number number }
+    {
+        let is_anchored = number < Start::COUNT;
+        let kind = if is_anchored {
+            number
+        } else {
+            number - Start::COUNT
+        };
+        match Start::from_usize(kind) {
+            Some(kind) => Some(StartSlot { is_anchored, kind }),
+            None => None,
+        }
+    }
+
+    /// Returns the number of the slot, from 0 to 11.
+    pub fn as_usize(self) -> usize
+        ensures value { result ≡ slots.slot_number self }
+        ensures limit { result < COUNT }
+    {
+        let first = if self.is_anchored { 0 } else { Start::COUNT };
+        first + self.kind.as_usize()
     }
 }
 
