@@ -1,5 +1,5 @@
 -- One step from a value to the next, over a unit.
-use Rattle.std.specs.Prelude.{ℕ, Bool, not, cond, Option, List, [], ◌∷◌, nat_eq, take}
+use Rattle.std.specs.Prelude.{◌≡◌, ℕ, Bool, not, cond, Option, List, [], ◌∷◌, nat_eq, take}
 use mathlib.Core.Bool.{◌&&◌}
 use Rattle.std.specs.List.{flat_map, list_any}
 use Rattle.determinize_below.specs.declared.look.Look.{Look as Assertion}
@@ -11,6 +11,7 @@ use Rattle.determinize_below.specs.Edges.{target, is_match, patterns_of, reach}
 use Rattle.ordered_reach.specs.Reach.{fresh, joined, none_held}
 use Rattle.ordered_reach.specs.Runs.{before}
 use Rattle.determinize_start.specs.LookTables.{tables_of, start_have, start_from_word, start_half_crlf, opened, have_after, from_word_after, half_crlf_after, have_at_start, from_word_at_start, half_crlf_at_start}
+use Rattle.determinize_start.specs.StartKinds.{start_kind_of}
 use Rattle.determinize_start.specs.declared.start.Start.{Start as Kind}
 use Rattle.determinize_state.specs.Recording.{recorded}
 use Rattle.determinize_state.specs.Value.{Value, is_nonempty, with_flags, with_looks}
@@ -40,6 +41,11 @@ start_value nfa s p =
     recorded nfa (begun (from_word_at_start (tables_of nfa) p)
     (half_crlf_at_start (tables_of nfa) p) (have_at_start (tables_of nfa) p) [])
     (reach nfa (has (have_at_start (tables_of nfa) p)) (s ∷ []))
+
+-- the value is that before the first unit for each look-behind byte of this kind
+abbrev pub IsStartOf : Nfa → ℕ → Kind → Value → Type 0
+IsStartOf nfa s kind v = (p : Option ℕ) → start_kind_of nfa.terminator p ≡ kind
+    → v ≡ start_value nfa s p
 
 -- whether some assertion that was found to hold is in look-need and not in look-have
 abbrev pub is_redone : (Assertion → Bool) → ℕ → ℕ → Bool

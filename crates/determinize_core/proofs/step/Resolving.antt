@@ -1,21 +1,22 @@
 -- The states of each value of a walk are states of the NFA.
--- Main statements: start_resolves, targets_resolve, targets_within, step_resolves.
--- Used by: ReturnedWalk, StepBound, `start_state`, `transition`, and the cache.
+-- Main statements: start_resolves, targets_resolve, targets_within, step_resolves, is-start_of.
+-- Used by: ReturnedWalk, StepBound, `start_state_of`, `transition`, and the cache.
 -- Idea: edges and targets of a valid NFA go to its states.
-use Rattle.determinize_core.proofs.Common.{[], accepted_sound, All-from_member, AllResolve, arith, Assertion, Bool}
-use Rattle.determinize_core.proofs.Common.{eqb-true, has, have_after, is_capture, is_match, IsAccepted}
-use Rattle.determinize_core.proofs.Common.{length, List, MatchKind, member, nat_eq, Nfa, not, Option, part_read, reach, refl}
-use Rattle.determinize_core.proofs.Common.{same_decides, start_value, step, tables_of, target, targets, true, Value}
-use Rattle.determinize_core.proofs.Common.{without, working_list, ℕ, ◌<◌, ◌∷◌, ◌≡◌}
+use Rattle.determinize_core.proofs.Common.{[], accepted_sound, All-from_member, AllResolve, ap, arith, Assertion, begun}
+use Rattle.determinize_core.proofs.Common.{Bool, eqb-true, has, have_after, is_capture, is_match, IsAccepted}
+use Rattle.determinize_core.proofs.Common.{length, List, MatchKind, member, nat_eq, Nfa, not, Option, part_read, reach}
+use Rattle.determinize_core.proofs.Common.{recorded, same_decides, start_value, step, sym, tables_of, target, targets}
+use Rattle.determinize_core.proofs.Common.{true, Value, without, working_list, ℕ, ◌<◌, ◌∷◌, ◌≡◌}
 use Rattle.determinize_below.proofs.nfas.SoundNfa.{reach_within, target_within}
 use Rattle.ordered_reach.proofs.lists.NewNodes.{flat_map-member, member-filter}
 use Rattle.std.proofs.Common.{All as Each}
 use Rattle.ordered_reach.proofs.Cases.{or_false}
 use Rattle.std.specs.Int.Bits.{or_zero_l}
 use Rattle.determinize_core.proofs.closure.EmptySearch.{reach_past-empty}
+use Rattle.determinize_core.specs.Step.{IsStartOf}
 use Rattle.determinize_start.specs.LookTables.{from_word_at_start, half_crlf_at_start, have_at_start, start_from_word}
-use Rattle.determinize_start.specs.LookTables.{start_half_crlf, start_have, Tables}
-use Rattle.determinize_start.specs.StartKinds.{start_kind_of}
+use Rattle.determinize_start.specs.LookTables.{start_half_crlf, start_have}
+use Rattle.determinize_start.specs.declared.start.Start.{Start as Kind}
 
 module _ (nfa : Nfa) (accepted : IsAccepted nfa) where
   entered_resolve : (holds : Assertion → Bool) (roots : List ℕ)
@@ -54,20 +55,15 @@ module _ (nfa : Nfa) (accepted : IsAccepted nfa) where
   step_resolves kind v u =
       entered_resolve (has (have_after (tables_of nfa) u)) (targets nfa kind v u) (targets_resolve kind v u)
 
--- the look-behind of a start is that of its kind
-pub have-kind : (t : Tables) (p : Option ℕ) → have_at_start t p ≡ start_have t (start_kind_of t.terminator p)
-unfolding have_at_start
-have-kind t p = refl
+-- the value before the first unit for a kind of start
+abbrev pub kind_value : Nfa → ℕ → Kind → Value
+kind_value nfa s k = recorded nfa (begun (start_from_word (tables_of nfa) k) (start_half_crlf (tables_of nfa) k)
+    (start_have (tables_of nfa) k) []) (reach nfa (has (start_have (tables_of nfa) k)) (s ∷ []))
 
-pub from_word-kind : (t : Tables) (p : Option ℕ)
-    → from_word_at_start t p ≡ start_from_word t (start_kind_of t.terminator p)
-unfolding from_word_at_start
-from_word-kind t p = refl
+-- it is that for each byte of the kind
+pub is-start_of : (nfa : Nfa) (s : ℕ) (k : Kind) → IsStartOf nfa s k (kind_value nfa s k)
+unfolding have_at_start from_word_at_start half_crlf_at_start
+is-start_of nfa s k p e = ap (λ k. kind_value nfa s k) (sym e)
 
-pub half_crlf-kind : (t : Tables) (p : Option ℕ)
-    → half_crlf_at_start t p ≡ start_half_crlf t (start_kind_of t.terminator p)
-unfolding half_crlf_at_start
-half_crlf-kind t p = refl
-
--- for `start_state`
-pub ruleset starting = (closure_resolves, from_word-kind, half_crlf-kind, have-kind, or_zero_l, reach_past-empty)
+-- for `start_state_of`
+pub ruleset starting = (closure_resolves, or_zero_l, reach_past-empty)

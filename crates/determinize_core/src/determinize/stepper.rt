@@ -4,12 +4,13 @@ ghost use Rattle.std.specs.Prelude.{◌≡◌, ◌<◌, ◌≤◌, length, IfOk,
 ghost use Rattle.determinize_below.specs.Nfa.{AllResolve, IsAccepted};
 ghost use Rattle.determinize_below.specs.Unit.{byte_of};
 ghost use Rattle.determinize_below.specs.declared.search.MatchKind.TheVariants as kinds;
-ghost use Rattle.determinize_core.specs.Step.{start_value, step};
+ghost use Rattle.determinize_core.specs.Step.{IsStartOf, start_value, step};
 ghost use Rattle.determinize_core.specs.Stepper.{IsPrepared};
 
 use crate::determinize::transition::next;
-use crate::determinize::walks::start_state;
+use crate::determinize::walks::start_state_of;
 use determinize_below::{MatchKind, NFA, SparseSets, StateID, Unit};
+use determinize_start::start::{Start, start_kind_of};
 use determinize_state::state::{State, StateBuilderEmpty, StateBuilderNFA};
 use std::alloc::{AllocError, Allocator, Global};
 use std::marker::Model;
@@ -103,6 +104,21 @@ impl<'n, N: Allocator, A: Allocator + Copy> Stepper<'n, N, A> {
         ensures accepted { OnOk result (IsAccepted self.old.nfa) }
         ensures unchanged { self.new ≡ self.old }
     {
+        let terminator = self.nfa.look_matcher().get_line_terminator();
+        self.start_of(start, start_kind_of(terminator, look_behind))
+    }
+
+    /// Returns the state before the first unit for a kind of start: the state that `start` returns
+    /// for each byte of this kind, or behind no byte for `Start::Text`.
+    ///
+    /// - `start` is the NFA state to start from, below the number of states.
+    pub fn start_of(&mut self, start: StateID, kind: Start) -> Result<State<A>, AllocError>
+        requires { start < length self.old.nfa.states }
+        ensures ok { IfOk result (λ state. IsStartOf self.old.nfa start kind state) }
+        ensures resolve { IfOk result (λ state. AllResolve self.old.nfa state.states) }
+        ensures accepted { OnOk result (IsAccepted self.old.nfa) }
+        ensures unchanged { self.new ≡ self.old }
+    {
         if self.sparses.is_none() {
             self.sparses = Some(SparseSets::new(self.alloc, self.nfa.len())?);
         }
@@ -110,14 +126,7 @@ impl<'n, N: Allocator, A: Allocator + Copy> Stepper<'n, N, A> {
             unreachable!()
         };
         let empty = mem::replace(&mut self.empty_builder, StateBuilderEmpty::new(self.alloc));
-        let builder = start_state(
-            self.nfa,
-            start,
-            look_behind,
-            sparses,
-            &mut self.stack,
-            empty,
-        )?;
+        let builder = start_state_of(self.nfa, start, kind, sparses, &mut self.stack, empty)?;
         self.finish(builder)
     }
 

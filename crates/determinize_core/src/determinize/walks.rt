@@ -1,11 +1,11 @@
 //! The start state, and walks: the states of a DFA over a text, from the start state on.
 
 ghost use Rattle.std.specs.Prelude.{◌≡◌, ◌<◌, ◌++◌, ◌∷◌, [], None, length, IfOk, OnOk};
-ghost use Rattle.determinize_below.specs.Nfa.{AllResolve};
+ghost use Rattle.determinize_below.specs.Nfa.{AllResolve, IsAccepted};
 ghost use Rattle.determinize_below.specs.Semantics.{between};
 ghost use Rattle.determinize_below.specs.Unit.{byte_of};
 ghost use Rattle.determinize_core.specs.Scratch.{IsScratch};
-ghost use Rattle.determinize_core.specs.Step.{start_value, step};
+ghost use Rattle.determinize_core.specs.Step.{IsStartOf, start_value, step};
 ghost use Rattle.determinize_core.specs.LastMatch as matches;
 ghost use Rattle.determinize_core.specs.WholeWalk.{IsWalk};
 
@@ -13,7 +13,7 @@ use crate::determinize::closure::epsilon_closure;
 use crate::determinize::lookbehind::set_lookbehind_from_start;
 use crate::determinize::stepper::Stepper;
 use determinize_below::{HalfMatch, MatchKind, NFA, SparseSets, StateID, Unit};
-use determinize_start::start::start_kind_of;
+use determinize_start::start::{Start, start_kind_of};
 use determinize_state::recording::add_nfa_states;
 use determinize_state::state::{State, StateBuilderEmpty, StateBuilderNFA};
 use std::alloc::{AllocError, Allocator};
@@ -26,7 +26,6 @@ use std::alloc::{AllocError, Allocator};
 ///
 /// The state has the look-behind for that byte and the epsilon closure of `start`. It lists no
 /// pattern, since matches are delayed by one unit. On error the builder is dropped.
-#[tactic(auto, using(crate::proofs::step::Resolving::starting))]
 pub fn start_state<N: Allocator, A: Allocator>(
     nfa: &NFA<N>,
     start: StateID,
@@ -41,9 +40,31 @@ pub fn start_state<N: Allocator, A: Allocator>(
     ensures resolve { IfOk result (λ builder. AllResolve nfa.now builder.states) }
     ensures scratch { IsScratch nfa.now sparses.new.set1 sparses.new.set2 stack.new.items }
 {
-    let mut builder = empty_builder.into_matches()?;
     let terminator = nfa.look_matcher().get_line_terminator();
-    set_lookbehind_from_start(nfa, &start_kind_of(terminator, look_behind), &mut builder);
+    let kind = start_kind_of(terminator, look_behind);
+    start_state_of(nfa, start, kind, sparses, stack, empty_builder)
+}
+
+/// Returns the state before the first unit for a kind of start, as [`start_state`] does for each
+/// byte of this kind.
+#[tactic(auto, using(crate::proofs::step::Resolving::starting))]
+pub(crate) fn start_state_of<N: Allocator, A: Allocator>(
+    nfa: &NFA<N>,
+    start: StateID,
+    kind: Start,
+    sparses: &mut SparseSets<A>,
+    stack: &mut Vec<StateID, A>,
+    empty_builder: StateBuilderEmpty<A>,
+) -> Result<StateBuilderNFA<A>, AllocError>
+    requires accepted { IsAccepted nfa.now }
+    requires scratch { IsScratch nfa.now sparses.old.set1 sparses.old.set2 stack.old.items }
+    requires resolve { start < length nfa.now.states }
+    ensures ok { IfOk result (λ builder. IsStartOf nfa.now start kind builder) }
+    ensures resolve { IfOk result (λ builder. AllResolve nfa.now builder.states) }
+    ensures scratch { IsScratch nfa.now sparses.new.set1 sparses.new.set2 stack.new.items }
+{
+    let mut builder = empty_builder.into_matches()?;
+    set_lookbehind_from_start(nfa, &kind, &mut builder);
     sparses.clear();
     epsilon_closure(nfa, start, builder.look_have(), stack, &mut sparses.set1)?;
     let mut builder = builder.into_nfa();
