@@ -16,7 +16,7 @@ ghost use Rattle.determinize_table.specs.Table.{is_cached};
 ghost use Rattle.determinize_table.specs.declared.table.Cursor.TheVariants as cursors;
 
 use crate::lazy::Lazy;
-use crate::view::start_index;
+use crate::view::start_slot;
 use determinize_below::{NFA, StateID, Unit};
 use determinize_core::state::State;
 use determinize_table::{Cursor, LazyStateId, StateTag};
@@ -81,8 +81,8 @@ impl<'n, N: Allocator, A: Allocator + Copy> Lazy<'n, N, A> {
         let Some(id) = self.table.find(&state, None) else {
             return Ok(Cursor::Uncached(state));
         };
-        if let Some(index) = start_index(self.stepper.nfa(), start, look_behind) {
-            self.table.set_start(index, id);
+        if let Some(slot) = start_slot(self.stepper.nfa(), start, look_behind) {
+            self.table.set_start(slot, id);
         }
         Ok(Cursor::Cached(id))
     }

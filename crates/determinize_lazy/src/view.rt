@@ -9,13 +9,13 @@ ghost use Rattle.determinize_core.specs.Value.{dead};
 ghost use Rattle.determinize_engine.specs.Searches.{has_start, start_for};
 ghost use Rattle.determinize_lazy.specs.Cache.{cache};
 ghost use Rattle.determinize_lazy.specs.Private.Searched.{GoesToCached, HasCome, IsCachedPosition, IsReached, cached_place, first_place};
-ghost use Rattle.determinize_lazy.specs.Private.Starts.{start_index};
+ghost use Rattle.determinize_lazy.specs.Private.Starts.{start_slot};
 ghost use Rattle.determinize_lazy.specs.Private.Steps.{IsSound};
 
 use determinize_below::{Anchored, HalfMatch, MatchKind, NFA, StateID};
-use determinize_core::start::{Start, start_kind_of};
+use determinize_core::start::{StartSlot, start_kind_of};
 use determinize_engine::text::Text;
-use determinize_table::{LastMatch, LazyStateId, STARTS, TransitionTable};
+use determinize_table::{LastMatch, LazyStateId, TransitionTable};
 use std::alloc::Allocator;
 use std::marker::Model;
 
@@ -65,26 +65,25 @@ pub(crate) enum Reached {
     Short(Option<CachedPosition>),
 }
 
-/// Returns where the id of a start state is kept: 0 to 5, by the kind of start, for the anchored
-/// start of the NFA, and 6 to 11 for the unanchored one. `None` for any other NFA state: its start
-/// is not kept.
-pub(crate) fn start_index<N: Allocator>(
+/// Returns the slot in which the id of a start state is kept. `None` for any other NFA state than
+/// the two start states: its start is not kept.
+pub(crate) fn start_slot<N: Allocator>(
     nfa: &NFA<N>,
     start: StateID,
     look_behind: Option<u8>,
-) -> Option<usize>
-    ensures value { result ≡ start_index nfa.now start look_behind }
-    ensures limit { IfSome result (λ index. index < STARTS) }
+) -> Option<StartSlot>
+    ensures { result ≡ start_slot nfa.now start look_behind }
 {
-    let first = if start == nfa.start_anchored() {
-        0
+    let is_anchored = if start == nfa.start_anchored() {
+        true
     } else if start == nfa.start_unanchored() {
-        Start::len()
+        false
     } else {
         return None;
     };
     let terminator = nfa.look_matcher().get_line_terminator();
-    Some(first + start_kind_of(terminator, look_behind).as_usize())
+    let kind = start_kind_of(terminator, look_behind);
+    Some(StartSlot { is_anchored, kind })
 }
 
 impl<'v, N: Allocator, A: Allocator + Copy> View<'v, N, A> {
@@ -111,8 +110,8 @@ impl<'v, N: Allocator, A: Allocator + Copy> View<'v, N, A> {
             (start_value self.now.nfa start look_behind).states }
         ensures sound { IsSound (cache self.now) }
     {
-        let index = start_index(self.nfa, start, look_behind)?;
-        self.table.start(index)
+        let slot = start_slot(self.nfa, start, look_behind)?;
+        self.table.start(slot)
     }
 
     /// Follows cached transitions over bytes of the text, up to a state at which the search ends.

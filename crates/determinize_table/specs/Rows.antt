@@ -41,8 +41,8 @@ IsTarget t v u (Some id) = (t.target v u ≡ slice_get t.states id) × (id < len
 abbrev pub with_state : Table → Value → Table
 with_state t v = record { states = with_value t.states v; target = t.target }
 
--- what the program's table is seen as: states, their rows, and for each kind of start the index of
--- the start state
+-- what the program's table is seen as: states, their rows, and for each slot of a start, by its
+-- number, the index of the start state that is kept
 pub record StoredTable : Type 0 where
   pub states : List Value
   pub rows : List ℕ

@@ -29,5 +29,5 @@ mod table;
 mod tag;
 
 pub use crate::state_id::LazyStateId;
-pub use crate::table::{Cursor, STARTS, TransitionTable};
+pub use crate::table::{Cursor, TransitionTable};
 pub use crate::tag::{LastMatch, StateTag};

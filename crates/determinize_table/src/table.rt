@@ -6,6 +6,7 @@ ghost use Rattle.std.specs.List.{list_any};
 ghost use Rattle.determinize_core.specs.Equality.{same};
 ghost use Rattle.determinize_core.specs.Value.{Value as StateValue};
 ghost use Rattle.determinize_engine.specs.States.{IsIndex};
+ghost use Rattle.determinize_start.specs.StartSlots.{slot_number};
 ghost use Rattle.determinize_table.specs.Changes.{IsInterned, IsKept};
 ghost use Rattle.determinize_table.specs.Cursors.{IsCursor, IsIndexBefore, cursor_value};
 ghost use Rattle.determinize_table.specs.CacheBytes.{cache_bytes};
@@ -16,6 +17,7 @@ ghost use Rattle.determinize_table.specs.Tags.{tag_in, tag_of};
 
 use crate::state_id::{COLUMNS, LazyStateId, UNITS};
 use crate::tag::StateTag;
+use determinize_core::start::StartSlot;
 use determinize_core::state::State;
 use determinize_engine::state_table::{MAX_STATES, StateTable};
 use std::alloc::{AllocError, Allocator, Global};
@@ -25,9 +27,6 @@ use std::mem::size_of;
 /// The entry of a transition that is not cached. It is the offset of no row, since these are
 /// multiples of 258.
 const UNKNOWN: u32 = 1;
-
-/// How many start states can be kept: two start states of the NFA, each with six kinds of start.
-pub const STARTS: usize = 12;
 
 /// Where a walk or a search is.
 #[derive(Drop)]
@@ -53,8 +52,8 @@ impl<A: Allocator> Cursor<A> {
 pub struct TransitionTable<A: Allocator = Global> {
     states: StateTable<A>,
     rows: Vec<u32, A>,
-    // The ids of start states, by `start_index` of `determinize_lazy`. `clear` removes them.
-    starts: [Option<LazyStateId>; STARTS],
+    // The ids of start states, by the numbers of their slots. `clear` removes them.
+    starts: [Option<LazyStateId>; StartSlot::COUNT],
 }
 
 impl<A: Allocator> Model for TransitionTable<A> {
@@ -92,7 +91,7 @@ impl<A: Allocator + Copy> TransitionTable<A> {
         TransitionTable {
             states: StateTable::new(alloc),
             rows: Vec::new(alloc),
-            starts: [None; STARTS],
+            starts: [None; StartSlot::COUNT],
         }
     }
 
@@ -103,7 +102,7 @@ impl<A: Allocator + Copy> TransitionTable<A> {
         self.states.clear();
         self.rows.clear();
         // The borrow checker does not cover an array that is assigned to a field as it is made.
-        let starts = [None; STARTS];
+        let starts = [None; StartSlot::COUNT];
         self.starts = starts;
     }
 
@@ -193,21 +192,20 @@ impl<A: Allocator + Copy> TransitionTable<A> {
         }
     }
 
-    /// Returns the kept start at an index.
-    pub fn start(&self, index: usize) -> Option<LazyStateId>
-        requires { index < STARTS }
-        ensures { result ≡ slice_index_or self.now.starts index None }
+    /// Returns the start that is kept in a slot.
+    pub fn start(&self, slot: StartSlot) -> Option<LazyStateId>
+        ensures { result ≡ slice_index_or self.now.starts (slot_number slot) None }
     {
-        self.starts[index]
+        self.starts[slot.as_usize()]
     }
 
-    /// Keeps the id of a start state at an index.
-    pub fn set_start(&mut self, index: usize, id: LazyStateId)
-        requires { index < STARTS }
-        ensures { self.new
-            ≡ record self.old { starts = slice_set self.old.starts index (Some id) } }
+    /// Keeps the id of a start state in a slot.
+    pub fn set_start(&mut self, slot: StartSlot, id: LazyStateId)
+        ensures { self.new ≡ record self.old {
+          starts = slice_set self.old.starts (slot_number slot) (Some id);
+        } }
     {
-        self.starts[index] = Some(id);
+        self.starts[slot.as_usize()] = Some(id);
     }
 
     /// Caches a state that is not cached, and returns its id.

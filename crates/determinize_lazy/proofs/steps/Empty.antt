@@ -10,6 +10,7 @@ use Rattle.determinize_below.specs.declared.search.MatchKind.{MatchKind}
 use Rattle.determinize_core.specs.Step.{step}
 use Rattle.determinize_engine.proofs.Places.{not_none}
 use Rattle.determinize_lazy.specs.Private.Invariant.{IsLazy}
+use Rattle.determinize_start.specs.StartSlots.{slot_number}
 use Rattle.determinize_table.proofs.Transitions.{empty-is}
 use Rattle.determinize_table.specs.Rows.{IsEmpty, StoredTable}
 
@@ -23,5 +24,5 @@ empty_is_lazy nfa kind limit computed stored accepted small is = record {
   };
   within = omega (arith, ap (λ (t : Table). length t.states) is.table);
   resolve = let none = ap (λ (t : Table). t.states) is.table in rw none (All-nil _);
-  starts = λ s p i id of kept. not_none (sym kept ∙ is.starts i);
+  starts = λ s p slot id of kept. not_none (sym kept ∙ is.starts (slot_number slot));
 }
