@@ -1,18 +1,20 @@
 -- A table that is being built: one value more, and one entry more.
-use Rattle.determinize_core.proofs.Common.{AllResolve, ap, arith, cond, dead, Err, false, get_or, inl, inr}
+use Rattle.determinize_core.proofs.Common.{AllResolve, ap, arith, by_test, cond, dead, Err, false, get_or, inl, inr}
 use Rattle.determinize_core.proofs.Common.{IsAccepted, length, length_push, List, list_any, MatchKind, nat_eq, nat_lt}
 use Rattle.determinize_core.proofs.Common.{Nfa, None, Ok, refl, Result, same, slice_get, slice_index, slice_set, Some}
 use Rattle.determinize_core.proofs.Common.{subst, sym, true, Value, ℕ, [], get_or-set_other, get_or-set_same}
 use Rattle.determinize_core.proofs.Common.{length-set, slice_get-get_or, ◌*◌, ◌++◌, ◌+◌, ◌<◌, ◌∙◌, ◌∷◌, ◌≡◌, ◌≤◌}
 use Rattle.determinize_dense.proofs.Common.{AreClasses, AreClassesOf, AreStarts, Building, Classes, columns_of}
 use Rattle.determinize_dense.proofs.Common.{first_of, HasMoreStates, HasStates, IsBuilding, IsReachedValue, IsStart}
-use Rattle.determinize_dense.proofs.Common.{IsUnit, Stays, unit_at}
+use Rattle.determinize_dense.proofs.Common.{IsUnit, slot_number, Stays, unit_at}
 use Rattle.determinize_core.specs.Step.{step}
 use Rattle.std.specs.Prelude.{◌%◌, ◌/◌}
 use Rattle.std.proofs.Math.Nat.{mul-le-mul_right, mul_comm}
 use Rattle.std.proofs.lemmas.Nat.{row-Below}
 use Rattle.std.proofs.lemmas.Option.{slice_get_read}
 use Rattle.determinize_dense.proofs.Reached.{reached-dead}
+use Rattle.determinize_start.proofs.kinds.StartSlots.{one_slot, slot_number-below}
+use Rattle.determinize_start.specs.declared.start.StartSlot.{StartSlot}
 use Rattle.determinize_engine.proofs.Places.{apart-push, get_more, get_push, not_both, not_none}
 use Rattle.determinize_engine.specs.declared.state_table.TheConstants.{MAX_STATES}
 
@@ -142,31 +144,29 @@ pub starts-stay : {a b : Building} {nfa : Nfa} {n : ℕ} {starts : List ℕ} →
 starts-stay {a} {b} s are = record {
   count = are.count;
   within = λ i h. let k = are.within i h in let l : length a.values ≤ length b.values = s.longer in omega (arith, k, l);
-  rows = λ i h anchored p unit e. s.values _ _ (are.rows i h anchored p unit e);
+  rows = λ slot h p unit e. s.values _ _ (are.rows slot h p unit e);
 }
 
 -- the row of one start more
-pub starts-push : {nfa : Nfa} {values : List Value} {n : ℕ} {starts : List ℕ} (row : ℕ) → AreStarts nfa values n starts
-    → n < 12 → row < length values → IsStart nfa values n row → AreStarts nfa values (n + 1) (slice_set starts n row)
-starts-push {nfa} {values} {n} {starts} row are room inside start = record {
+pub starts-push : {nfa : Nfa} {values : List Value} {n : ℕ} {starts : List ℕ} (slot : StartSlot) (row : ℕ)
+    → AreStarts nfa values n starts → slot_number slot ≡ n → row < length values → IsStart nfa values slot row
+    → AreStarts nfa values (n + 1) (slice_set starts n row)
+starts-push {nfa} {values} {n} {starts} slot row are n_is inside start = record {
   count = length-set starts n row ∙ are.count;
-  within = λ i h. elim (nat_eq i n) as (λ b. nat_eq i n ≡ b → slice_index (slice_set starts n row) i < length values) [
-    | true ↦ λ e. let i_is : i ≡ n = grind (arith, e) in
-        subst (λ k. k < length values) (sym (set-here i i_is)) inside
-    | false ↦ λ e. subst (λ k. k < length values) (sym (set-there i e)) (are.within i (grind (arith, e, h)))
-  ] refl;
-  rows = λ i h. elim (nat_eq i n) as (λ b. nat_eq i n ≡ b
-      → IsStart nfa values i (slice_index (slice_set starts n row) i)) [
-        | true ↦ λ e. let i_is : i ≡ n = grind (arith, e) in
-            subst (λ k. IsStart nfa values i k) (sym (set-here i i_is))
-            (subst (λ k. IsStart nfa values k row) (sym i_is) start)
-        | false ↦ λ e. subst (λ k. IsStart nfa values i k) (sym (set-there i e)) (are.rows i (grind (arith, e, h)))
-      ] refl;
+  within = λ i h. by_test (nat_eq i n)
+      (λ e. let i_is : i ≡ n = grind (arith, e) in rw (set-here i i_is) inside)
+      (λ e. rw (set-there i e) (are.within i (grind (arith, e, h))));
+  rows = λ other h. by_test (nat_eq (slot_number other) n)
+      (λ e. let i_is : slot_number other ≡ n = grind (arith, e) in
+      rw (set-here (slot_number other) i_is, one_slot other slot (i_is ∙ sym n_is)) start)
+      (λ e. rw (set-there (slot_number other) e) (are.rows other (grind (arith, e, h))));
 }
   where
+    room : n < length starts
+    room = let below : slot_number slot < 12 = slot_number-below slot in omega (arith, below, n_is, are.count)
+
     set-here : (i : ℕ) → i ≡ n → slice_index (slice_set starts n row) i ≡ row
-    set-here i e = ap (λ k. slice_index (slice_set starts n row) k) e
-        ∙ get_or-set_same starts n row 0 (subst (λ k. n < k) (sym are.count) room)
+    set-here i e = ap (λ k. slice_index (slice_set starts n row) k) e ∙ get_or-set_same starts n row 0 room
 
     set-there : (i : ℕ) → nat_eq i n ≡ false → slice_index (slice_set starts n row) i ≡ slice_index starts i
     set-there i e = get_or-set_other starts n i row 0 (λ same. not_both (let yes : nat_eq i n

@@ -3,10 +3,11 @@ use Rattle.determinize_core.proofs.Common.{Bool, List, MatchKind, Nfa, Option, [
 use Rattle.determinize_core.proofs.Common.{nat_lt, refl, subst, sym, true, ℕ, ◌++◌, ◌<◌, ◌∙◌, ◌∷◌, ◌≡◌, ◌≤◌}
 use Rattle.determinize_dense.specs.Dfa.{IsDfaOf}
 use Rattle.determinize_dense.proofs.Common.{All, DfaValue, IsDfa, IsUnit, Table, patterns_at, row_after, row_over}
-use Rattle.determinize_dense.proofs.Common.{start_kind_of, start_number, start_row}
+use Rattle.determinize_dense.proofs.Common.{slot_number, slot_of, start_kind_of, start_row}
 use Rattle.std.proofs.lemmas.List.Elements.{All-append}
 use Rattle.determinize_dense.proofs.Pigeonhole.{pigeonhole}
-use Rattle.determinize_dense.proofs.Reached.{head_unit, start-number, tail_units}
+use Rattle.determinize_dense.proofs.Reached.{head_unit, tail_units}
+use Rattle.determinize_start.proofs.kinds.StartSlots.{slot_number-below}
 use Rattle.determinize_dense.specs.Least.{AreApart, HasRows, IsLeast, IsReachedRow, LeastIsLeast}
 
 -- units after units
@@ -25,8 +26,8 @@ row_after-below nfa d rows (u ∷ us) r h all =
 -- the rows of a DFA
 pub has_rows : (v : DfaValue) → IsDfa v → HasRows v.nfa v.table
 has_rows v is = record {
-  starts = λ anchored p h. is.table.first (start_number v.nfa anchored p)
-      (start-number anchored (start_kind_of v.nfa.terminator p)).2;
+  starts = λ anchored p h. let slot = slot_of anchored (start_kind_of v.nfa.terminator p) in
+      is.table.first (slot_number slot) (slot_number-below slot);
   rows = is.table.within;
 }
 

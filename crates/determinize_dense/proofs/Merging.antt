@@ -5,13 +5,14 @@ use Rattle.determinize_core.proofs.Common.{◌∙◌, ◌∷◌}
 use Rattle.determinize_core.proofs.Common.{◌≡◌, ◌≤◌}
 use Rattle.determinize_dense.specs.Dfa.{IsDfaOf}
 use Rattle.determinize_dense.proofs.Common.{All, DfaValue, IsDfa, IsFilled, IsUnit, Table, column_of, patterns_at}
-use Rattle.determinize_dense.proofs.Common.{row_after, row_over, start_kind_of, start_number, start_row, value_from}
+use Rattle.determinize_dense.proofs.Common.{row_after, row_over, slot_number, slot_of, start_kind_of, start_row, value_from}
 use Rattle.std.specs.Prelude.{◌%◌}
 use Rattle.std.proofs.Math.Nat.{mul_comm}
 use Rattle.std.proofs.lemmas.Nat.{div-mul-add, mod-mul-add, mul-add-lt}
 use Rattle.std.proofs.lemmas.List.Elements.{All-append, All-nil}
 use Rattle.determinize_dense.proofs.Least.{has_rows, row_after-below, row_after-more}
-use Rattle.determinize_dense.proofs.Reached.{head_unit, start-number, tail_units}
+use Rattle.determinize_dense.proofs.Reached.{head_unit, tail_units}
+use Rattle.determinize_start.proofs.kinds.StartSlots.{slot_number-below}
 use Rattle.determinize_dense.proofs.Splitting.{few_blocks}
 use Rattle.determinize_dense.specs.Least.{IsLeast, IsReachedRow}
 use Rattle.determinize_dense.specs.Private.Minimizing.{AreMergedLists, AreMergedRows, AreMergedStarts, entry}
@@ -113,8 +114,8 @@ module _ (v : DfaValue) (is : IsDfa v) (p : Blocks) (part : IsGrouping v.table p
 
   block-start : (anchored : Bool) (q : Option ℕ)
       → start_row v.nfa e anchored q ≡ block (start_row v.nfa d anchored q)
-  block-start anchored q = firsts.blocks (start_number v.nfa anchored q)
-      (start-number anchored (start_kind_of v.nfa.terminator q)).2
+  block-start anchored q = let slot = slot_of anchored (start_kind_of v.nfa.terminator q) in
+      firsts.blocks (slot_number slot) (slot_number-below slot)
 
   -- the block of the row after a start and units
   block-from : (anchored : Bool) (q : Option ℕ) (us : List (Option ℕ)) → IsUnit q → All IsUnit us

@@ -7,7 +7,7 @@ use Rattle.determinize_core.proofs.Common.{slice_get-map, ◌*◌, ◌+◌, ◌<
 use Rattle.determinize_dense.proofs.Common.{All, AreClassesOf, AreStarts, Building, Classes, column_of, columns_of}
 use Rattle.determinize_dense.proofs.Common.{first_of, HasStates}
 use Rattle.determinize_dense.proofs.Common.{IsBuilding, IsDfa, IsFilled, IsReachedValue, IsUnit, patterns_at}
-use Rattle.determinize_dense.proofs.Common.{row_after, row_over, start_in, start_kind_of, start_number, start_row}
+use Rattle.determinize_dense.proofs.Common.{row_after, row_over, slot_of, start_in, start_kind_of, start_row}
 use Rattle.determinize_dense.proofs.Common.{step, Table, unit_at}
 use Rattle.std.specs.Prelude.{◌%◌, ◌++◌, ◌≤◌, false, ◌/◌}
 use Rattle.determinize_dense.specs.Least.{IsReachedRow}
@@ -17,7 +17,8 @@ use Rattle.determinize_core.specs.Alike.{NeedsTested}
 use Rattle.determinize_core.proofs.step.AlikeBytes.{each_class_steps}
 use Rattle.determinize_core.proofs.step.StepLaws.{dead_stays}
 use Rattle.determinize_engine.proofs.Places.{of_some}
-use Rattle.determinize_dense.proofs.Reached.{head_unit, reached-tested, start-number, tail_units}
+use Rattle.determinize_dense.proofs.Reached.{head_unit, reached-tested, tail_units}
+use Rattle.determinize_start.proofs.kinds.StartSlots.{slot_number-below}
 use Rattle.determinize_engine.specs.declared.state_table.TheConstants.{MAX_STATES}
 
 -- units after units
@@ -114,8 +115,8 @@ module _ (b : Building) (is : IsBuilding b) (whole : length b.next ≡ length b.
   -- the row of a start
   start-at : (anchored : Bool) (p : Option ℕ) → IsUnit p
       → slice_get b.values (start_row b.nfa table anchored p) ≡ Some (start_value b.nfa (start_in b.nfa anchored) p)
-  start-at anchored p h = are.rows (start_number b.nfa anchored p)
-      (start-number anchored (start_kind_of b.nfa.terminator p)).2 anchored p h refl
+  start-at anchored p h =
+      let slot = slot_of anchored (start_kind_of b.nfa.terminator p) in are.rows slot (slot_number-below slot) p h refl
 
   lists-at : (r : ℕ) (v : Value) → slice_get b.values r ≡ Some v → patterns_at table r ≡ v.patterns
   lists-at r v at = get_or_from_slice_get (map (λ (x : Value). x.patterns) b.values) r v.patterns []

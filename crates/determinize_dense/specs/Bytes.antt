@@ -6,6 +6,7 @@ use Rattle.std.specs.List.{concat, flat_map}
 use Rattle.determinize_below.specs.declared.primitives.TheConstants.{MAX_ID}
 use Rattle.determinize_below.specs.declared.search.MatchKind.{MatchKind}
 use Rattle.determinize_below.specs.declared.search.MatchKind.TheVariants as kinds
+use Rattle.determinize_start.specs.declared.start.TheConstants.StartSlot.{COUNT}
 use Rattle.determinize_dense.specs.Table.{DfaValue, Table}
 use Rattle.determinize_dense.specs.declared.bytes.TheConstants.{MAGIC, VERSION}
 
@@ -62,7 +63,7 @@ pub record IsWhole (s : Stored) : Type 0 where
   pub few_rows : length s.table.patterns < 2 ^ 32
   pub few_listed : length (concat s.table.patterns) < 2 ^ 32
   pub bytes : length s.table.classes ≡ 256
-  pub starts : length s.table.starts ≡ 12
+  pub starts : length s.table.starts ≡ COUNT
   pub entries : length s.table.next ≡ length s.table.patterns * (s.table.class_count + 1)
   pub class_within : All (λ k. k < s.table.class_count) s.table.classes
   pub start_within : All (λ r. r < length s.table.patterns) s.table.starts

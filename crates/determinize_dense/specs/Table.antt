@@ -1,10 +1,11 @@
 -- The table of a DFA: a row for each state, in it a column for each class of bytes, and last one
 -- for the end of input.
-use Rattle.std.specs.Prelude.{ℕ, ◌+◌, ◌*◌, Bool, cond, Option, Some, None, List, [], ◌∷◌, get_or}
+use Rattle.std.specs.Prelude.{ℕ, ◌+◌, ◌*◌, Bool, Option, Some, None, List, [], ◌∷◌, get_or}
 use Rattle.std.specs.Prelude.{length, slice_index, sum_by}
 use Rattle.determinize_below.specs.Semantics.{Nfa}
 use Rattle.determinize_below.specs.declared.search.MatchKind.{MatchKind}
-use Rattle.determinize_start.specs.StartKinds.{number_of, start_kind_of}
+use Rattle.determinize_start.specs.StartKinds.{start_kind_of}
+use Rattle.determinize_start.specs.StartSlots.{slot_number, slot_of}
 
 -- the class of each byte, and the number of classes; the entries of all rows, one row after the
 -- other; the rows of the start states; and the patterns that each row lists
@@ -35,13 +36,10 @@ abbrev pub row_after : Table → ℕ → List (Option ℕ) → ℕ
 row_after d r [] = r
 row_after d r (u ∷ us) = row_after d (row_over d r u) us
 
--- the index of a start: by the kind of the start, the unanchored ones after the anchored ones
-abbrev pub start_number : Nfa → Bool → Option ℕ → ℕ
-start_number nfa anchored p = cond anchored 0 6 + number_of (start_kind_of nfa.terminator p)
-
 -- the row of a start behind a byte
 abbrev pub start_row : Nfa → Table → Bool → Option ℕ → ℕ
-start_row nfa d anchored p = slice_index d.starts (start_number nfa anchored p)
+start_row nfa d anchored p = slice_index d.starts
+    (slot_number (slot_of anchored (start_kind_of nfa.terminator p)))
 
 -- the patterns that a row lists
 abbrev pub patterns_at : Table → ℕ → List ℕ

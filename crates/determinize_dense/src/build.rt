@@ -4,11 +4,9 @@
 //! start states, and then the next states of each row. An entry is computed for one byte of each
 //! class, and for the end of input (EOI).
 
-ghost use Rattle.std.specs.Prelude.{◌≡◌, ◌<◌, ◌≤◌, ◌+◌, ◌*◌, ◌∷◌, ℕ, Option, [], Err, Some, None, IfOk, IfNone, OnOk, cond, length, map, min, nat_lt, slice_get};
-ghost use Rattle.std.specs.Option.{IfSome};
-ghost use Rattle.determinize_below.specs.Truth.{IsUnit};
+ghost use Rattle.std.specs.Prelude.{◌≡◌, ◌<◌, ◌≤◌, ◌+◌, ◌*◌, ◌∷◌, [], Err, Some, IfOk, OnOk, length, map, min, slice_get};
 ghost use Rattle.determinize_below.specs.Unit.{byte_of};
-ghost use Rattle.determinize_start.specs.StartKinds.{number_of, start_kind_of};
+ghost use Rattle.determinize_start.specs.declared.start.TheConstants.StartSlot.{COUNT};
 ghost use Rattle.determinize_below.specs.Nfa.{AllResolve};
 ghost use Rattle.determinize_core.specs.Value.{Value as StateValue, dead};
 ghost use Rattle.determinize_dense.specs.Dfa.{HasMoreStates, HasStates, IsReachedValue, start_in};
@@ -16,11 +14,11 @@ ghost use Rattle.determinize_dense.specs.Private.Building.{AreStarts, IsStart, S
 ghost use Rattle.determinize_dense.specs.declared.error.DfaError.TheVariants.{TooManyStates};
 
 use crate::error::DfaError;
-use crate::rows::{Rows, STARTS};
+use crate::rows::Rows;
 use determinize_below::alphabet::ByteClasses;
 use determinize_below::{MatchKind, NFA, PatternID, StateID, Unit};
 use determinize_core::determinize::Stepper;
-use determinize_core::start::{Start, start_kind_of};
+use determinize_core::start::StartSlot;
 use determinize_core::state::State;
 use determinize_engine::state_table::{MAX_STATES, StateTable};
 use std::alloc::{AllocError, Allocator};
@@ -80,41 +78,16 @@ fn row_of(index: usize) -> u32
     index as u32
 }
 
-/// Returns the byte with this number, or `None` for any number above 255.
-fn unit_of(number: usize) -> Option<u8>
-    ensures { result ≡ cond (nat_lt number 256) (Some number) None }
-{
-    u8::try_from(number).ok()
-}
-
-/// Returns the state of the NFA from which the start with this number begins.
-fn start_id<N: Allocator>(nfa: &NFA<N>, number: usize) -> StateID
-    ensures value { result ≡ start_in nfa.now (nat_lt number 6) }
+/// Returns the state of the NFA from which an anchored or an unanchored search starts.
+fn start_in<N: Allocator>(nfa: &NFA<N>, is_anchored: bool) -> StateID
+    ensures value { result ≡ start_in nfa.now is_anchored }
     ensures resolve { result < length nfa.now.states }
 {
-    if number < Start::len() {
+    if is_anchored {
         nfa.start_anchored()
     } else {
         nfa.start_unanchored()
     }
-}
-
-/// Returns a look-behind of this kind of start: `Some(Some(byte))`, or `Some(None)` for the kind of
-/// a start behind nothing. `None` if no look-behind is of this kind.
-fn look_behind_of(terminator: u8, kind: usize) -> Option<Option<u8>>
-    ensures some { IfSome result (λ p. number_of (start_kind_of terminator p) ≡ kind) }
-    ensures unit { IfSome result (λ p. IsUnit p) }
-    ensures none { IfNone result
-        ((p : Option ℕ) → IsUnit p → number_of (start_kind_of terminator p) ≡ kind → ⊥) }
-{
-    for number in 0..257 {
-        let look_behind = unit_of(number);
-        let found = start_kind_of(terminator, look_behind).as_usize();
-        if found == kind {
-            return Some(look_behind);
-        }
-    }
-    None
 }
 
 /// Returns a table with the dead state only.
@@ -212,10 +185,9 @@ impl<'n, N: Allocator, A: Allocator + Copy> Builder<'n, N, A> {
         Ok(row_of(self.states.intern(found)?))
     }
 
-    /// Returns the row of the start with this number, or 0 if no start has it.
-    fn start(&mut self, number: usize) -> Result<u32, DfaError>
-        requires { number < 12 }
-        ensures at { IfOk result (λ row. IsStart self.old.nfa self.new.values number row) }
+    /// Returns the row of the start of a slot, or 0 if no start is of its kind.
+    fn start(&mut self, slot: StartSlot) -> Result<u32, DfaError>
+        ensures at { IfOk result (λ row. IsStart self.old.nfa self.new.values slot row) }
         ensures within { IfOk result (λ row. row < length self.new.values) }
         ensures stays { OnOk result (Stays self.old self.new) }
         ensures next { self.new.next ≡ self.old.next }
@@ -224,25 +196,27 @@ impl<'n, N: Allocator, A: Allocator + Copy> Builder<'n, N, A> {
     {
         let nfa = self.stepper.nfa();
         let terminator = nfa.look_matcher().get_line_terminator();
-        let Some(look_behind) = look_behind_of(terminator, number % Start::len()) else {
+        if !slot.kind.occurs(terminator) {
             return Ok(0);
-        };
-        let state = self.stepper.start(start_id(nfa, number), look_behind)?;
+        }
+        let start = start_in(nfa, slot.is_anchored);
+        let state = self.stepper.start_of(start, slot.kind)?;
         self.place(&state, 0)
     }
 
     /// Returns the rows of all starts.
-    fn starts(&mut self) -> Result<[u32; STARTS], DfaError>
-        ensures starts { IfOk result (λ starts. AreStarts self.old.nfa self.new.values 12 starts) }
+    fn starts(&mut self) -> Result<[u32; StartSlot::COUNT], DfaError>
+        ensures starts { IfOk result
+            (λ starts. AreStarts self.old.nfa self.new.values COUNT starts) }
         ensures stays { OnOk result (Stays self.old self.new) }
         ensures next { self.new.next ≡ self.old.next }
         ensures many { result ≡ Err TooManyStates
             → HasMoreStates self.old.nfa self.old.kind self.old.limit }
     {
-        let mut starts = [0; STARTS];
+        let mut starts = [0; StartSlot::COUNT];
         let mut number = 0;
-        while number < STARTS {
-            starts[number] = self.start(number)?;
+        while let Some(slot) = StartSlot::from_usize(number) {
+            starts[number] = self.start(slot)?;
             number += 1;
         }
         Ok(starts)
@@ -319,10 +293,14 @@ impl<'n, N: Allocator, A: Allocator + Copy> Builder<'n, N, A> {
     /// Returns the rows, once all entries are computed.
     ///
     /// - `starts` are the rows of the starts.
-    fn finish(&self, alloc: A, starts: [u32; STARTS]) -> Result<Rows<'n, N, A>, AllocError>
+    fn finish(
+        &self,
+        alloc: A,
+        starts: [u32; StartSlot::COUNT],
+    ) -> Result<Rows<'n, N, A>, AllocError>
         requires whole { length self.now.next
             ≡ length self.now.values * columns_of self.now.classes }
-        requires starts { AreStarts self.now.nfa self.now.values 12 starts }
+        requires starts { AreStarts self.now.nfa self.now.values COUNT starts }
         ensures nfa { IfOk result (λ rows. rows.nfa ≡ self.now.nfa) }
         ensures kind { IfOk result (λ rows. rows.kind ≡ self.now.kind) }
         ensures states { IfOk result

@@ -12,10 +12,10 @@ ghost use Rattle.determinize_dense.specs.declared.error.DfaError.TheVariants.{To
 
 use crate::build::Builder;
 use crate::error::DfaError;
-use crate::rows::{Rows, STARTS};
+use crate::rows::Rows;
 use determinize_below::alphabet::ByteClasses;
 use determinize_below::{MatchKind, NFA, PatternID};
-use determinize_core::start::{Start, start_kind_of};
+use determinize_core::start::{StartSlot, start_kind_of};
 use determinize_engine::state_table::MAX_STATES;
 use std::alloc::{AllocError, Allocator, Global};
 use std::fmt;
@@ -43,7 +43,7 @@ pub struct Dfa<'n, N: Allocator = Global, A: Allocator = Global> {
     /// a row. So a search needs no product to find an entry.
     pub(crate) next: Vec<u32, A>,
     /// The numbers of the rows of the start states.
-    pub(crate) starts: [u32; STARTS],
+    pub(crate) starts: [u32; StartSlot::COUNT],
     pub(crate) patterns: Vec<Vec<PatternID, A>, A>,
     /// The offset of the last row that lists patterns, or 0.
     pub(crate) last_match: usize,
@@ -219,9 +219,9 @@ impl<'n, N: Allocator, A: Allocator + Copy> Dfa<'n, N, A> {
         ensures sound { IsDfa self.now }
     {
         let terminator = self.nfa.look_matcher().get_line_terminator();
-        let kind = start_kind_of(terminator, look_behind).as_usize();
-        let first = if is_anchored { 0 } else { Start::len() };
-        self.starts[first + kind] as usize * self.classes.alphabet_len()
+        let kind = start_kind_of(terminator, look_behind);
+        let slot = StartSlot { is_anchored, kind };
+        self.starts[slot.as_usize()] as usize * self.classes.alphabet_len()
     }
 
     /// Returns the offset of the row after a row over a unit.

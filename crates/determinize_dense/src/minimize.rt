@@ -11,8 +11,9 @@ ghost use Rattle.determinize_dense.specs.Private.Minimizing.{AreFirstAlike, AreF
 ghost use Rattle.determinize_dense.specs.Private.Rows.{IsFilled};
 
 use crate::partition::Partition;
-use crate::rows::{Rows, STARTS};
+use crate::rows::Rows;
 use determinize_below::PatternID;
+use determinize_core::start::StartSlot;
 use std::alloc::{AllocError, Allocator};
 use std::collections::HashMap;
 use std::hash::{BuildHasherDefault, FoldHasher};
@@ -169,13 +170,13 @@ impl<'n, N: Allocator, A: Allocator + Copy> Rows<'n, N, A> {
     }
 
     /// Returns the blocks of the starts.
-    fn merged_starts(&self, parts: &Partition<A>) -> [u32; STARTS]
+    fn merged_starts(&self, parts: &Partition<A>) -> [u32; StartSlot::COUNT]
         requires { IsGrouping self.now.table parts.now }
         ensures { AreMergedStarts self.now.table parts.now result }
     {
         let mut starts = self.starts;
         let mut number = 0;
-        while number < STARTS {
+        while number < StartSlot::COUNT {
             starts[number] = parts.block(self.starts[number] as usize) as u32;
             number += 1;
         }

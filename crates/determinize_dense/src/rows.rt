@@ -8,11 +8,9 @@ ghost use Rattle.determinize_dense.specs.Table.{patterns_at};
 
 use determinize_below::alphabet::ByteClasses;
 use determinize_below::{MatchKind, NFA, PatternID};
+use determinize_core::start::StartSlot;
 use std::alloc::{Allocator, Global};
 use std::marker::Model;
-
-/// The number of start states: one for each kind of start, anchored and unanchored.
-pub(crate) const STARTS: usize = 12;
 
 /// The rows of a DFA, in any order, except that row 0 is that of the dead state.
 ///
@@ -24,7 +22,7 @@ pub(crate) struct Rows<'n, N: Allocator = Global, A: Allocator = Global> {
     pub(crate) match_kind: MatchKind,
     pub(crate) classes: ByteClasses,
     pub(crate) next: Vec<u32, A>,
-    pub(crate) starts: [u32; STARTS],
+    pub(crate) starts: [u32; StartSlot::COUNT],
     pub(crate) patterns: Vec<Vec<PatternID, A>, A>,
 }
 

@@ -24,7 +24,8 @@ use Rattle.determinize_dense.specs.Dfa.{is_anchored, start_in}
 use Rattle.determinize_dense.specs.Table.{start_row}
 use Rattle.determinize_engine.proofs.TextUnits.{text_units}
 use Rattle.determinize_engine.specs.Searches.{in_haystack, last_in, start_for, text_of}
-use Rattle.determinize_start.specs.StartKinds.{byte_before, number_of, start_kind_of}
+use Rattle.determinize_start.specs.StartKinds.{byte_before, start_kind_of}
+use Rattle.determinize_start.specs.StartSlots.{slot_number, slot_of}
 use Rattle.std.specs.List.{slice_range}
 use Rattle.determinize_core.specs.LastMatch.{last_match}
 use Rattle.determinize_core.specs.Walk.{last_listed}
@@ -173,7 +174,7 @@ module _ (nfa : Nfa) (s : Stored) (accepted : IsAccepted nfa) (is : IsStoredOf n
       let lists = along_text nfa s.kind s.table accepted is.means (is_anchored a) text behind all
       (start_for nfa a) (start_is nfa a) in
       let row : first_row s (is_anchored a) text.behind ≡ start_row nfa s.table (is_anchored a) text.behind =
-      ap (λ t. slice_index s.table.starts (cond (is_anchored a) 0 6 + number_of (start_kind_of t text.behind)))
+      ap (λ t. slice_index s.table.starts (slot_number (slot_of (is_anchored a) (start_kind_of t text.behind))))
       is.terminator in
       ap (λ r. last_listed 0 (lists_along s.table r (units text))) row
       ∙ sym (match_of_lists _ (chain nfa s.kind (start_for nfa a) text) lists.walk)

@@ -7,7 +7,8 @@ use Rattle.determinize_below.specs.Semantics.{Nfa, Text}
 use Rattle.determinize_below.specs.declared.search.HalfMatch.{HalfMatch}
 use Rattle.determinize_core.specs.Chain.{units}
 use Rattle.determinize_core.specs.Walk.{last_listed}
-use Rattle.determinize_start.specs.StartKinds.{number_of, start_kind_of}
+use Rattle.determinize_start.specs.StartKinds.{start_kind_of}
+use Rattle.determinize_start.specs.StartSlots.{slot_number, slot_of}
 use Rattle.determinize_engine.specs.Searches.{has_start, in_haystack, last_in, text_of}
 use Rattle.determinize_dense.specs.Bytes.{Stored}
 use Rattle.determinize_dense.specs.Dfa.{IsDfaOf, is_anchored}
@@ -17,7 +18,7 @@ use Rattle.determinize_dense.specs.Table.{Table, patterns_at}
 -- the row of a start behind a byte or behind nothing
 abbrev pub first_row : Stored → Bool → Option ℕ → ℕ
 first_row s anchored p = slice_index s.table.starts
-    (cond anchored 0 6 + number_of (start_kind_of s.terminator p))
+    (slot_number (slot_of anchored (start_kind_of s.terminator p)))
 
 -- the first pattern of the last row along a text that lists one, and the number of bytes before
 -- the unit over which the row is entered

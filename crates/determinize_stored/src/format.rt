@@ -9,6 +9,7 @@ ghost use Rattle.determinize_stored.specs.Reading.{IsStop};
 use crate::error::{FormatError, FormatErrorKind};
 use crate::words::Words;
 use determinize_below::{MAX_ID, MatchKind};
+use determinize_core::start::StartSlot;
 use determinize_dense::bytes::{MAGIC, VERSION};
 
 /// The number of numbers in the head.
@@ -16,9 +17,6 @@ const HEAD: usize = 7;
 
 /// The number of bytes, each of which has a class.
 const BYTES: usize = 256;
-
-/// The number of starts: one for each kind of start, anchored and unanchored.
-const STARTS: usize = 12;
 
 /// Returns the match kind with a number, if there is one.
 fn match_kind_of(number: u32) -> Option<MatchKind>
@@ -111,7 +109,7 @@ impl<'b> Parts<'b> {
         ensures none { OnErr result (IsOfNone words.now) }
     {
         let starts = HEAD + BYTES;
-        let next = starts + STARTS;
+        let next = starts + StartSlot::COUNT;
         let ends = next + head.rows * (head.class_count + 1);
         let patterns = ends + head.rows;
         if words.len() < patterns {
@@ -177,7 +175,7 @@ impl<'b> Parts<'b> {
         ensures err { OnErr result (IsInRange head.now self.now → ⊥) }
     {
         let starts = HEAD + BYTES;
-        let next = starts + STARTS;
+        let next = starts + StartSlot::COUNT;
         let ends = next + self.next.len();
         let patterns = ends + self.ends.len();
         check_below(

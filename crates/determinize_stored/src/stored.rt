@@ -19,7 +19,7 @@ use crate::error::{FormatError, FormatErrorKind};
 use crate::format::{Head, Parts};
 use crate::words::Words;
 use determinize_below::{Anchored, Input, MatchKind, PatternID};
-use determinize_core::start::{Config, Start, start_kind_of};
+use determinize_core::start::{Config, StartSlot, start_kind_of};
 use determinize_dense::{RowId, RowIds};
 use std::fmt;
 use std::marker::Model;
@@ -90,9 +90,9 @@ impl<'b> StoredDfa<'b> {
     pub(crate) fn first_row(&self, is_anchored: bool, look_behind: Option<u8>) -> RowId
         ensures { result ≡ first_row self.now is_anchored look_behind }
     {
-        let kind = start_kind_of(self.head.line_terminator, look_behind).as_usize();
-        let first = if is_anchored { 0 } else { Start::len() };
-        RowId::new(self.parts.starts.get(first + kind) as usize)
+        let kind = start_kind_of(self.head.line_terminator, look_behind);
+        let slot = StartSlot { is_anchored, kind };
+        RowId::new(self.parts.starts.get(slot.as_usize()) as usize)
     }
 
     /// Returns the row of the start state of a configuration: its anchored mode, and the byte

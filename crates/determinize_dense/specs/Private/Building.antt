@@ -1,5 +1,5 @@
 -- A table that is being built: the values found so far, and the entries of their rows.
-use Rattle.std.specs.Prelude.{◌≡◌, ◌<◌, ◌≤◌, ◌+◌, ◌*◌, ◌/◌, ◌%◌, ℕ, Bool, cond, Option, Some, None}
+use Rattle.std.specs.Prelude.{◌≡◌, ◌<◌, ◌≤◌, ◌+◌, ◌*◌, ◌/◌, ◌%◌, ℕ, cond, Option, Some, None}
 use Rattle.std.specs.Prelude.{List, length, nat_lt}
 use Rattle.std.specs.Prelude.{slice_get, slice_index}
 use Rattle.determinize_below.specs.ByteClasses.{AreClasses, AreClassesOf, Classes, first_of}
@@ -12,7 +12,10 @@ use Rattle.determinize_engine.specs.declared.state_table.TheConstants.{MAX_STATE
 use Rattle.determinize_core.specs.Step.{start_value, step}
 use Rattle.determinize_core.specs.Value.{Value, dead}
 use Rattle.determinize_dense.specs.Dfa.{IsReachedValue, start_in}
-use Rattle.determinize_dense.specs.Table.{start_number}
+use Rattle.determinize_start.specs.StartKinds.{start_kind_of}
+use Rattle.determinize_start.specs.StartSlots.{slot_number}
+use Rattle.determinize_start.specs.declared.start.StartSlot.{StartSlot}
+use Rattle.determinize_start.specs.declared.start.TheConstants.StartSlot.{COUNT}
 
 pub record Building : Type 0 where
   pub nfa : Nfa
@@ -61,14 +64,14 @@ pub record Stays (old new : Building) : Type 0 where
   pub values : (i : ℕ) (v : Value) → slice_get old.values i ≡ Some v → slice_get new.values i
       ≡ Some v
 
--- this is the row of the start with a number, for any byte of its kind behind it
-abbrev pub IsStart : Nfa → List Value → ℕ → ℕ → Type 0
-IsStart nfa values number r = (anchored : Bool) (p : Option ℕ) → IsUnit p
-    → start_number nfa anchored p ≡ number
-    → slice_get values r ≡ Some (start_value nfa (start_in nfa anchored) p)
+-- this is the row of the start of a slot, for any byte of its kind behind it
+abbrev pub IsStart : Nfa → List Value → StartSlot → ℕ → Type 0
+IsStart nfa values slot r = (p : Option ℕ) → IsUnit p → start_kind_of nfa.terminator p ≡ slot.kind
+    → slice_get values r ≡ Some (start_value nfa (start_in nfa slot.is_anchored) p)
 
--- these are the rows of the first n starts
+-- these are the rows of the starts of the first n slots
 pub record AreStarts (nfa : Nfa) (values : List Value) (n : ℕ) (starts : List ℕ) : Type 0 where
-  pub count : length starts ≡ 12
+  pub count : length starts ≡ COUNT
   pub within : (i : ℕ) → i < n → slice_index starts i < length values
-  pub rows : (i : ℕ) → i < n → IsStart nfa values i (slice_index starts i)
+  pub rows : (slot : StartSlot) → slot_number slot < n
+      → IsStart nfa values slot (slice_index starts (slot_number slot))

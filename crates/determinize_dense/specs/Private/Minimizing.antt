@@ -5,6 +5,7 @@ use Rattle.determinize_dense.specs.Dfa.{IsDfaOf}
 use Rattle.determinize_dense.specs.Least.{AreApart, IsReachedRow}
 use Rattle.determinize_dense.specs.Private.Partition.{AreBlocks, AreTogether, Blocks}
 use Rattle.determinize_dense.specs.Table.{DfaValue, Table, patterns_at}
+use Rattle.determinize_start.specs.declared.start.TheConstants.StartSlot.{COUNT}
 
 -- the row after a row in a column
 abbrev pub entry : Table → ℕ → ℕ → ℕ
@@ -87,8 +88,8 @@ pub record AreMergedRows (d : Table) (p : Blocks) (next : List ℕ) : Type 0 whe
 
 -- the blocks of the starts
 pub record AreMergedStarts (d : Table) (p : Blocks) (starts : List ℕ) : Type 0 where
-  pub count : length starts ≡ 12
-  pub blocks : (i : ℕ) → i < 12
+  pub count : length starts ≡ COUNT
+  pub blocks : (i : ℕ) → i < COUNT
       → slice_index starts i ≡ slice_index p.numbers (slice_index d.starts i)
 
 -- the patterns that the members list

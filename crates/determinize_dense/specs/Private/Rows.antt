@@ -7,6 +7,7 @@ use Rattle.determinize_below.specs.Semantics.{Nfa}
 use Rattle.determinize_below.specs.Truth.{IsUnit}
 use Rattle.determinize_below.specs.declared.search.MatchKind.{MatchKind}
 use Rattle.determinize_engine.specs.declared.state_table.TheConstants.{MAX_STATES}
+use Rattle.determinize_start.specs.declared.start.TheConstants.StartSlot.{COUNT}
 use Rattle.determinize_dense.specs.Dfa.{IsDfaOf, value_from}
 use Rattle.determinize_dense.specs.Least.{IsReachedRow}
 use Rattle.determinize_dense.specs.Table.{DfaValue, Table, column_of, row_after}
@@ -16,8 +17,8 @@ use Rattle.determinize_dense.specs.Table.{row_over, start_row}
 -- most MAX_STATES rows, of at most 257 entries
 pub record IsFilled (d : Table) : Type 0 where
   pub size : length d.next ≡ length d.patterns * (d.class_count + 1)
-  pub starts : length d.starts ≡ 12
-  pub first : (i : ℕ) → i < 12 → slice_index d.starts i < length d.patterns
+  pub starts : length d.starts ≡ COUNT
+  pub first : (i : ℕ) → i < COUNT → slice_index d.starts i < length d.patterns
   pub column : (u : Option ℕ) → IsUnit u → column_of d u < d.class_count + 1
   pub units : (c : ℕ) → c < d.class_count + 1 → (u : Option ℕ) × IsUnit u × (column_of d u ≡ c)
   pub within : (r : ℕ) (u : Option ℕ) → r < length d.patterns → IsUnit u → row_over d r u

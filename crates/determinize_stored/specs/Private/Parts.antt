@@ -8,6 +8,7 @@ use Rattle.determinize_dense.specs.declared.bytes.TheConstants.{MAGIC, VERSION}
 use Rattle.determinize_stored.specs.Reading.{IsStop}
 use Rattle.determinize_stored.specs.declared.format.Head.{Head}
 use Rattle.determinize_stored.specs.declared.format.Parts.{Parts}
+use Rattle.determinize_start.specs.declared.start.TheConstants.StartSlot.{COUNT}
 
 -- the lists that end there, the first of which begins at an index
 abbrev pub lists_from : ℕ → List ℕ → List ℕ → List (List ℕ)
@@ -52,7 +53,7 @@ pub record HasHead (ws : List ℕ) (h : Head) : Type 0 where
 -- the parts are as long as a head says
 pub record HasSizes (h : Head) (p : Parts) : Type 0 where
   pub classes : length p.classes ≡ 256
-  pub starts : length p.starts ≡ 12
+  pub starts : length p.starts ≡ COUNT
   pub next : length p.next ≡ h.rows * (h.class_count + 1)
   pub ends : length p.ends ≡ h.rows
 

@@ -1,34 +1,28 @@
-use Rattle.determinize_core.proofs.Common.{ap, arith, Err, refl, rules, subst, sym, ◌<◌, ◌∙◌, ◌≡◌}
-use Rattle.determinize_dense.proofs.Common.{IsStart}
-use Rattle.determinize_dense.proofs.Building.{same_err, more-before, starts-push, starts-stay, stays-more, stays-same}
+use Rattle.determinize_core.proofs.Common.{ap, arith, Err, rules, Some, subst, sym, ◌<◌, ◌∙◌, ◌≡◌}
+use Rattle.determinize_dense.proofs.Common.{IsStart, slot_number}
+use Rattle.determinize_dense.proofs.Building.{more-before, same_err, starts-push, starts-stay, stays-more}
+use Rattle.determinize_start.proofs.kinds.StartSlots.{slot_number-below, slot_number-from}
+use Rattle.determinize_start.specs.StartSlots.{slot_of_number}
 use Rattle.determinize_dense.proofs.build.Builder.starts.Goals as goal
-
-pub loop-number-init : goal.loop-number-init
-loop-number-init g c = record {
-  stays = stays-same c.args.self.now;
-  next = refl;
-  starts = record {
-    count = refl;
-    within = λ i h. absurd (let no : ⊥ = omega (arith, h) in no);
-    rows = λ i h. absurd (let no : ⊥ = omega (arith, h) in no);
-  };
-  below = omega arith;
-}
 
 pub returns-in_err-starts-clause-many : goal.returns-in_err-starts-clause-many
 returns-in_err-starts-clause-many g c = λ same.
     let e : c.from_residual.result ≡ Err c.in_err-starts.field-0.0 = search rules in
-    more-before c.loop-number.invariant.stays (c.in_err-starts.ensures.many (ap Err (same_err (sym e ∙ same))))
+    more-before c.loop-slot.invariant.stays (c.in_err-starts.ensures.many (ap Err (same_err (sym e ∙ same))))
 
-pub loop-number-preserved : goal.loop-number-preserved
-loop-number-preserved g c =
-    let room : c.loop-number.number < 12 = c.loop-number-test.true in
+pub loop-slot-preserved : goal.loop-slot-preserved
+loop-slot-preserved g c =
+    let slot = c.in-Some.slot in
+    let at : slot_of_number c.loop-slot.number ≡ Some slot = sym c.from_usize.ensures ∙ c.in-Some.is in
+    let number : slot_number slot ≡ c.loop-slot.number = slot_number-from c.loop-slot.number slot at in
+    let room : slot_number slot < 12 = slot_number-below slot in
     record {
-      stays = stays-more c.loop-number.invariant.stays c.in_ok-starts.ensures.stays;
-      next = c.in_ok-starts.ensures.next ∙ c.loop-number.invariant.next;
-      starts = starts-push c.in_ok-starts.field-0
-          (starts-stay c.in_ok-starts.ensures.stays c.loop-number.invariant.starts) room c.in_ok-starts.ensures.within
-          (subst (λ n. IsStart n c.start.new.self.values c.loop-number.number c.in_ok-starts.field-0)
-          c.loop-number.invariant.stays.nfa c.in_ok-starts.ensures.at);
-      below = omega (arith, room);
+      stays = stays-more c.loop-slot.invariant.stays c.in_ok-starts.ensures.stays;
+      next = c.in_ok-starts.ensures.next ∙ c.loop-slot.invariant.next;
+      starts = starts-push slot c.in_ok-starts.field-0
+          (starts-stay c.in_ok-starts.ensures.stays c.loop-slot.invariant.starts) number
+          c.in_ok-starts.ensures.within
+          (subst (λ n. IsStart n c.start.new.self.values slot c.in_ok-starts.field-0)
+          c.loop-slot.invariant.stays.nfa c.in_ok-starts.ensures.at);
+      below = omega (arith, number, room);
     }
