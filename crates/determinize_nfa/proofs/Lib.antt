@@ -1,3 +1,4 @@
+pub mod Common
 pub mod Limits
 pub mod building
 pub mod kinds

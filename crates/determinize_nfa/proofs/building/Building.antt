@@ -2,23 +2,15 @@
 -- Main statements: node_is, pushed_is, set_is, built_is, the record IsMade, made_of.
 -- Used by: `add`, `add_match`, `patch`, `close`, `build` and `build_with_prefix` of `Builder`.
 -- Idea: no state before the prefix has a transition to it, so only the skip has one to its start.
+use Rattle.determinize_nfa.proofs.Common.{BinaryUnion, Bool, BuildError, BuilderValue, ByteRange, Fail, HasPrefix, HasPrefixApart, ID_LIMIT, IsApart, IsUnfit, List, MAX_ID, Match, Nfa, Node, None, Option, OutOfMemory, Some, TooManyStates, [], ap, append_assoc, arith, built, by_cases, by_test, cases_lt, cond, failure, false, false≢true, get_or, get_or-map, inl, inr, leads_to, length, length-append, length-map, length-set, looks_of, map, map-append, map-set, nat_eq, nat_lt, nat_tests, prefixed, refl, set, subst, suc, sym, true, zero, ℕ, ◌++◌, ◌+◌, ◌-◌, ◌<◌, ◌||◌, ◌∙◌, ◌∷◌, ◌≡◌, ◌≤◌, ◌⊎◌}
 use Rattle.std.specs.List.{position, position_or_len}
-use Rattle.std.specs.Prelude.{nat_eq, nat_lt}
-use Rattle.std.proofs.Common.{◌≡◌, ◌<◌, ◌≤◌, ◌+◌, ◌-◌, ◌++◌, ◌⊎◌, ◌||◌, ◌∙◌, ◌∷◌, ℕ, Bool, List, None, Option, Some, [], ap, arith, cond, false, get_or, inl, inr, length, map, refl, set, subst, suc, sym, true, zero}
 use Rattle.std.proofs.Math.Seq.{map-set_same}
-use Rattle.std.proofs.lemmas.Bool.{cases_lt, false≢true, lt-ltb}
-use Rattle.std.proofs.lemmas.Bool.Decides.{nat_tests}
-use Rattle.std.proofs.lemmas.List.{append_assoc, get_or-append-add, get_or-map, get_or_append_left, length-append, length-map, length-set, map-append, map-set}
+use Rattle.std.proofs.lemmas.Bool.{lt-ltb}
+use Rattle.std.proofs.lemmas.List.{get_or-append-add, get_or_append_left}
 use Rattle.std.proofs.lemmas.List.Quantifiers.{position-Some}
 use Rattle.std.proofs.lemmas.List.Sums.{fails_before_first}
-use Rattle.determinize_below.specs.Semantics.{Nfa, Node, BinaryUnion, ByteRange, Fail, Match}
-use Rattle.determinize_below.specs.Nfa.{failure, looks_of}
-use Rattle.determinize_below.specs.declared.nfa.BuildError.{BuildError}
-use Rattle.determinize_below.specs.declared.nfa.BuildError.TheVariants.{OutOfMemory, TooManyStates, UnresolvedId}
-use Rattle.ordered_reach.proofs.Cases.{by_cases, by_test}
-use Rattle.determinize_nfa.specs.Builder.{BuilderValue, IsApart, IsUnfit, has_transition_to, built, prefixed, with_match, with_node}
-use Rattle.determinize_below.specs.declared.primitives.TheConstants.{ID_LIMIT, MAX_ID}
-use Rattle.determinize_nfa.specs.Prefix.{HasPrefix, HasPrefixApart, leads_to}
+use Rattle.determinize_below.specs.declared.nfa.BuildError.TheVariants.{UnresolvedId}
+use Rattle.determinize_nfa.specs.Builder.{has_transition_to, with_match, with_node}
 
 -- one state of a list is changed
 module _ {V : Type 0} (f : V → Node) (xs : List V) (i : ℕ) where

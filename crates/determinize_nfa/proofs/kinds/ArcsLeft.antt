@@ -2,10 +2,8 @@
 -- Main statements: left_at, list_behind, item_at.
 -- Used by: the functions of `arcs`.
 -- Idea: the first element of the rest of a list is that at the index.
-use Rattle.std.proofs.Common.{◌≡◌, ◌<◌, ◌+◌, ◌-◌, ◌∷◌, ℕ, Bool, List, [], arith, drop, get_or, length, map, refl, suc, take, zero}
+use Rattle.determinize_nfa.proofs.Common.{Arc, Bool, List, [], arith, drop, get_or, is_first, length, map, refl, suc, take, zero, ℕ, ◌+◌, ◌-◌, ◌<◌, ◌∷◌, ◌≡◌}
 use Rattle.std.proofs.lemmas.List.{take_rest}
-use Rattle.determinize_nfa.specs.Reversal.{is_first}
-use Rattle.determinize_nfa.specs.declared.arcs.Arc.{Arc}
 
 pub left_at : {A : Type 0} (f : A → Arc) (xs : List A) (k : ℕ) (x : A) → k < length xs → x ≡ get_or xs k x
     → drop k (map f xs) ≡ f x ∷ drop (k + 1) (map f xs)

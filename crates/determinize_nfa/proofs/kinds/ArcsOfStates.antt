@@ -2,26 +2,12 @@
 -- Main statements: leads_is, arc_resolves, edges_are, byte_arc, arc_reads, and edge_arc, arc_leads, leads_arc.
 -- Used by: Choices, and the folder reversing, which speaks of the list alone.
 -- Idea: a case for each kind, here only; of a table the runs are as TableRuns says.
-use Rattle.std.specs.List.{flat_map, list_all, list_any}
-use Rattle.std.specs.Prelude.{All, nat_eq, nat_lt}
-use Rattle.std.proofs.Common.{◌≡◌, ◌<◌, ◌≤◌, ◌&&◌, ◌∷◌, ℕ, Bool, List, None, Some, [], ap, append-nil, arith, cond, false, get_or, map, not, refl, suc, sym, true}
+use Rattle.determinize_nfa.proofs.Common.{All, Arc, Assertion, BinaryUnion, Bool, ByteRange, Dense, Free, In, In_cases, In_flat_map_from, In_head, In_map, In_map_from, In_none, In_tail, List, Look, Node, None, Range, Some, Sparse, Test, Transition, Union, [], ap, append-nil, arcs_of, arith, by_test, cond, edges_of, eq-eqb, eqb-true, false, flat_map, get_or, is_first, is_sparse_sound, leads_to, list_all, list_any, map, matches, nat_eq, nat_lt, nat_tests, next_of, not, refl, resolves, runs, slice_get-get_or, some_injective, suc, sym, target_of, targets_in, true, ℕ, ◌&&◌, ◌<◌, ◌∷◌, ◌≡◌, ◌≤◌}
 use Rattle.std.proofs.Math.Bool.{or-false}
-use Rattle.std.proofs.lemmas.Bool.{eq-eqb, eqb-true}
-use Rattle.std.proofs.lemmas.Bool.Decides.{nat_tests}
 use Rattle.std.proofs.lemmas.List.Folds.{list_all-map}
-use Rattle.std.proofs.lemmas.Option.{slice_get-get_or}
-use Rattle.determinize_below.specs.Semantics.{BinaryUnion, ByteRange, Capture, Dense, Look, Node, Sparse, Union, edges_of, target_of}
-use Rattle.determinize_below.specs.Nfa.{is_sparse_sound, resolves}
-use Rattle.determinize_below.specs.Transition.{ascends_from, matches, sparse_target}
-use Rattle.determinize_below.specs.declared.look.Look.{Look as Assertion}
-use Rattle.determinize_below.specs.declared.nfa.transitions.Transition.{Transition}
-use Rattle.ordered_reach.proofs.Cases.{by_test, some_injective}
-use Rattle.ordered_reach.proofs.lists.Elements.{In, In_cases, In_flat_map, In_flat_map_from, In_head, In_map, In_map_from, In_none, In_tail}
-use Rattle.determinize_nfa.specs.Prefix.{leads_to}
-use Rattle.determinize_nfa.specs.Reversal.{is_first}
-use Rattle.determinize_nfa.specs.Private.Arcs.{arcs_of, next_of, runs, targets_in}
-use Rattle.determinize_nfa.specs.declared.arcs.Arc.{Arc}
-use Rattle.determinize_nfa.specs.declared.arcs.Arc.TheVariants.{Free, Range, Test}
+use Rattle.determinize_below.specs.Semantics.{Capture}
+use Rattle.determinize_below.specs.Transition.{ascends_from, sparse_target}
+use Rattle.ordered_reach.proofs.lists.Elements.{In_flat_map}
 use Rattle.determinize_nfa.proofs.kinds.OneArc.{range_target, range_target_is}
 use Rattle.determinize_nfa.proofs.kinds.TableRuns.{byte_run, run_target}
 use Rattle.determinize_nfa.proofs.kinds.TestedLists.{all_by, any_by, any_from}

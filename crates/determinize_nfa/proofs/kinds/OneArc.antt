@@ -2,13 +2,7 @@
 -- Main statements: look_edge_is, range_target_is, no_end.
 -- Used by: BothWays and RecordedStates.
 -- Idea: each is the definition of `edges_of` or of `target_of` at one kind of state.
-use Rattle.std.proofs.Common.{◌≡◌, ◌∷◌, ℕ, Bool, None, Option, Some, [], cond, refl, subst, sym, true}
-use Rattle.determinize_below.specs.Semantics.{edges_of, target_of, Node, ByteRange, Look}
-use Rattle.determinize_below.specs.Transition.{matches}
-use Rattle.determinize_below.specs.declared.look.Look.{Look as Assertion}
-use Rattle.determinize_below.specs.declared.nfa.transitions.Transition.{Transition}
-use Rattle.ordered_reach.proofs.lists.Elements.{In, In_cases, In_none}
-use Rattle.ordered_reach.proofs.Cases.{by_test, some_injective}
+use Rattle.determinize_nfa.proofs.Common.{Assertion, Bool, ByteRange, In, In_cases, In_none, Look, Node, None, Option, Some, Transition, [], by_test, cond, edges_of, matches, refl, some_injective, subst, sym, target_of, true, ℕ, ◌∷◌, ◌≡◌}
 
 pub no_end : {P : Type 0} (s : Node) (t : ℕ) → target_of None s ≡ Some t → P
 no_end (ByteRange r) t e = absurd (let k : None ≡ Some t = e in cc)

@@ -2,18 +2,10 @@
 -- Main statements: run_target, byte_run, run_end, runs_end, length-runs.
 -- Used by: RecordedStates, Counts.
 -- Idea: induction on the rest of the table; the first run has begun at an earlier byte, with the same target since.
-use Rattle.std.specs.Prelude.{nat_eq}
-use Rattle.std.proofs.Common.{◌≡◌, ◌<◌, ◌≤◌, ◌+◌, ◌∙◌, ◌∷◌, ℕ, List, None, Some, [], ap, arith, drop, false, get_or, length, refl, suc, sym, true}
-use Rattle.std.proofs.Math.Seq.{drop-cons}
-use Rattle.std.proofs.lemmas.Bool.{cases_lt, eqb-true, false≢true}
-use Rattle.std.proofs.lemmas.Bool.Decides.{nat_tests}
-use Rattle.std.proofs.lemmas.List.{get_or_past}
-use Rattle.determinize_below.specs.Transition.{dense_target, matches}
-use Rattle.determinize_below.specs.declared.nfa.transitions.Transition.{Transition}
-use Rattle.ordered_reach.proofs.lists.Elements.{In, In_cases, In_head, In_none, In_tail}
-use Rattle.ordered_reach.proofs.Cases.{by_cases, by_test, some_injective}
-use Rattle.determinize_nfa.specs.Private.Arcs.{runs, with_run}
-use Rattle.determinize_nfa.specs.Reversal.{is_first, runs_in}
+use Rattle.determinize_nfa.proofs.Common.{In, In_cases, In_head, In_none, In_tail, List, None, Some, Transition, [], ap, arith, by_cases, by_test, cases_lt, drop, drop-cons, eqb-true, false, false≢true, get_or, get_or_past, is_first, length, matches, nat_eq, nat_tests, refl, runs, some_injective, suc, sym, true, ℕ, ◌+◌, ◌<◌, ◌∙◌, ◌∷◌, ◌≡◌, ◌≤◌}
+use Rattle.determinize_below.specs.Transition.{dense_target}
+use Rattle.determinize_nfa.specs.Private.Arcs.{with_run}
+use Rattle.determinize_nfa.specs.Reversal.{runs_in}
 
 -- the range of the bytes from a to b with a target
 abbrev range : ℕ → ℕ → ℕ → Transition

@@ -4,22 +4,13 @@
 -- Used by: PreferredRun and the laws of idle scans.
 -- Idea: only the skip has a transition to the start, and it reads a byte, so of the pairs that a run has visited only
 -- those of the prefix lie in the way (VisitedNodes).
-use Rattle.std.specs.Prelude.{All, Contains, nat_eq, slice_get}
-use Rattle.std.proofs.Common.{◌≡◌, ◌<◌, ◌≤◌, ◌+◌, ◌⊎◌, ◌∙◌, ◌∷◌, ℕ, Bool, List, None, Some, [], ap, arith, get_or, inl, inr, length, refl, subst, suc, sym, true, zero}
-use Rattle.std.proofs.lemmas.Bool.{eq-eqb, eqb-true, or_cases, or_left}
+use Rattle.determinize_nfa.proofs.Common.{All, All_at, Assertion, BinaryUnion, Bool, ByteRange, HasPrefix, In, In_cases, IsPath, List, Nfa, None, Some, Text, [], ap, arith, by_cases, by_option, eq-eqb, eqb-true, get_or, get_or_from_slice_get, inl, inr, leads_to, length, matches, nat_eq, or_left, path_stays, pattern_of, refl, same_pairs, slice_get, slice_get-get_or, slice_get_within, some_injective, state_at, subst, suc, sym, target_of, true, zero, ℕ, ◌+◌, ◌<◌, ◌∙◌, ◌∷◌, ◌≡◌, ◌≤◌, ◌⊎◌}
+use Rattle.std.specs.Prelude.{Contains}
+use Rattle.std.proofs.lemmas.Bool.{or_cases}
 use Rattle.std.proofs.lemmas.List.Elements.{All-get_or}
-use Rattle.std.proofs.lemmas.Option.{get_or_from_slice_get, slice_get-get_or, slice_get_within}
-use Rattle.determinize_below.specs.Edges.{pattern_of}
-use Rattle.determinize_below.specs.Semantics.{state_at, target_of, Nfa, ByteRange, BinaryUnion, Text}
-use Rattle.determinize_below.specs.declared.look.Look.{Look as Assertion}
-use Rattle.ordered_reach.specs.Paths.{IsPath}
-use Rattle.determinize_below.specs.Transition.{matches}
-use Rattle.ordered_reach.proofs.lists.Elements.{All_at, Contains_In, In, In_cases}
-use Rattle.ordered_reach.proofs.runs.ByPosition.{same_pairs}
-use Rattle.ordered_reach.proofs.Cases.{by_cases, by_option, some_injective}
-use Rattle.determinize_nfa.specs.Prefix.{HasPrefix, leads_to}
+use Rattle.ordered_reach.proofs.lists.Elements.{Contains_In}
 use Rattle.determinize_nfa.proofs.runs.Choices.{choices_under, under_later, under_leads}
-use Rattle.ordered_reach.proofs.graph.VisitedNodes.{path_forget, path_remember, path_stays}
+use Rattle.ordered_reach.proofs.graph.VisitedNodes.{path_forget, path_remember}
 use Rattle.determinize_nfa.proofs.prefixes.Skips.{pass, skip}
 
 passes : (b next : ℕ) → b < 256 → matches record { start = 0; end = 255; next = next } b ≡ true

@@ -2,16 +2,8 @@
 -- Main statements: state_is, start_is, any_read, the two directions, and Decides-apart.
 -- Used by: `has_prefix` and `has_prefix_apart`.
 -- Idea: each part of `HasPrefix` is an equation of states, which the code decides by comparing their targets and bytes.
-use Rattle.std.specs.Bool.{Decides}
-use Rattle.std.specs.Prelude.{nat_eq, slice_get}
-use Rattle.std.proofs.Common.{◌≡◌, ◌<◌, ◌&&◌, ◌∙◌, ◌||◌, ℕ, Bool, Some, ap, false, length, refl, subst, sym, true}
-use Rattle.std.proofs.lemmas.Bool.{and_parts, eq-eqb, eqb-true, false≢true, or_left, or_right}
-use Rattle.std.proofs.lemmas.Option.{get_or_from_slice_get}
-use Rattle.determinize_below.specs.Semantics.{state_at, Nfa, Node, ByteRange, BinaryUnion, Fail}
-use Rattle.determinize_below.specs.Nfa.{IsAccepted}
-use Rattle.determinize_below.specs.declared.nfa.transitions.Transition.{Transition}
+use Rattle.determinize_nfa.proofs.Common.{BinaryUnion, Bool, ByteRange, Decides, Fail, HasPrefix, HasPrefixApart, IsAccepted, Nfa, Node, Some, Transition, and_parts, ap, eq-eqb, eqb-true, false, false≢true, get_or_from_slice_get, leads_to, length, nat_eq, or_left, or_right, refl, slice_get, state_at, subst, sym, true, ℕ, ◌&&◌, ◌<◌, ◌||◌, ◌∙◌, ◌≡◌}
 use Rattle.determinize_below.proofs.nfas.SoundNfa.{accepted_sound}
-use Rattle.determinize_nfa.specs.Prefix.{HasPrefix, HasPrefixApart, leads_to}
 use Rattle.determinize_nfa.specs.Private.AnyByte.{passes_any, second_or}
 
 pub state_is : (nfa : Nfa) (id : ℕ) (node : Node) → slice_get nfa.states id ≡ Some node → state_at nfa id ≡ node

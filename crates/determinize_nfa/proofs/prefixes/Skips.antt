@@ -2,7 +2,7 @@
 -- Main statements: skip_before, pass_first, skip_same.
 -- Used by: AfterPrefix, and in determinize_find PreferredRun and the laws of idle scans.
 -- Idea: at the first union the choice 0 ends the prefix and the choice 1 passes over a byte, so fewer bytes come first.
-use Rattle.std.proofs.Common.{◌≡◌, ◌<◌, ◌≤◌, ◌⊎◌, ◌∷◌, ℕ, List, [], arith, refl, suc, zero}
+use Rattle.determinize_nfa.proofs.Common.{List, [], arith, refl, suc, zero, ℕ, ◌<◌, ◌∷◌, ◌≡◌, ◌≤◌, ◌⊎◌}
 use Rattle.ordered_reach.specs.Paths.{Before}
 use Rattle.ordered_reach.proofs.lists.Lexicographic.{Before-first, Before-rest, same_first}
 

@@ -3,25 +3,11 @@
 -- Used by: MadeNfa.
 -- Idea: each step of one NFA is one or two steps of the other at the mirrored position (Mirrors), and a walk gives a
 -- loop-free run (LoopFree).
-use Rattle.std.specs.Prelude.{slice_get}
-use Rattle.std.proofs.Common.{◌≡◌, ◌<◌, ◌≤◌, ◌+◌, ◌-◌, ◌⊎◌, ◌∙◌, ◌∷◌, ℕ, Bool, List, None, Some, [], ap, arith, inl, inr, length, not, refl, suc, sym, true, zero}
-use Rattle.determinize_below.specs.Semantics.{edges_of, state_at, target_of, Nfa, Node, ByteRange, Look, Union, Match, Accepts, Text, after_at, before_at, choices}
-use Rattle.determinize_below.specs.Edges.{pattern_in, pattern_of}
-use Rattle.determinize_below.specs.Look.{reversed}
-use Rattle.determinize_below.specs.Positions.{true_edges, truth}
-use Rattle.determinize_below.specs.Transition.{matches}
-use Rattle.determinize_below.specs.declared.look.Look.{Look as Assertion}
-use Rattle.determinize_below.specs.declared.nfa.transitions.Transition.{Transition}
-use Rattle.ordered_reach.proofs.lists.Elements.{In, In_none}
-use Rattle.ordered_reach.proofs.runs.ByPosition.{same_pairs}
+use Rattle.determinize_nfa.proofs.Common.{AcceptsFrom, Assertion, Bool, ByteRange, Free, In, In_none, IsReverseOf, List, Look, Match, Nfa, Node, None, Range, Some, Test, Text, Transition, Turned, Union, [], after_at, ap, arith, before_at, by_cases, by_option, choices, edges_of, inl, inr, length, matches, not, path_stays, pattern_in, pattern_of, range_to, refl, reversed, reversed_twice, same_pairs, slice_get, sources, state_at, states_of, suc, sym, target_of, true, true_edges, truth, turned, upto, zero, ℕ, ◌+◌, ◌-◌, ◌<◌, ◌∙◌, ◌∷◌, ◌≡◌, ◌≤◌, ◌⊎◌}
+use Rattle.determinize_below.specs.Semantics.{Accepts}
 use Rattle.determinize_below.proofs.nfas.SoundNfa.{match_in}
-use Rattle.determinize_below.proofs.looks.ReversedLooks.{reversed_holds, reversed_twice}
-use Rattle.ordered_reach.proofs.Cases.{by_cases, by_option}
-use Rattle.determinize_nfa.specs.Runs.{AcceptsFrom}
-use Rattle.determinize_nfa.specs.Private.Gathered.{states_of}
-use Rattle.determinize_nfa.specs.Private.Turning.{Turned, range_to, sources}
-use Rattle.determinize_nfa.specs.Reversal.{IsMirrored, IsReverseOf, turned, upto}
-use Rattle.determinize_nfa.specs.declared.arcs.Arc.TheVariants.{Free, Range, Test}
+use Rattle.determinize_below.proofs.looks.ReversedLooks.{reversed_holds}
+use Rattle.determinize_nfa.specs.Reversal.{IsMirrored}
 use Rattle.determinize_nfa.proofs.kinds.ArcsOfStates.{byte_arc, edge_arc}
 use Rattle.determinize_nfa.proofs.kinds.OneArc.{look_edge, look_edge_is, no_end, range_target, range_target_is}
 use Rattle.determinize_nfa.proofs.runs.Choices.{byte_choice, choice_cases, choice_later, choice_leads, free_choice}
@@ -30,7 +16,6 @@ use Rattle.determinize_nfa.proofs.runs.Mirrors.{each_reading_is_mirrored}
 use Rattle.determinize_nfa.proofs.reversing.Recorded.{IsArc, IsRecorded, IsSource}
 use Rattle.ordered_reach.specs.Walks.{IsGraphWalk}
 use Rattle.ordered_reach.proofs.graph.LoopFree.{Leads, leads_by, leads_here, leads_then, path_of_walk, walk_of_path}
-use Rattle.ordered_reach.proofs.graph.VisitedNodes.{path_stays}
 
 -- the NFA has the states that were recorded
 pub record IsMadeOf (nfa backward : Nfa) (h : Turned) : Type 0 where

@@ -2,27 +2,12 @@
 -- Main statements: length-states, length-states_most, room_arc, room_node.
 -- Used by: the clauses `size` of `reversed` and `err` of the functions of `Turned`.
 -- Idea: each reached state adds the number that `reads_in` counts, and each state is reached once.
-use Rattle.std.specs.List.{AllByRecursion, IsDistinct, flat_map, sum_by}
-use Rattle.std.specs.Prelude.{nat_eq, slice_get}
-use Rattle.std.proofs.Common.{◌≡◌, ◌≤◌, ◌+◌, ◌++◌, ◌∙◌, ◌∷◌, ◌<◌, ℕ, List, Some, [], ap, arith, append-nil, append_assoc, drop, false, get_or, inl, inr, length, map, refl, set, suc, sym, zero}
-use Rattle.std.proofs.Math.Seq.{drop-cons}
-use Rattle.std.proofs.lemmas.Bool.{eq-eqb, false≢true}
-use Rattle.std.proofs.lemmas.List.{get_or-set_other, length-append, length-map}
+use Rattle.determinize_nfa.proofs.Common.{Arc, BuildError, Dense, Fail, Free, ID_LIMIT, IsDistinct, IsTooLarge, List, Look, Match, Nfa, Node, Range, Some, Sparse, Test, Transition, Turned, Union, [], added, ap, append-nil, append_assoc, arcs_of, arith, by_cases, drop, drop-cons, eq-eqb, false, false≢true, flat_map, gathered, get_or, get_or-set_other, inl, inr, length, length-append, length-map, map, most_states, nat_eq, none_turned, range_to, refl, reversed, runs, set, slice_get, state_at, states_of, suc, sym, total, turned_over, with_arc, with_arcs, with_end, with_node, with_nodes, zero, ℕ, ◌++◌, ◌+◌, ◌<◌, ◌∙◌, ◌∷◌, ◌≡◌, ◌≤◌}
+use Rattle.std.specs.List.{AllByRecursion, sum_by}
 use Rattle.std.proofs.lemmas.List.Concat.{length-flat_map}
 use Rattle.std.proofs.lemmas.List.Sums.{sum_by-cons}
 use Rattle.std.proofs.lemmas.Map.Keys.{IsDistinct-head, IsDistinct-tail}
-use Rattle.determinize_below.specs.Semantics.{state_at, Nfa, Node, Sparse, Dense, Look, Union, Fail, Match}
-use Rattle.determinize_below.specs.Look.{reversed}
-use Rattle.determinize_below.specs.declared.nfa.BuildError.{BuildError}
-use Rattle.determinize_below.specs.declared.primitives.TheConstants.{ID_LIMIT}
-use Rattle.determinize_below.specs.declared.nfa.transitions.Transition.{Transition}
-use Rattle.ordered_reach.proofs.Cases.{by_cases}
-use Rattle.determinize_nfa.specs.Private.Arcs.{arcs_of, runs}
-use Rattle.determinize_nfa.specs.Private.Gathered.{gathered, states_of}
-use Rattle.determinize_nfa.specs.Private.Turning.{Turned, added, none_turned, range_to, total, turned_over, with_arc, with_arcs, with_end, with_node, with_nodes}
-use Rattle.determinize_nfa.specs.Reversal.{IsTooLarge, most_states, reads_in}
-use Rattle.determinize_nfa.specs.declared.arcs.Arc.{Arc}
-use Rattle.determinize_nfa.specs.declared.arcs.Arc.TheVariants.{Free, Range, Test}
+use Rattle.determinize_nfa.specs.Reversal.{reads_in}
 use Rattle.determinize_nfa.proofs.kinds.TableRuns.{length-runs}
 use Rattle.determinize_nfa.proofs.prefixes.Parts.{state_is}
 use Rattle.determinize_nfa.proofs.reversing.Steps.{IsOver, count-arcs, count-nodes}

@@ -3,23 +3,12 @@
 -- Used by: `reached`.
 -- Idea: the targets of the states visited so far are in the list, which has no element twice and so cannot grow for
 -- ever.
-use Rattle.std.specs.List.{IsDistinct}
-use Rattle.std.specs.Prelude.{All, nat_eq, slice_get}
-use Rattle.std.proofs.Common.{◌≡◌, ◌<◌, ◌≤◌, ◌+◌, ◌++◌, ◌∙◌, ◌∷◌, ℕ, List, None, Some, [], ap, append-nil, append_assoc, arith, get_or, length, refl, sym, true}
-use Rattle.std.proofs.lemmas.Bool.{cases_lt}
+use Rattle.determinize_nfa.proofs.Common.{All, All_at, In, In_append_left, In_append_right, In_cases, In_head, In_map_from, In_none, In_tail, IsAccepted, IsClosed, IsDistinct, List, Nfa, Node, None, Some, [], all_visited, ap, append-nil, append_assoc, arcs_of, arith, by_cases, by_test, cases_lt, each_passes, get_or, leads_to, length, nat_eq, next_of, refl, slice_get, slice_get-get_or, slice_get_within, some_injective, state_at, sym, targets_in, true, ℕ, ◌++◌, ◌+◌, ◌<◌, ◌∙◌, ◌∷◌, ◌≡◌, ◌≤◌}
 use Rattle.std.proofs.lemmas.List.Elements.{All-append, All-cons, All-nil}
 use Rattle.std.proofs.lemmas.Map.Steps.{length-le_from_distinct_below}
-use Rattle.std.proofs.lemmas.Option.{slice_get-get_or, slice_get_within}
-use Rattle.determinize_below.specs.Semantics.{state_at, Nfa, Node}
 use Rattle.determinize_below.specs.Members.{has_id}
-use Rattle.determinize_below.specs.Nfa.{IsAccepted}
-use Rattle.ordered_reach.proofs.lists.Elements.{All_at, In, In_append_left, In_append_right, In_cases, In_head, In_map_from, In_none, In_tail}
-use Rattle.determinize_below.proofs.nfas.SoundNfa.{each_passes}
 use Rattle.determinize_below.proofs.sets.SparseSets.{distinct_none, distinct_push}
-use Rattle.ordered_reach.proofs.Cases.{by_cases, by_test, some_injective}
-use Rattle.determinize_nfa.specs.Prefix.{leads_to}
-use Rattle.determinize_nfa.specs.Private.Arcs.{arcs_of, next_of, targets_in}
-use Rattle.determinize_nfa.specs.Private.Closed.{IsClosed, all_visited, visited}
+use Rattle.determinize_nfa.specs.Private.Closed.{visited}
 use Rattle.determinize_nfa.proofs.kinds.ArcsOfStates.{arc_resolves, leads_arc}
 use Rattle.determinize_nfa.proofs.kinds.TestedLists.{any_In}
 use Rattle.determinize_nfa.proofs.prefixes.Parts.{state_is}

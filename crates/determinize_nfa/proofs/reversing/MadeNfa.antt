@@ -3,21 +3,7 @@
 -- Used by: `reversed`.
 -- Idea: the loop has recorded each state that is reached (RecordedStates), so both directions of runs (BothWays) and
 -- the validation (Validation) apply.
-use Rattle.std.specs.List.{IsDistinct, filter}
-use Rattle.std.specs.Prelude.{All, nat_eq}
-use Rattle.std.proofs.Common.{◌≡◌, ◌<◌, ◌⊎◌, ◌∙◌, ◌∷◌, ℕ, List, Some, [], ap, arith, inl, inr, length, suc, sym}
-use Rattle.determinize_below.specs.Nfa.{IsAccepted, failure}
-use Rattle.determinize_below.specs.Edges.{is_match_node}
-use Rattle.determinize_below.specs.Semantics.{Nfa, Node, Match}
-use Rattle.determinize_below.specs.declared.nfa.BuildError.{BuildError}
-use Rattle.determinize_below.specs.declared.nfa.BuildError.TheVariants.{OutOfMemory}
-use Rattle.determinize_below.specs.declared.primitives.TheConstants.{ID_LIMIT}
-use Rattle.ordered_reach.proofs.lists.Elements.{All_at, In}
-use Rattle.ordered_reach.proofs.Cases.{by_cases}
-use Rattle.determinize_nfa.specs.Private.Closed.{IsClosed}
-use Rattle.determinize_nfa.specs.Private.Turning.{Turned, turned_over}
-use Rattle.determinize_nfa.specs.Private.Gathered.{states_of}
-use Rattle.determinize_nfa.specs.Reversal.{IsReverseOf, IsTooLarge, most_states}
+use Rattle.determinize_nfa.proofs.Common.{All, All_at, BuildError, ID_LIMIT, In, IsAccepted, IsClosed, IsDistinct, IsReverseOf, IsTooLarge, List, Match, Nfa, Node, OutOfMemory, Some, Turned, [], ap, arith, by_cases, failure, filter, inl, inr, is_match_node, length, most_states, nat_eq, states_of, suc, sym, turned_over, ℕ, ◌<◌, ◌∙◌, ◌∷◌, ◌≡◌, ◌⊎◌}
 use Rattle.determinize_nfa.proofs.reversing.Recorded.{IsRecorded}
 use Rattle.determinize_nfa.proofs.reversing.BothWays.{IsMadeOf, made_reverse}
 use Rattle.determinize_nfa.proofs.reversing.Counts.{length-states, length-states_most, rest_over}

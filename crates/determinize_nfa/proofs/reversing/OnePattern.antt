@@ -2,14 +2,8 @@
 -- Main statements: one_match.
 -- Used by: MadeNfa.
 -- Idea: a state that gathers has no pattern, nor has one that reads a byte or tests an assertion.
-use Rattle.std.specs.List.{filter}
-use Rattle.std.proofs.Common.{◌≡◌, ◌++◌, ◌∙◌, ◌∷◌, ℕ, List, None, [], ap, map, refl}
+use Rattle.determinize_nfa.proofs.Common.{In, In_head, In_tail, List, Match, Node, None, Turned, Union, [], ap, filter, gathered, is_match_node, map, pattern_in, refl, states_of, ℕ, ◌++◌, ◌∙◌, ◌∷◌, ◌≡◌}
 use Rattle.std.proofs.lemmas.List.Elements.{filter-append}
-use Rattle.determinize_below.specs.Edges.{is_match_node, pattern_in}
-use Rattle.determinize_below.specs.Semantics.{Node, Match, Union}
-use Rattle.ordered_reach.proofs.lists.Elements.{In, In_head, In_tail}
-use Rattle.determinize_nfa.specs.Private.Gathered.{gathered, states_of}
-use Rattle.determinize_nfa.specs.Private.Turning.{Turned}
 use Rattle.determinize_nfa.proofs.reversing.StatesById.{pattern-gathered}
 
 none_matches : (xs : List Node) → ((x : Node) → In x xs → pattern_in x ≡ None) → filter is_match_node xs ≡ []

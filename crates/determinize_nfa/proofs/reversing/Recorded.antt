@@ -2,22 +2,10 @@
 -- Main statements: the records IsSound, HasNode and IsRecorded, grown_then, node_stays.
 -- Used by: all of this folder.
 -- Idea: what is recorded only grows, and an entry keeps its place, so a fact of one entry stays true.
-use Rattle.std.specs.Prelude.{slice_get, slice_set}
-use Rattle.std.proofs.Common.{◌≡◌, ◌<◌, ◌+◌, ◌++◌, ◌⊎◌, ◌∙◌, ◌∷◌, ℕ, Bool, List, Some, [], ap, arith, get_or, inl, inr, length, refl, suc, true, zero}
+use Rattle.determinize_nfa.proofs.Common.{Arc, Assertion, Bool, ByteRange, Free, In, In_append_cases, In_append_left, In_append_right, In_cases, In_head, In_none, IsClosed, List, Look, Nfa, Node, Range, Some, Test, Turned, [], added, ap, arcs_of, arith, by_cases, edges_of, get_or, get_or-set_other, inl, inr, length, length-set, matches, pattern_in, pattern_of, range_to, refl, reversed, slice_get, sources, state_at, suc, target_of, true, with_state, zero, ℕ, ◌++◌, ◌+◌, ◌<◌, ◌∙◌, ◌∷◌, ◌≡◌, ◌⊎◌}
+use Rattle.std.specs.Prelude.{slice_set}
 use Rattle.std.proofs.lemmas.Bool.{cases_eq}
-use Rattle.std.proofs.lemmas.List.{get_or-set_other, get_or-set_same, length-set}
-use Rattle.determinize_below.specs.Semantics.{edges_of, state_at, target_of, Nfa, Node, ByteRange, Look}
-use Rattle.determinize_below.specs.Edges.{pattern_in, pattern_of}
-use Rattle.determinize_below.specs.Look.{reversed}
-use Rattle.determinize_below.specs.Transition.{matches}
-use Rattle.determinize_below.specs.declared.look.Look.{Look as Assertion}
-use Rattle.ordered_reach.proofs.lists.Elements.{In, In_append_cases, In_append_left, In_append_right, In_cases, In_head, In_none}
-use Rattle.ordered_reach.proofs.Cases.{by_cases}
-use Rattle.determinize_nfa.specs.Private.Arcs.{arcs_of}
-use Rattle.determinize_nfa.specs.Private.Closed.{IsClosed}
-use Rattle.determinize_nfa.specs.Private.Turning.{Turned, added, range_to, sources, with_state}
-use Rattle.determinize_nfa.specs.declared.arcs.Arc.{Arc}
-use Rattle.determinize_nfa.specs.declared.arcs.Arc.TheVariants.{Free, Range, Test}
+use Rattle.std.proofs.lemmas.List.{get_or-set_same}
 
 -- the id of a state that reads a byte or tests an assertion
 abbrev pub id_of : Nfa → ℕ → ℕ

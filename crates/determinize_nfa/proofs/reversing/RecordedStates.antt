@@ -3,24 +3,8 @@
 -- Used by: MadeNfa.
 -- Idea: induction on the list of the transitions; each adds its target to what was recorded, and what was there stays
 -- (Recorded).
-use Rattle.std.proofs.Common.{◌≡◌, ◌<◌, ◌∷◌, ℕ, Bool, List, None, Some, [], ap, arith, inl, inr, length, refl, replicate, true}
-use Rattle.std.proofs.lemmas.Bool.{cases_lt}
-use Rattle.std.proofs.lemmas.List.{get_or-replicate, get_or_past, length-replicate}
-use Rattle.std.proofs.lemmas.Option.{slice_get-get_or}
-use Rattle.determinize_below.specs.Semantics.{edges_of, state_at, Fail, Look, Match, Nfa, Node}
-use Rattle.determinize_below.specs.Edges.{pattern_in}
-use Rattle.determinize_below.specs.Look.{reversed}
-use Rattle.determinize_below.specs.Nfa.{IsAccepted, is_sparse_sound}
-use Rattle.determinize_below.specs.declared.look.Look.{Look as Assertion}
-use Rattle.determinize_below.proofs.looks.ReversedLooks.{reversed_twice}
-use Rattle.determinize_below.proofs.nfas.SoundNfa.{each_passes}
-use Rattle.ordered_reach.proofs.Cases.{by_cases}
-use Rattle.ordered_reach.proofs.lists.Elements.{In, In_append_cases, In_append_left, In_append_right, In_cases, In_head, In_none, In_tail}
-use Rattle.determinize_nfa.specs.Private.Arcs.{arcs_of, next_of}
-use Rattle.determinize_nfa.specs.Private.Closed.{IsClosed}
-use Rattle.determinize_nfa.specs.Private.Turning.{Turned, added, none_turned, range_to, sources, turned_over, with_arc, with_arcs, with_end, with_node, with_nodes, with_state}
-use Rattle.determinize_nfa.specs.declared.arcs.Arc.{Arc}
-use Rattle.determinize_nfa.specs.declared.arcs.Arc.TheVariants.{Free, Range, Test}
+use Rattle.determinize_nfa.proofs.Common.{Arc, Assertion, Bool, Fail, Free, In, In_append_cases, In_append_left, In_append_right, In_cases, In_head, In_none, In_tail, IsAccepted, IsClosed, List, Look, Match, Nfa, Node, None, Range, Some, Test, Turned, [], added, ap, arcs_of, arith, by_cases, cases_lt, each_passes, edges_of, get_or_past, inl, inr, is_sparse_sound, length, length-replicate, next_of, none_turned, pattern_in, range_to, refl, replicate, reversed, reversed_twice, slice_get-get_or, sources, state_at, true, turned_over, with_arc, with_arcs, with_end, with_node, with_nodes, with_state, ℕ, ◌<◌, ◌∷◌, ◌≡◌}
+use Rattle.std.proofs.lemmas.List.{get_or-replicate}
 use Rattle.determinize_nfa.proofs.kinds.ArcsOfStates.{arc_reads, arc_resolves, free_edge, test_edge}
 use Rattle.determinize_nfa.proofs.reversing.Recorded.{HasArc, HasNode, HasState, IsArc, IsGrown, IsRecorded, IsSource, IsSound, arc_stays, grown_added, grown_self, grown_state, grown_then, node_stays, sound_added, sound_state, there_added, there_state}
 

@@ -2,19 +2,8 @@
 -- Main statements: laid_out, edges-gathered, target-gathered, sources_within.
 -- Used by: BothWays and Validation.
 -- Idea: a state that gathers has the same edges whichever kind it is, and ids are places in a list of four parts.
-use Rattle.std.specs.Prelude.{slice_get}
-use Rattle.std.proofs.Common.{◌≡◌, ◌<◌, ◌+◌, ◌++◌, ◌∙◌, ◌∷◌, ℕ, Bool, List, None, Option, Some, [], ap, arith, get_or, length, map, refl, subst, suc, sym, zero}
-use Rattle.std.proofs.lemmas.Bool.{cases_lt}
-use Rattle.std.proofs.lemmas.Option.{get_or_from_slice_get}
-use Rattle.determinize_below.specs.Semantics.{edges_of, state_at, target_of, Nfa, Node, Fail, Match, Union}
-use Rattle.determinize_below.specs.Edges.{pattern_in}
-use Rattle.determinize_below.specs.Edges.{pattern_of}
-use Rattle.determinize_below.specs.declared.look.Look.{Look as Assertion}
+use Rattle.determinize_nfa.proofs.Common.{Assertion, Bool, Fail, In, In_none, List, Match, Nfa, Node, None, Option, Some, Turned, Union, [], ap, arith, by_cases, cases_lt, edges_of, gathered, get_or, get_or_from_slice_get, length, map, pattern_in, pattern_of, refl, slice_get, sources, state_at, states_of, subst, suc, sym, target_of, zero, ℕ, ◌++◌, ◌+◌, ◌<◌, ◌∙◌, ◌∷◌, ◌≡◌}
 use Rattle.determinize_below.proofs.nfas.Edges.{state_past}
-use Rattle.ordered_reach.proofs.lists.Elements.{In, In_none}
-use Rattle.ordered_reach.proofs.Cases.{by_cases}
-use Rattle.determinize_nfa.specs.Private.Gathered.{gathered, states_of}
-use Rattle.determinize_nfa.specs.Private.Turning.{Turned, sources}
 
 -- a gathering state has its list of transitions, none over a byte, and no pattern
 pub edges-gathered : (holds : Assertion → Bool) (xs : List ℕ) → edges_of holds (gathered xs) ≡ xs

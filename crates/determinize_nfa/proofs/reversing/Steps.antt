@@ -2,15 +2,9 @@
 -- Main statements: added_is, ended, count-arc, count-arcs, over_start, over_more, over_all.
 -- Used by: `add`, `add_nodes` and `end_states` of the reversal.
 -- Idea: a push to one list of a list of lists is the definition of `added`.
-use Rattle.std.specs.Prelude.{OnOk, if◌then◌else◌, is_ok, slice_get}
-use Rattle.std.proofs.Common.{◌≡◌, ◌<◌, ◌≤◌, ◌+◌, ◌++◌, ◌∙◌, ◌∷◌, ℕ, Err, List, Ok, Result, Some, [], ap, append_assoc, arith, drop, get_or, length, map, refl, replicate, set, suc, sym, zero}
-use Rattle.std.proofs.Math.Seq.{drop-cons}
-use Rattle.std.proofs.lemmas.List.{get_or-map, length-replicate, length-set, map-append, map-set}
-use Rattle.determinize_below.specs.Semantics.{state_at, Match, Nfa, Node}
-use Rattle.determinize_nfa.specs.Private.Arcs.{arcs_of}
-use Rattle.determinize_nfa.specs.Private.Turning.{Turned, added, none_turned, sources, turned_over, with_arc, with_arcs, with_end, with_node, with_nodes}
-use Rattle.determinize_nfa.specs.declared.arcs.Arc.{Arc}
-use Rattle.determinize_nfa.specs.declared.arcs.Arc.TheVariants.{Free, Range, Test}
+use Rattle.determinize_nfa.proofs.Common.{Arc, Free, List, Match, Nfa, Node, Range, Some, Test, Turned, [], added, ap, append_assoc, arcs_of, arith, drop, drop-cons, get_or, get_or-map, length, length-replicate, length-set, map, map-append, map-set, none_turned, refl, replicate, set, slice_get, sources, state_at, suc, sym, turned_over, with_arc, with_arcs, with_end, with_node, with_nodes, zero, ℕ, ◌++◌, ◌+◌, ◌<◌, ◌∙◌, ◌∷◌, ◌≡◌, ◌≤◌}
+use Rattle.std.specs.Prelude.{OnOk, if◌then◌else◌, is_ok}
+use Rattle.std.proofs.Common.{Err, Ok, Result}
 use Rattle.determinize_nfa.proofs.prefixes.Parts.{state_is}
 
 -- an id goes to the end of one of some lists

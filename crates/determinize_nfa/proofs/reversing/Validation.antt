@@ -2,28 +2,11 @@
 -- Main statements: each_plain, plain_before, over the record IsPlain.
 -- Used by: MadeNfa.
 -- Idea: all ids are below the count, no state is sparse or dense, and only one is a match.
-use Rattle.std.specs.List.{list_all, list_any}
-use Rattle.std.specs.Option.{option_or}
-use Rattle.std.specs.Prelude.{nat_lt}
-use Rattle.std.proofs.Common.{◌≡◌, ◌<◌, ◌+◌, ◌&&◌, ◌++◌, ◌∙◌, ◌∷◌, ◌||◌, ℕ, Bool, List, None, Option, Some, [], ap, arith, cond, false, length, map, not, refl, suc, sym, true}
+use Rattle.determinize_nfa.proofs.Common.{Arc, Bool, BuildError, ByteRange, Free, ID_LIMIT, In, In_append_cases, In_cases, In_flat_map_from, In_head, In_map_from, In_none, In_tail, List, Look, Match, Nfa, Node, None, Option, Range, Some, Test, TooManyStates, Turned, Union, [], ap, arcs_of, arith, by_cases, by_test, cond, failure, false, gathered, get_or_from_slice_get, is_sparse_sound, length, list_all, list_any, map, nat_lt, nat_tests, not, option_or, pattern_in, range_to, refl, resolves, reversed, slice_get_within, some_injective, sources, state_at, states_of, suc, sym, true, ℕ, ◌&&◌, ◌++◌, ◌+◌, ◌<◌, ◌||◌, ◌∙◌, ◌∷◌, ◌≡◌}
 use Rattle.std.proofs.lemmas.Bool.{and_from}
-use Rattle.std.proofs.lemmas.Bool.Decides.{nat_tests}
 use Rattle.std.proofs.lemmas.List.Folds.{list_any-append}
-use Rattle.std.proofs.lemmas.Option.{get_or_from_slice_get, slice_get_within}
-use Rattle.determinize_below.specs.Semantics.{state_at, Nfa, Node, ByteRange, Look, Union, Match}
-use Rattle.determinize_below.specs.Edges.{pattern_in}
-use Rattle.determinize_below.specs.Look.{reversed}
-use Rattle.determinize_below.specs.Nfa.{failure, is_dense_sound, is_match_of, is_repeated, is_sparse_sound, resolves, state_failure, states_failure}
-use Rattle.determinize_below.specs.declared.nfa.BuildError.{BuildError}
-use Rattle.determinize_below.specs.declared.nfa.BuildError.TheVariants.{TooManyStates, UnresolvedStart}
-use Rattle.determinize_below.specs.declared.primitives.TheConstants.{ID_LIMIT}
-use Rattle.ordered_reach.proofs.lists.Elements.{In, In_append_cases, In_cases, In_flat_map_from, In_head, In_map_from, In_none, In_tail}
-use Rattle.ordered_reach.proofs.Cases.{by_cases, by_test, some_injective}
-use Rattle.determinize_nfa.specs.Private.Gathered.{gathered, states_of}
-use Rattle.determinize_nfa.specs.Private.Arcs.{arcs_of}
-use Rattle.determinize_nfa.specs.Private.Turning.{range_to, sources, Turned}
-use Rattle.determinize_nfa.specs.declared.arcs.Arc.{Arc}
-use Rattle.determinize_nfa.specs.declared.arcs.Arc.TheVariants.{Free, Range, Test}
+use Rattle.determinize_below.specs.Nfa.{is_dense_sound, is_match_of, is_repeated, state_failure, states_failure}
+use Rattle.determinize_below.specs.declared.nfa.BuildError.TheVariants.{UnresolvedStart}
 use Rattle.determinize_nfa.proofs.reversing.StatesById.{pattern_within}
 use Rattle.determinize_nfa.proofs.reversing.Recorded.{IsSound}
 use Rattle.determinize_nfa.proofs.reversing.Counts.{back, length-states, made_by, made_of_each}

@@ -3,17 +3,9 @@
 -- Main statements: choice_cases, choice_later, choice_leads, and the same under any assertions (choices_under).
 -- Used by: all that follows a run step by step.
 -- Idea: the choices at a pair are the byte transitions, then the epsilon ones (`run_edges`).
+use Rattle.determinize_nfa.proofs.Common.{Assertion, Bool, Free, In, In_append_cases, In_append_left, In_append_right, In_cases, In_map, In_map_from, In_none, List, Nfa, Node, None, Option, Range, Some, Test, Text, [], after_at, ap, arith, before_at, byte_edges, choices, edges, edges_of, leads_to, map, placed, refl, slice_get, state_at, suc, target_of, true, true_edges, truth, ℕ, ◌≡◌, ◌≤◌}
 use Rattle.std.specs.Option.{option_to_list}
-use Rattle.std.specs.Prelude.{slice_get}
-use Rattle.std.proofs.Common.{◌≡◌, ◌≤◌, ℕ, Bool, List, None, Option, Some, [], ap, arith, map, refl, suc, true}
-use Rattle.determinize_below.specs.Semantics.{edges_of, state_at, target_of, Nfa, Node, Text, after_at, before_at, choices}
-use Rattle.determinize_below.specs.Edges.{edges}
-use Rattle.determinize_below.specs.Positions.{byte_edges, true_edges, truth}
-use Rattle.ordered_reach.specs.Runs.{placed, run_edges}
-use Rattle.determinize_below.specs.declared.look.Look.{Look as Assertion}
-use Rattle.ordered_reach.proofs.lists.Elements.{In, In_append_cases, In_append_left, In_append_right, In_cases, In_map, In_map_from, In_none}
-use Rattle.determinize_nfa.specs.Prefix.{leads_to}
-use Rattle.determinize_nfa.specs.declared.arcs.Arc.TheVariants.{Free, Range, Test}
+use Rattle.ordered_reach.specs.Runs.{run_edges}
 use Rattle.determinize_nfa.proofs.kinds.ArcsOfStates.{arc_leads, byte_arc, edge_arc}
 use Rattle.determinize_nfa.proofs.kinds.OneArc.{no_end}
 

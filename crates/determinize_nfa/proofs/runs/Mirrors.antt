@@ -2,14 +2,11 @@
 -- Main statements: each_reading_is_mirrored.
 -- Used by: `laws::mirror_law`, and the search backward and the runs of a reversed NFA.
 -- Idea: an element of a reversed list is the one as far from the other end.
-use Rattle.std.specs.Option.{option_or}
-use Rattle.std.specs.Prelude.{reverse, slice_get}
-use Rattle.std.proofs.Common.{◌≡◌, ◌<◌, ◌≤◌, ◌+◌, ◌-◌, ◌∙◌, ◌∷◌, ℕ, List, None, Option, Some, [], ap, arith, get_or, length, refl, suc, sym, take, zero}
+use Rattle.determinize_nfa.proofs.Common.{List, None, Option, Some, Text, [], after_at, ap, arith, before_at, get_or, length, option_or, refl, slice_get, slice_get-get_or, suc, sym, take, turned, upto, zero, ℕ, ◌+◌, ◌-◌, ◌<◌, ◌∙◌, ◌∷◌, ◌≡◌, ◌≤◌}
+use Rattle.std.specs.Prelude.{reverse}
 use Rattle.std.proofs.lemmas.List.{get_or-reverse, length-reverse, length-take-le}
-use Rattle.std.proofs.lemmas.Option.{slice_get-get_or, slice_get_past}
-use Rattle.determinize_below.specs.Semantics.{Text, after_at, before_at}
+use Rattle.std.proofs.lemmas.Option.{slice_get_past}
 use Rattle.determinize_nfa.specs.Laws.{EachReadingIsMirrored}
-use Rattle.determinize_nfa.specs.Reversal.{turned, upto}
 
 slice_get-reverse : (xs : List ℕ) (r i : ℕ) → r + suc i ≡ length xs → slice_get (reverse xs) r ≡ slice_get xs i
 slice_get-reverse xs r i e =

@@ -3,15 +3,9 @@
 -- Used by: runs over a text up to a position (Cuts).
 -- Idea: the choices at a pair depend on the next byte and on the assertions there, and no state has transitions of both
 -- kinds.
-use Rattle.std.specs.Prelude.{slice_get}
-use Rattle.std.proofs.Common.{◌≡◌, ◌++◌, ◌∙◌, ◌∷◌, ℕ, Bool, List, None, Option, Some, [], ap, arith, map, subst, suc, sym, true}
-use Rattle.determinize_below.specs.Edges.{edges, is_capture, target}
-use Rattle.determinize_below.specs.Semantics.{edges_of, state_at, Nfa, Node, Look, Text}
-use Rattle.determinize_below.specs.declared.look.Look.{Look as Assertion}
+use Rattle.determinize_nfa.proofs.Common.{Assertion, Bool, In, In_none, List, Look, Nfa, Node, None, Option, Some, Text, [], ap, arith, by_cases, by_test, edges, edges_of, map, placed, slice_get, state_at, subst, suc, sym, target, true, ℕ, ◌++◌, ◌∙◌, ◌∷◌, ◌≡◌}
+use Rattle.determinize_below.specs.Edges.{is_capture}
 use Rattle.determinize_below.proofs.nfas.Edges.{edges-capture, edges-or-target, next_of, target-capture}
-use Rattle.ordered_reach.specs.Runs.{placed}
-use Rattle.ordered_reach.proofs.lists.Elements.{In, In_none}
-use Rattle.ordered_reach.proofs.Cases.{by_cases, by_test}
 use Rattle.determinize_nfa.proofs.runs.Choices.{choices_under, under_cases}
 
 -- with more assertions an epsilon transition keeps its number

@@ -2,19 +2,8 @@
 -- Main statements: each_run_moves, each_run_reads_forward.
 -- Used by: `laws::shift_law`, and anchored searches from a later index.
 -- Idea: positions of the rest are positions of the text, so much later, and see the same units (PathMaps).
-use Rattle.std.specs.Option.{option_or}
-use Rattle.std.specs.Prelude.{slice_get}
-use Rattle.std.proofs.Common.{◌≡◌, ◌≤◌, ◌+◌, ◌++◌, ◌∙◌, ◌∷◌, ℕ, List, [], ap, arith, drop, map, refl, subst, suc, sym, zero}
-use Rattle.std.proofs.lemmas.List.{map-append}
-use Rattle.determinize_below.specs.Edges.{edges, target}
-use Rattle.determinize_below.specs.Semantics.{Nfa, Text, after_at, before_at, choices}
-use Rattle.determinize_below.specs.Positions.{truth}
-use Rattle.ordered_reach.specs.Paths.{IsPath}
-use Rattle.determinize_below.specs.Positions.{byte_edges, true_edges}
-use Rattle.ordered_reach.specs.Runs.{placed}
-use Rattle.ordered_reach.proofs.runs.ByPosition.{same_pairs}
+use Rattle.determinize_nfa.proofs.Common.{AcceptsFrom, IsPath, List, Nfa, Text, [], after_at, ap, arith, before_at, byte_edges, choices, drop, edges, map, map-append, option_or, placed, refl, same_pairs, slice_get, subst, suc, sym, target, true_edges, truth, zero, ℕ, ◌++◌, ◌+◌, ◌∙◌, ◌∷◌, ◌≡◌, ◌≤◌}
 use Rattle.determinize_nfa.specs.Laws.{EachRunReadsForward, EachRunMoves}
-use Rattle.determinize_nfa.specs.Runs.{AcceptsFrom}
 use Rattle.determinize_nfa.specs.Runs.{since}
 use Rattle.determinize_nfa.proofs.runs.Choices.{choice_later}
 use Rattle.ordered_reach.proofs.graph.PathMaps.{path_map, path_unmap}

@@ -1,5 +1,4 @@
-use Rattle.std.proofs.Common.{rules}
-use Rattle.determinize_nfa.specs.declared.arcs.Arc.TheVariants.{Free}
+use Rattle.determinize_nfa.proofs.Common.{Free, rules}
 use Rattle.determinize_nfa.proofs.kinds.ArcsLeft.{left_at}
 use Rattle.determinize_nfa.proofs.arcs.free_from.Goals as goal
 

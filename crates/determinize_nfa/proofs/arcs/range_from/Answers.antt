@@ -1,5 +1,4 @@
-use Rattle.std.proofs.Common.{rules}
-use Rattle.determinize_nfa.specs.declared.arcs.Arc.TheVariants.{Range}
+use Rattle.determinize_nfa.proofs.Common.{Range, rules}
 use Rattle.determinize_nfa.proofs.kinds.ArcsLeft.{left_at}
 use Rattle.determinize_nfa.proofs.arcs.range_from.Goals as goal
 

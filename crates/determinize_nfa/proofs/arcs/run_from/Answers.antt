@@ -1,6 +1,4 @@
-use Rattle.std.specs.Prelude.{nat_eq}
-use Rattle.std.proofs.Common.{rules, ◌≡◌, ◌<◌, ◌∙◌, false, get_or, length, refl, sym, true}
-use Rattle.std.proofs.lemmas.Grind.{get_or_default_zero}
+use Rattle.determinize_nfa.proofs.Common.{false, get_or, get_or_default_zero, length, nat_eq, refl, rules, sym, true, ◌<◌, ◌∙◌, ◌≡◌}
 use Rattle.determinize_nfa.proofs.kinds.ArcsLeft.{list_behind}
 use Rattle.determinize_nfa.proofs.kinds.TableRuns.{runs_end, runs_on}
 use Rattle.determinize_nfa.proofs.arcs.run_from.Goals as goal

@@ -1,5 +1,4 @@
-use Rattle.std.proofs.Common.{◌≡◌, ◌≤◌, drop}
-use Rattle.determinize_nfa.specs.Private.Arcs.{runs}
+use Rattle.determinize_nfa.proofs.Common.{drop, runs, ◌≡◌, ◌≤◌}
 use Rattle.determinize_nfa.proofs.arcs.run_from.Given as goal
 
 abbrev pub invariant-loop-byte : goal.invariant-loop-byte

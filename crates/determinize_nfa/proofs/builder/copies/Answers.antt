@@ -1,7 +1,6 @@
-use Rattle.std.proofs.Common.{◌≡◌, ◌+◌, arith, drop, length, map}
+use Rattle.determinize_nfa.proofs.Common.{arith, drop, length, map, node_of, none_left, one_more, ◌+◌, ◌≡◌}
 use Rattle.std.proofs.lemmas.List.{length-drop}
-use Rattle.determinize_below.specs.Node.{node_of}
-use Rattle.determinize_below.proofs.Moved.{next_of, none_left, one_more}
+use Rattle.determinize_below.proofs.Moved.{next_of}
 use Rattle.determinize_nfa.proofs.builder.copies.Goals as goal
 
 pub loop-state-preserved : goal.loop-state-preserved

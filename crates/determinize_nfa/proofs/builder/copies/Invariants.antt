@@ -1,5 +1,4 @@
-use Rattle.std.proofs.Common.{◌≡◌, ◌++◌, drop, map}
-use Rattle.determinize_below.specs.Node.{node_of}
+use Rattle.determinize_nfa.proofs.Common.{drop, map, node_of, ◌++◌, ◌≡◌}
 use Rattle.determinize_nfa.proofs.builder.copies.Given as goal
 
 abbrev pub invariant-loop-state : goal.invariant-loop-state

@@ -1,9 +1,4 @@
-use Rattle.std.proofs.Common.{rules, ◌≡◌, ◌∙◌, false, subst, true, ℕ}
-use Rattle.std.specs.Bool.{Decides}
-use Rattle.std.proofs.lemmas.Bool.{false≢true}
-use Rattle.determinize_below.specs.Semantics.{state_at, BinaryUnion}
-use Rattle.determinize_below.specs.Node.{node_of}
-use Rattle.determinize_nfa.specs.Prefix.{leads_to}
+use Rattle.determinize_nfa.proofs.Common.{BinaryUnion, Decides, false, false≢true, leads_to, node_of, rules, state_at, subst, true, ℕ, ◌∙◌, ◌≡◌}
 use Rattle.determinize_nfa.proofs.prefixes.Parts.{Decides-alone, any_read, not_any, skip_within, start_is}
 use Rattle.determinize_nfa.proofs.prefix.has_prefix.Goals as goal
 

@@ -1,5 +1,4 @@
-use Rattle.std.proofs.Common.{rules, ◌≡◌, true}
-use Rattle.determinize_below.specs.Node.{node_of}
+use Rattle.determinize_nfa.proofs.Common.{node_of, rules, true, ◌≡◌}
 use Rattle.determinize_nfa.proofs.prefixes.Parts.{Decides-apart}
 use Rattle.determinize_nfa.proofs.prefix.has_prefix_apart.Goals as goal
 

@@ -1,6 +1,4 @@
-use Rattle.std.proofs.Common.{◌≡◌, ◌<◌, ℕ, true}
-use Rattle.determinize_below.specs.Semantics.{state_at}
-use Rattle.determinize_nfa.specs.Prefix.{leads_to}
+use Rattle.determinize_nfa.proofs.Common.{leads_to, state_at, true, ℕ, ◌<◌, ◌≡◌}
 use Rattle.determinize_nfa.proofs.prefix.leads_alone.Given as goal
 
 abbrev pub invariant-loop-index : goal.invariant-loop-index

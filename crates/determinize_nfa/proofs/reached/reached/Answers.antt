@@ -1,10 +1,5 @@
-use Rattle.std.proofs.Common.{rules, ◌≡◌, ◌<◌, ◌∙◌, None, Some, ap, arith, length, sym}
-use Rattle.std.specs.Prelude.{slice_get}
+use Rattle.determinize_nfa.proofs.Common.{None, Some, all_visited, ap, arith, each_passes, length, node_of, rules, slice_get, sym, targets_in, ◌<◌, ◌∙◌, ◌≡◌}
 use Rattle.determinize_below.specs.Members.{Members}
-use Rattle.determinize_below.specs.Node.{node_of}
-use Rattle.determinize_below.proofs.nfas.SoundNfa.{each_passes}
-use Rattle.determinize_nfa.specs.Private.Arcs.{targets_in}
-use Rattle.determinize_nfa.specs.Private.Closed.{all_visited}
 use Rattle.determinize_nfa.proofs.reversing.FoundStates.{found_all, found_index, found_more, found_start}
 use Rattle.determinize_nfa.proofs.reached.reached.Goals as goal
 

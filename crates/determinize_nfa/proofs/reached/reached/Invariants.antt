@@ -1,4 +1,4 @@
-use Rattle.std.proofs.Common.{◌≡◌, ◌-◌, length}
+use Rattle.determinize_nfa.proofs.Common.{length, ◌-◌, ◌≡◌}
 use Rattle.determinize_nfa.proofs.reversing.FoundStates.{IsFound}
 use Rattle.determinize_nfa.proofs.reached.reached.Given as goal
 

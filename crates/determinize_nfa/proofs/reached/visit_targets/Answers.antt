@@ -1,7 +1,4 @@
-use Rattle.std.proofs.Common.{rules, ◌<◌, arith}
-use Rattle.std.proofs.lemmas.List.Elements.{All-rest}
-use Rattle.determinize_below.specs.Node.{node_of}
-use Rattle.determinize_nfa.specs.Private.Arcs.{next_of}
+use Rattle.determinize_nfa.proofs.Common.{All-rest, arith, next_of, node_of, rules, ◌<◌}
 use Rattle.determinize_nfa.proofs.kinds.ArcsOfStates.{arcs_resolve}
 use Rattle.determinize_nfa.proofs.reached.visit_targets.Goals as goal
 

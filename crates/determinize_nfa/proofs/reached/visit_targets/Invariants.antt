@@ -1,8 +1,4 @@
-use Rattle.std.specs.Prelude.{All}
-use Rattle.std.proofs.Common.{◌≡◌, ◌<◌, map}
-use Rattle.determinize_below.specs.Node.{node_of}
-use Rattle.determinize_nfa.specs.Private.Arcs.{next_of, targets_in}
-use Rattle.determinize_nfa.specs.Private.Closed.{all_visited}
+use Rattle.determinize_nfa.proofs.Common.{All, all_visited, map, next_of, node_of, targets_in, ◌<◌, ◌≡◌}
 use Rattle.determinize_nfa.proofs.reached.visit_targets.Given as goal
 
 abbrev pub invariant-loop-arc : goal.invariant-loop-arc

@@ -1,5 +1,4 @@
-use Rattle.determinize_below.specs.Node.{node_of}
-use Rattle.determinize_below.specs.Semantics.{Match, Union}
+use Rattle.determinize_nfa.proofs.Common.{Match, Union, node_of}
 use Rattle.determinize_nfa.proofs.reversing.Steps.{ended}
 use Rattle.determinize_nfa.proofs.reversal.end_states.Goals as goal
 

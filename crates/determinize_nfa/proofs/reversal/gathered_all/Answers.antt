@@ -1,8 +1,4 @@
-use Rattle.std.proofs.Common.{◌≡◌, arith, length, map, refl}
-use Rattle.std.proofs.lemmas.List.{length-map}
-use Rattle.determinize_below.specs.Node.{node_of}
-use Rattle.determinize_nfa.specs.Private.Gathered.{gathered}
-use Rattle.determinize_below.proofs.Moved.{none_left, one_more}
+use Rattle.determinize_nfa.proofs.Common.{arith, gathered, length, length-map, map, node_of, none_left, one_more, refl, ◌≡◌}
 use Rattle.determinize_nfa.proofs.reversal.gathered_all.Goals as goal
 
 pub loop-alternates-init : goal.loop-alternates-init

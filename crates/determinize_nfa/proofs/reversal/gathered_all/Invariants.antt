@@ -1,6 +1,4 @@
-use Rattle.std.proofs.Common.{◌≡◌, ◌++◌, map}
-use Rattle.determinize_below.specs.Node.{node_of}
-use Rattle.determinize_nfa.specs.Private.Gathered.{gathered}
+use Rattle.determinize_nfa.proofs.Common.{gathered, map, node_of, ◌++◌, ◌≡◌}
 use Rattle.determinize_nfa.proofs.reversal.gathered_all.Given as goal
 
 abbrev pub invariant-loop-alternates : goal.invariant-loop-alternates

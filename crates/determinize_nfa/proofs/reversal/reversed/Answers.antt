@@ -1,15 +1,4 @@
-use Rattle.std.specs.List.{filter}
-use Rattle.std.proofs.Common.{◌≡◌, ◌+◌, ◌<◌, ◌≤◌, ◌⊎◌, ◌∙◌, ◌∷◌, List, Some, [], ap, arith, inl, length, map, not, subst, suc, sym}
-use Rattle.std.proofs.lemmas.Result.{IfErr-weaker, IfOk-weaker}
-use Rattle.determinize_below.specs.Edges.{is_match_node}
-use Rattle.determinize_below.specs.Semantics.{Nfa, Node, Match}
-use Rattle.determinize_below.specs.Nfa.{failure, looks_of}
-use Rattle.determinize_below.specs.Node.{node_of}
-use Rattle.determinize_below.specs.declared.nfa.BuildError.{BuildError}
-use Rattle.determinize_below.specs.declared.nfa.BuildError.TheVariants.{OutOfMemory, TooManyStates}
-use Rattle.determinize_nfa.specs.Private.Gathered.{states_of}
-use Rattle.determinize_nfa.specs.Reversal.{IsReverseOf, IsTooLarge, most_states}
-use Rattle.determinize_below.proofs.Exits.{if_err_and}
+use Rattle.determinize_nfa.proofs.Common.{BuildError, IfErr-weaker, IfOk-weaker, IsReverseOf, IsTooLarge, List, Match, Nfa, Node, OutOfMemory, Some, TooManyStates, [], ap, arith, failure, filter, if_err_and, inl, is_match_node, length, looks_of, map, most_states, node_of, not, states_of, subst, suc, sym, ◌+◌, ◌<◌, ◌∙◌, ◌∷◌, ◌≡◌, ◌≤◌, ◌⊎◌}
 use Rattle.determinize_nfa.proofs.Limits.{too_many}
 use Rattle.determinize_nfa.proofs.reversing.MadeNfa.{made_error, made_match, made_of_all}
 use Rattle.determinize_nfa.proofs.reversing.BothWays.{IsMadeOf}

@@ -1,10 +1,4 @@
-use Rattle.std.proofs.Common.{◌≡◌, ◌<◌, ◌+◌, ap, arith, inl, length}
-use Rattle.determinize_below.specs.Node.{node_of}
-use Rattle.determinize_below.specs.Semantics.{Match}
-use Rattle.determinize_below.specs.declared.nfa.BuildError.{BuildError}
-use Rattle.determinize_below.specs.declared.nfa.BuildError.TheVariants.{OutOfMemory, TooManyStates}
-use Rattle.determinize_nfa.specs.Reversal.{IsTooLarge}
-use Rattle.determinize_below.proofs.Exits.{if_err_and}
+use Rattle.determinize_nfa.proofs.Common.{BuildError, IsTooLarge, Match, OutOfMemory, TooManyStates, ap, arith, if_err_and, inl, length, node_of, ◌+◌, ◌<◌, ◌≡◌}
 use Rattle.determinize_nfa.proofs.Limits.{too_many}
 use Rattle.determinize_nfa.proofs.building.Building.{length_is, matched_is}
 use Rattle.determinize_nfa.proofs.builder.Builder.add_match.Goals as goal

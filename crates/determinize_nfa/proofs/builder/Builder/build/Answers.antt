@@ -1,15 +1,6 @@
-use Rattle.std.proofs.Common.{Some, ◌≡◌, ◌⊎◌, ◌∙◌, ap, inr, map, sym}
-use Rattle.std.proofs.lemmas.Result.{IfOk-weaker, on_ok_weaker}
-use Rattle.determinize_below.specs.Nfa.{failure, looks_of}
-use Rattle.determinize_below.specs.Node.{node_of}
-use Rattle.determinize_below.specs.Semantics.{Nfa, Node}
-use Rattle.determinize_below.specs.declared.nfa.BuildError.{BuildError}
-use Rattle.determinize_below.specs.declared.nfa.BuildError.TheVariants.{OutOfMemory}
-use Rattle.determinize_nfa.specs.Builder.{BuilderValue, built}
-use Rattle.determinize_below.proofs.Exits.{if_err_and}
+use Rattle.determinize_nfa.proofs.Common.{BuildError, BuilderValue, IfOk-weaker, List, Nfa, Node, OutOfMemory, Some, ap, built, failure, false, if_err_and, inr, looks_of, map, node_of, on_ok_weaker, refl, sym, ◌∙◌, ◌≡◌, ◌⊎◌}
 use Rattle.determinize_nfa.proofs.building.Building.{built_is}
 use Rattle.determinize_nfa.proofs.builder.Builder.build.Goals as goal
-use Rattle.std.proofs.Common.{List, false, refl}
 
 all_states : (g : _) (c : goal.After-from_parts g) → map node_of c.in_ok-states.states.items ≡ c.args.self.now.states
 all_states g c = c.in_ok-states.ensures ∙ ap (map node_of) c.as_slice.ensures.value

@@ -1,16 +1,4 @@
-use Rattle.std.specs.Prelude.{None, Some}
-use Rattle.std.proofs.Common.{◌≡◌, ◌<◌, ◌+◌, ◌++◌, ◌⊎◌, ◌∙◌, ◌∷◌, [], ap, arith, false, inl, inr, length, map, refl, subst, suc, sym}
-use Rattle.std.proofs.lemmas.List.{length-map}
-use Rattle.std.proofs.lemmas.Result.{IfErr-weaker, IfOk-weaker}
-use Rattle.determinize_below.specs.Semantics.{BinaryUnion, ByteRange, Nfa}
-use Rattle.determinize_below.specs.Nfa.{failure, looks_of}
-use Rattle.determinize_below.specs.Node.{node_of}
-use Rattle.determinize_below.specs.declared.nfa.BuildError.{BuildError}
-use Rattle.determinize_below.specs.declared.nfa.BuildError.TheVariants.{OutOfMemory, TooManyStates}
-use Rattle.ordered_reach.proofs.Cases.{by_option}
-use Rattle.determinize_nfa.specs.Builder.{BuilderValue, IsApart, IsUnfit, built, prefixed}
-use Rattle.determinize_nfa.specs.Prefix.{HasPrefix, HasPrefixApart}
-use Rattle.determinize_below.proofs.Exits.{if_err_and}
+use Rattle.determinize_nfa.proofs.Common.{BinaryUnion, BuildError, BuilderValue, ByteRange, HasPrefix, HasPrefixApart, IfErr-weaker, IfOk-weaker, IsApart, IsUnfit, Nfa, None, OutOfMemory, Some, TooManyStates, [], ap, arith, built, by_option, failure, false, if_err_and, inl, inr, length, length-map, looks_of, map, node_of, prefixed, refl, subst, suc, sym, ◌++◌, ◌+◌, ◌<◌, ◌∙◌, ◌∷◌, ◌≡◌, ◌⊎◌}
 use Rattle.determinize_nfa.proofs.building.Building.{IsMade, has_prefix_apart, is_ahead, length_is, made_is, made_of, made_unfit, none_ahead, unfit_too_many}
 use Rattle.determinize_nfa.proofs.builder.Builder.build_with_prefix.Goals as goal
 

@@ -1,10 +1,5 @@
-use Rattle.std.proofs.Common.{◌≡◌, ◌<◌, ◌∙◌, ap, arith, get_or, inl, inr, length, sym, ℕ}
-use Rattle.determinize_below.specs.Node.{node_of}
-use Rattle.determinize_below.specs.Semantics.{Fail, Union}
-use Rattle.determinize_below.specs.declared.nfa.BuildError.{BuildError}
-use Rattle.determinize_below.specs.declared.nfa.BuildError.TheVariants.{NotPatchable, OutOfMemory}
-use Rattle.determinize_nfa.specs.Builder.{BuilderValue, IsNotSet, closed, is_place}
-use Rattle.determinize_below.proofs.Exits.{if_err_and}
+use Rattle.determinize_nfa.proofs.Common.{BuildError, BuilderValue, Fail, IsNotSet, NotPatchable, OutOfMemory, Union, ap, arith, get_or, if_err_and, inl, inr, length, node_of, sym, ℕ, ◌<◌, ◌∙◌, ◌≡◌}
+use Rattle.determinize_nfa.specs.Builder.{closed, is_place}
 use Rattle.determinize_nfa.proofs.building.Building.{count_is, index_within, node_is, same_node, set_is}
 use Rattle.determinize_nfa.proofs.builder.Builder.close.Goals as goal
 

@@ -1,10 +1,6 @@
-use Rattle.std.proofs.Common.{◌≡◌, ◌<◌, ◌∙◌, ap, arith, get_or, inl, inr, length, sym, ℕ}
-use Rattle.std.proofs.lemmas.Result.{IfErr-weaker, on_err_weaker, on_ok_weaker}
-use Rattle.determinize_below.specs.Node.{node_of}
-use Rattle.determinize_below.specs.Semantics.{Fail}
-use Rattle.determinize_below.specs.declared.nfa.BuildError.{BuildError}
-use Rattle.determinize_below.specs.declared.nfa.BuildError.TheVariants.{NotPatchable, OutOfMemory}
-use Rattle.determinize_nfa.specs.Builder.{BuilderValue, IsNotSet, is_patchable, patched, redirected}
+use Rattle.determinize_nfa.proofs.Common.{BuildError, BuilderValue, Fail, IfErr-weaker, IsNotSet, NotPatchable, OutOfMemory, ap, arith, get_or, inl, inr, length, node_of, on_ok_weaker, sym, ℕ, ◌<◌, ◌∙◌, ◌≡◌}
+use Rattle.std.proofs.lemmas.Result.{on_err_weaker}
+use Rattle.determinize_nfa.specs.Builder.{is_patchable, patched, redirected}
 use Rattle.determinize_nfa.proofs.building.Building.{count_is, index_within, node_is, node_there, set_is, set_none}
 use Rattle.determinize_nfa.proofs.builder.Builder.patch.Goals as goal
 

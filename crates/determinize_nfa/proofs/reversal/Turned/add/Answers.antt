@@ -1,7 +1,4 @@
-use Rattle.std.proofs.Common.{rules, ◌≡◌, ◌<◌, ◌++◌, ◌∙◌, ◌∷◌, ℕ, [], ap, arith, length, map}
-use Rattle.std.proofs.lemmas.List.{length-map}
-use Rattle.determinize_below.specs.Node.{node_of}
-use Rattle.determinize_nfa.specs.Private.Turning.{Turned, added}
+use Rattle.determinize_nfa.proofs.Common.{Turned, [], added, ap, arith, length, length-map, map, node_of, rules, ℕ, ◌++◌, ◌<◌, ◌∙◌, ◌∷◌, ◌≡◌}
 use Rattle.determinize_nfa.proofs.reversing.Steps.{added_is}
 use Rattle.determinize_nfa.proofs.reversal.Turned.add.Goals as goal
 

@@ -1,11 +1,4 @@
-use Rattle.std.proofs.Common.{rules, ◌≡◌, ◌<◌, ◌∙◌, ap, arith, length}
-use Rattle.std.proofs.lemmas.List.Elements.{All-rest}
-use Rattle.determinize_below.proofs.Exits.{if_err_and}
-use Rattle.determinize_below.specs.Node.{node_of}
-use Rattle.determinize_below.specs.declared.nfa.BuildError.{BuildError}
-use Rattle.determinize_nfa.specs.Private.Arcs.{next_of}
-use Rattle.determinize_nfa.specs.Private.Turning.{Turned, total, with_arc, with_node}
-use Rattle.determinize_nfa.specs.Reversal.{IsTooLarge}
+use Rattle.determinize_nfa.proofs.Common.{All-rest, BuildError, IsTooLarge, Turned, ap, arith, if_err_and, length, next_of, node_of, rules, total, with_arc, with_node, ◌<◌, ◌∙◌, ◌≡◌}
 use Rattle.determinize_nfa.proofs.kinds.ArcsOfStates.{arcs_resolve}
 use Rattle.determinize_nfa.proofs.reversing.Counts.{larger, room_arc}
 use Rattle.determinize_nfa.proofs.reversing.Steps.{count-arc}

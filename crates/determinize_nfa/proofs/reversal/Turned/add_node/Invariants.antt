@@ -1,8 +1,4 @@
-use Rattle.std.specs.Prelude.{All}
-use Rattle.std.proofs.Common.{◌≡◌, ◌<◌, length}
-use Rattle.determinize_below.specs.Node.{node_of}
-use Rattle.determinize_nfa.specs.Private.Arcs.{arcs_of, next_of}
-use Rattle.determinize_nfa.specs.Private.Turning.{with_arcs}
+use Rattle.determinize_nfa.proofs.Common.{All, arcs_of, length, next_of, node_of, with_arcs, ◌<◌, ◌≡◌}
 use Rattle.determinize_nfa.proofs.reversal.Turned.add_node.Given as goal
 
 abbrev pub invariant-loop-arc : goal.invariant-loop-arc

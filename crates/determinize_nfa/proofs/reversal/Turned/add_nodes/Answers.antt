@@ -1,11 +1,4 @@
-use Rattle.std.proofs.Common.{◌≡◌, ◌<◌, ◌∙◌, arith, get_or, inl, length, sym}
-use Rattle.std.proofs.lemmas.Grind.{get_or_default_zero}
-use Rattle.determinize_below.specs.Node.{node_of}
-use Rattle.determinize_below.specs.declared.nfa.BuildError.{BuildError}
-use Rattle.determinize_below.proofs.nfas.SoundNfa.{each_passes}
-use Rattle.determinize_nfa.specs.Private.Turning.{total, turned_over, with_node}
-use Rattle.determinize_nfa.specs.Reversal.{IsTooLarge, most_states}
-use Rattle.determinize_below.proofs.Exits.{if_err_and}
+use Rattle.determinize_nfa.proofs.Common.{BuildError, IsTooLarge, arith, each_passes, get_or, get_or_default_zero, if_err_and, inl, length, most_states, node_of, sym, total, turned_over, with_node, ◌<◌, ◌∙◌, ◌≡◌}
 use Rattle.determinize_nfa.proofs.reversing.Counts.{larger, room_node}
 use Rattle.determinize_nfa.proofs.reversing.Steps.{over_all, over_more, over_start}
 use Rattle.determinize_nfa.proofs.reversal.Turned.add_nodes.Goals as goal

@@ -1,4 +1,4 @@
-use Rattle.determinize_nfa.specs.Private.Turning.{turned_over}
+use Rattle.determinize_nfa.proofs.Common.{turned_over}
 use Rattle.determinize_nfa.proofs.reversing.Steps.{IsOver}
 use Rattle.determinize_nfa.proofs.reversal.Turned.add_nodes.Given as goal
 

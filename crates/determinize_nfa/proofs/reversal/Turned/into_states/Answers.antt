@@ -1,7 +1,4 @@
-use Rattle.std.proofs.Common.{◌++◌, ◌∙◌, ◌∷◌, ap, map}
-use Rattle.determinize_below.specs.Node.{node_of}
-use Rattle.determinize_below.specs.Semantics.{Match, Union}
-use Rattle.determinize_nfa.specs.Private.Gathered.{states_of}
+use Rattle.determinize_nfa.proofs.Common.{Match, Union, ap, map, node_of, states_of, ◌++◌, ◌∙◌, ◌∷◌}
 use Rattle.determinize_nfa.proofs.reversal.Turned.into_states.Goals as goal
 
 pub returns : goal.returns

@@ -1,6 +1,5 @@
-use Rattle.std.proofs.Common.{◌≡◌, ◌∷◌, [], ap, arith}
-use Rattle.std.proofs.lemmas.List.{map-append, replicate-append-replicate}
-use Rattle.determinize_nfa.specs.Private.Turning.{none_turned}
+use Rattle.determinize_nfa.proofs.Common.{[], ap, arith, map-append, none_turned, ◌∷◌, ◌≡◌}
+use Rattle.std.proofs.lemmas.List.{replicate-append-replicate}
 use Rattle.determinize_nfa.proofs.reversal.Turned.new.Goals as goal
 
 pub loop-preserved : goal.loop-preserved

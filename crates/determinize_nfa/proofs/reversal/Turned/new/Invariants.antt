@@ -1,4 +1,4 @@
-use Rattle.std.proofs.Common.{◌≡◌, [], map, replicate}
+use Rattle.determinize_nfa.proofs.Common.{[], map, replicate, ◌≡◌}
 use Rattle.determinize_nfa.proofs.reversal.Turned.new.Given as goal
 
 abbrev pub invariant-loop : goal.invariant-loop

@@ -1,9 +1,4 @@
-use Rattle.std.proofs.Common.{◌≡◌, ◌∙◌, List, ap, inl, subst, sym, ℕ}
-use Rattle.determinize_below.specs.declared.nfa.BuildError.{BuildError}
-use Rattle.determinize_below.specs.declared.nfa.BuildError.TheVariants.{OutOfMemory}
-use Rattle.determinize_nfa.specs.Private.Turning.{turned_over}
-use Rattle.determinize_nfa.specs.Reversal.{IsTooLarge, most_states}
-use Rattle.determinize_below.proofs.Exits.{if_err_and}
+use Rattle.determinize_nfa.proofs.Common.{BuildError, IsTooLarge, List, OutOfMemory, ap, if_err_and, inl, most_states, subst, sym, turned_over, ℕ, ◌∙◌, ◌≡◌}
 use Rattle.determinize_nfa.proofs.reversal.Turned.over.Goals as goal
 
 pub returns-clause-ok : goal.returns-clause-ok
