@@ -8,33 +8,28 @@ use Rattle.determinize_nfa.proofs.reversal.reversed.Goals as goal
 pub returns-in_err-begin-clause-err : goal.returns-in_err-begin-clause-err
 returns-in_err-begin-clause-err g c =
     let below : c.len-count.result < most_states c.args.nfa.now = omega (arith, c.len-count.ensures.count) in
-    if_err_and c.from_residual.result
-    (λ (e : BuildError). e ≡ TooManyStates) (λ (e : BuildError). IsTooLarge (most_states c.args.nfa.now) e)
+    if_err_and c.from_residual.result _ _
     (too_many c.len-count.result (most_states c.args.nfa.now) below c.in_err-begin.ensures.ok)
     c.from_residual.ensures.1
 
 pub returns-in_err-start-clause-err : goal.returns-in_err-start-clause-err
 returns-in_err-start-clause-err g c =
     let below : c.len-count.result + 1 < most_states c.args.nfa.now = omega (arith, c.len-count.ensures.count) in
-    if_err_and c.from_residual-in_err-start.result
-    (λ (e : BuildError). e ≡ TooManyStates) (λ (e : BuildError). IsTooLarge (most_states c.args.nfa.now) e)
+    if_err_and c.from_residual-in_err-start.result _ _
     (too_many (c.len-count.result + 1) (most_states c.args.nfa.now) below c.in_err-start.ensures.ok)
     c.from_residual-in_err-start.ensures.1
 
 pub returns-in_err-turned-clause-err : goal.returns-in_err-turned-clause-err
-returns-in_err-turned-clause-err g c = if_err_and c.from_residual-in_err-turned.result
-    (λ (e : BuildError). e ≡ c.in_err-turned.field-0.0) (λ (e : BuildError). IsTooLarge (most_states c.args.nfa.now) e)
+returns-in_err-turned-clause-err g c = if_err_and c.from_residual-in_err-turned.result _ _
     (λ e h. rw h c.in_err-turned.ensures.err)
     c.from_residual-in_err-turned.ensures.1
 
 pub returns-in_err-states-clause-err : goal.returns-in_err-states-clause-err
-returns-in_err-states-clause-err g c = if_err_and c.from_residual-in_err-states.result
-    (λ (e : BuildError). e ≡ OutOfMemory) (λ (e : BuildError). IsTooLarge (most_states c.args.nfa.now) e)
+returns-in_err-states-clause-err g c = if_err_and c.from_residual-in_err-states.result _ _
     (λ e h. inl h) c.from_residual-in_err-states.ensures.1
 
 pub returns-in_err-matcher-clause-err : goal.returns-in_err-matcher-clause-err
-returns-in_err-matcher-clause-err g c = if_err_and c.from_residual-in_err-matcher.result
-    (λ (e : BuildError). e ≡ OutOfMemory) (λ (e : BuildError). IsTooLarge (most_states c.args.nfa.now) e)
+returns-in_err-matcher-clause-err g c = if_err_and c.from_residual-in_err-matcher.result _ _
     (λ e h. inl h) c.from_residual-in_err-matcher.ensures.1
 
 pub returns : goal.returns
@@ -62,29 +57,26 @@ returns g c =
       states = ap (λ (x : Nfa). x.states) p ∙ states;
     } in
     record {
-      reverse = IfOk-weaker c.from_parts.result Built (λ (b : Nfa). IsReverseOf b c.args.nfa.now)
+      reverse = IfOk-weaker c.from_parts.result _ _
           (λ b p. made_of_all c.args.nfa.now b over.met turned
           c.len-count.ensures.accepted
           over.closed over.below over.is (made b p))
           c.from_parts.ensures.ok;
-      starts = IfOk-weaker c.from_parts.result Built (λ (b : Nfa). b.start_anchored ≡ b.start_unanchored)
+      starts = IfOk-weaker c.from_parts.result _ _
           (λ b p. ap (λ (x : Nfa). x.start_anchored) p ∙ sym (ap (λ (x : Nfa). x.start_unanchored) p))
           c.from_parts.ensures.ok;
-      pattern = IfOk-weaker c.from_parts.result Built (λ (b : Nfa). filter is_match_node b.states ≡ Match 0 ∷ [])
+      pattern = IfOk-weaker c.from_parts.result _ _
           (λ b p. made_match c.args.nfa.now b over.met turned
           over.below over.is (made b p))
           c.from_parts.ensures.ok;
-      size = IfOk-weaker c.from_parts.result Built (λ (b : Nfa). length b.states ≤ most_states c.args.nfa.now)
+      size = IfOk-weaker c.from_parts.result _ _
           (λ b p. let n : length b.states ≡ length (states_of turned)
           = ap (λ (x : Nfa). length x.states) p ∙ ap length states in
           let m = length-states_most c.args.nfa.now over.met turned
           over.distinct over.is over.count in omega (arith, n, m))
           c.from_parts.ensures.ok;
       err = IfErr-weaker c.from_parts.result
-          (λ (e : BuildError).
-          (failure (map node_of c.in_ok-states.states.items) c.in_ok-start.start c.in_ok-start.start ≡ Some e)
-          ⊎ (e ≡ OutOfMemory))
-          (λ (e : BuildError). IsTooLarge (most_states c.args.nfa.now) e)
+          _ _
           (λ e d. made_error c.args.nfa.now over.met turned
           c.len-count.ensures.accepted over.closed over.below
           over.distinct over.is c.in_ok-start.start e start

@@ -6,27 +6,22 @@ use Rattle.determinize_nfa.proofs.builder.Builder.add.Goals as goal
 pub returns-clause-id : goal.returns-clause-id
 returns-clause-id g c =
     let count : length c.self.inside.states.items ≡ length c.args.self.now.states
-    = length_is node_of c.self.inside.states.items c.self.inside.patterns c.self.inside.look_matcher
-    c.args.self.now c.self.view_is in
+    = length_is _ _ _ _ _ c.self.view_is in
     omega (arith, c.in_ok-id.ensures.ok.1, c.len.ensures, count)
 
 pub returns-clause-added : goal.returns-clause-added
 returns-clause-added g c =
-    pushed_is node_of c.self.inside.states.items c.self.inside.patterns c.self.inside.look_matcher
-    c.args.self.now c.self.view_is c.push_state.new.states.items c.args.state c.in_ok-push_state.ensures.items
+    pushed_is _ _ _ _ _ c.self.view_is c.push_state.new.states.items c.args.state c.in_ok-push_state.ensures.items
 
 pub returns-in_err-id-clause-err : goal.returns-in_err-id-clause-err
 returns-in_err-id-clause-err g c =
     let count : length c.self.inside.states.items ≡ length c.args.self.now.states
-    = length_is node_of c.self.inside.states.items c.self.inside.patterns c.self.inside.look_matcher
-    c.args.self.now c.self.view_is in
+    = length_is _ _ _ _ _ c.self.view_is in
     let below : c.len.result < length c.args.self.now.states + 1 = omega (arith, c.len.ensures, count) in
-    if_err_and c.from_residual.result (λ (e : BuildError). e ≡ TooManyStates)
-    (λ (e : BuildError). IsTooLarge (length c.args.self.now.states + 1) e)
+    if_err_and c.from_residual.result _ _
     (too_many c.len.result (length c.args.self.now.states + 1) below c.in_err-id.ensures.ok)
     c.from_residual.ensures.1
 
 pub returns-in_err-push_state-clause-err : goal.returns-in_err-push_state-clause-err
-returns-in_err-push_state-clause-err g c = if_err_and c.from_residual-in_err-push_state.result
-    (λ (e : BuildError). e ≡ OutOfMemory) (λ (e : BuildError). IsTooLarge (length c.args.self.now.states + 1) e)
+returns-in_err-push_state-clause-err g c = if_err_and c.from_residual-in_err-push_state.result _ _
     (λ e h. inl h) c.from_residual-in_err-push_state.ensures.1

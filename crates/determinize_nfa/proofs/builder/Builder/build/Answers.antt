@@ -11,16 +11,7 @@ returns-clause-ok g c =
     let cases = c.in_ok-matcher.ensures.cases in
     let terminator : c.in_ok-matcher.matcher ≡ c.args.self.now.terminator
     = sym cases.3 ∙ cases.4 ∙ cases.2 ∙ ap (λ (b : BuilderValue). b.terminator) c.self.view_is in
-    IfOk-weaker c.from_parts.result
-    (λ (n : Nfa). n ≡ record {
-      states = map node_of c.in_ok-states.states.items;
-      start_anchored = c.args.start_anchored;
-      start_unanchored = c.args.start_unanchored;
-      reverse = false;
-      terminator = c.in_ok-matcher.matcher;
-      look_set_any = looks_of (map node_of c.in_ok-states.states.items);
-    })
-    (λ (n : Nfa). n ≡ built c.args.self.now c.args.start_anchored c.args.start_unanchored)
+    IfOk-weaker c.from_parts.result _ _
     (built_is c.args.self.now (map node_of c.in_ok-states.states.items) c.in_ok-matcher.matcher c.args.start_anchored
     c.args.start_unanchored c.args.start_unanchored (all_states g c) terminator refl)
     c.from_parts.ensures.ok
@@ -35,12 +26,8 @@ returns-clause-err g c =
     rw (all_states g c) at c.from_parts.ensures.err
 
 pub returns-in_err-states-clause-err : goal.returns-in_err-states-clause-err
-returns-in_err-states-clause-err g c = if_err_and c.from_residual.result (λ (e : BuildError). e ≡ OutOfMemory)
-    (λ (e : BuildError). (failure c.args.self.now.states c.args.start_anchored c.args.start_unanchored ≡ Some e)
-    ⊎ (e ≡ OutOfMemory)) (λ e h. inr h) c.from_residual.ensures.1
+returns-in_err-states-clause-err g c = if_err_and c.from_residual.result _ _ (λ e h. inr h) c.from_residual.ensures.1
 
 pub returns-in_err-matcher-clause-err : goal.returns-in_err-matcher-clause-err
 returns-in_err-matcher-clause-err g c = if_err_and c.from_residual-in_err-matcher.result
-    (λ (e : BuildError). e ≡ OutOfMemory)
-    (λ (e : BuildError). (failure c.args.self.now.states c.args.start_anchored c.args.start_unanchored ≡ Some e)
-    ⊎ (e ≡ OutOfMemory)) (λ e h. inr h) c.from_residual-in_err-matcher.ensures.1
+    _ _ (λ e h. inr h) c.from_residual-in_err-matcher.ensures.1

@@ -5,11 +5,9 @@ use Rattle.determinize_nfa.proofs.builder.Builder.build_with_prefix.Goals as goa
 pub returns-in_err-union-clause-err : goal.returns-in_err-union-clause-err
 returns-in_err-union-clause-err g c =
     let count : length c.self.inside.states.items ≡ length c.args.self.now.states
-    = length_is node_of c.self.inside.states.items c.self.inside.patterns c.self.inside.look_matcher
-    c.args.self.now c.self.view_is in
+    = length_is _ _ _ _ _ c.self.view_is in
     let same : c.len-count.result ≡ length c.args.self.now.states = omega (arith, c.len-count.ensures, count) in
-    if_err_and c.from_residual.result (λ (e : BuildError). e ≡ TooManyStates)
-    (λ (e : BuildError). IsUnfit c.args.self.now c.args.start_anchored e)
+    if_err_and c.from_residual.result _ _
     (unfit_too_many c.args.self.now c.args.start_anchored c.len-count.result (omega (arith, same))
     c.in_err-union.ensures.ok)
     c.from_residual.ensures.1
@@ -17,11 +15,9 @@ returns-in_err-union-clause-err g c =
 pub returns-in_err-skip-clause-err : goal.returns-in_err-skip-clause-err
 returns-in_err-skip-clause-err g c =
     let count : length c.self.inside.states.items ≡ length c.args.self.now.states
-    = length_is node_of c.self.inside.states.items c.self.inside.patterns c.self.inside.look_matcher
-    c.args.self.now c.self.view_is in
+    = length_is _ _ _ _ _ c.self.view_is in
     let same : c.len-count.result ≡ length c.args.self.now.states = omega (arith, c.len-count.ensures, count) in
-    if_err_and c.from_residual-in_err-skip.result (λ (e : BuildError). e ≡ TooManyStates)
-    (λ (e : BuildError). IsUnfit c.args.self.now c.args.start_anchored e)
+    if_err_and c.from_residual-in_err-skip.result _ _
     (unfit_too_many c.args.self.now c.args.start_anchored (c.len-count.result + 1) (omega (arith, same))
     c.in_err-skip.ensures.ok)
     c.from_residual-in_err-skip.ensures.1
@@ -29,8 +25,7 @@ returns-in_err-skip-clause-err g c =
 pub returns-then-as_usize-count-clause-err : goal.returns-then-as_usize-count-clause-err
 returns-then-as_usize-count-clause-err g c =
     let count : length c.self.inside.states.items ≡ length c.args.self.now.states
-    = length_is node_of c.self.inside.states.items c.self.inside.patterns c.self.inside.look_matcher
-    c.args.self.now c.self.view_is in
+    = length_is _ _ _ _ _ c.self.view_is in
     inr (inl (inl (refl, omega (arith, c.len-count.ensures, count, c.if-as_usize-count.true, c.as_usize.ensures.value))))
 
 pub returns-in-Some-clause-err : goal.returns-in-Some-clause-err
@@ -38,8 +33,7 @@ returns-in-Some-clause-err g c =
     let states : map node_of c.self.inside.states.items ≡ c.args.self.now.states
     = ap (λ (b : BuilderValue). b.states) c.self.view_is in
     let count : length c.self.inside.states.items ≡ length c.args.self.now.states
-    = length_is node_of c.self.inside.states.items c.self.inside.patterns c.self.inside.look_matcher
-    c.args.self.now c.self.view_is in
+    = length_is _ _ _ _ _ c.self.view_is in
     let union : c.in_ok-union.union ≡ length c.args.self.now.states
     = omega (arith, c.in_ok-union.ensures.ok.1, c.len-count.ensures, count) in
     let skip : c.in_ok-skip.skip ≡ suc (length c.args.self.now.states)
@@ -49,13 +43,11 @@ returns-in-Some-clause-err g c =
     c.args.start_anchored c.in-Some.index c.in-Some.is
 
 pub returns-in_err-states-clause-err : goal.returns-in_err-states-clause-err
-returns-in_err-states-clause-err g c = if_err_and c.from_residual-in_err-states.result
-    (λ (e : BuildError). e ≡ OutOfMemory) (λ (e : BuildError). IsUnfit c.args.self.now c.args.start_anchored e)
+returns-in_err-states-clause-err g c = if_err_and c.from_residual-in_err-states.result _ _
     (λ e h. inr (inr h)) c.from_residual-in_err-states.ensures.1
 
 pub returns-in_err-matcher-clause-err : goal.returns-in_err-matcher-clause-err
-returns-in_err-matcher-clause-err g c = if_err_and c.from_residual-in_err-matcher.result
-    (λ (e : BuildError). e ≡ OutOfMemory) (λ (e : BuildError). IsUnfit c.args.self.now c.args.start_anchored e)
+returns-in_err-matcher-clause-err g c = if_err_and c.from_residual-in_err-matcher.result _ _
     (λ e h. inr (inr h)) c.from_residual-in_err-matcher.ensures.1
 
 made : (g : _) (c : goal.After-from_parts g) → IsMade c.args.self.now c.args.start_anchored
@@ -78,17 +70,7 @@ pub returns-clause-ok : goal.returns-clause-ok
 returns-clause-ok g c =
     let cases = c.in_ok-matcher.ensures.cases in
     let same : c.in_ok-matcher.matcher ≡ c.self.inside.look_matcher = sym cases.3 ∙ cases.4 ∙ cases.2 in
-    IfOk-weaker c.from_parts.result
-    (λ (n : Nfa). n ≡ record {
-      states = map node_of c.in_ok-states.states.items;
-      start_anchored = c.args.start_anchored;
-      start_unanchored = c.in_ok-union.union;
-      reverse = false;
-      terminator = c.in_ok-matcher.matcher;
-      look_set_any = looks_of (map node_of c.in_ok-states.states.items);
-    })
-    (λ (n : Nfa). n ≡ built (prefixed c.args.self.now c.args.start_anchored) c.args.start_anchored
-    (length c.args.self.now.states))
+    IfOk-weaker c.from_parts.result _ _
     (λ n e. made_is c.args.self.now c.args.start_anchored (map node_of c.in_ok-states.states.items) c.in_ok-union.union
     c.self.inside.look_matcher (made g c) n (rw same at e))
     c.from_parts.ensures.ok
@@ -106,10 +88,7 @@ apart g c =
     c.in_ok-skip.skip c.first_to.result states count after c.as_slice.ensures.value c.first_to.ensures none
 
 pub returns-clause-apart : goal.returns-clause-apart
-returns-clause-apart g c = IfOk-weaker c.from_parts.result
-    (λ (n : Nfa). n ≡ built (prefixed c.args.self.now c.args.start_anchored) c.args.start_anchored
-    (length c.args.self.now.states))
-    (λ (n : Nfa). IsApart c.args.self.now)
+returns-clause-apart g c = IfOk-weaker c.from_parts.result _ _
     (λ n e. apart g c)
     (returns-clause-ok g c)
 
@@ -118,31 +97,21 @@ returns-clause-separate g c =
     let count : c.in_ok-union.union ≡ length c.args.self.now.states = (made g c).first in
     let below : c.args.start_anchored < length c.args.self.now.states
     = omega (arith, c.as_usize.ensures.value, c.if-as_usize-count.false, c.in_ok-union.ensures.ok.1, count) in
-    IfOk-weaker c.from_parts.result
-    (λ (n : Nfa). n ≡ built (prefixed c.args.self.now c.args.start_anchored) c.args.start_anchored
-    (length c.args.self.now.states))
-    (λ (n : Nfa). HasPrefixApart n)
+    IfOk-weaker c.from_parts.result _ _
     (λ n e. rw e (has_prefix_apart c.args.self.now c.args.start_anchored below (apart g c)))
     (returns-clause-ok g c)
 
 pub returns-clause-prefix : goal.returns-clause-prefix
-returns-clause-prefix g c = IfOk-weaker c.from_parts.result (λ (n : Nfa). HasPrefixApart n) (λ (n : Nfa). HasPrefix n)
+returns-clause-prefix g c = IfOk-weaker c.from_parts.result _ _
     (λ n a. a.prefix) (returns-clause-separate g c)
 
 pub returns-clause-forward : goal.returns-clause-forward
-returns-clause-forward g c = IfOk-weaker c.from_parts.result
-    (λ (n : Nfa). n ≡ built (prefixed c.args.self.now c.args.start_anchored) c.args.start_anchored
-    (length c.args.self.now.states))
-    (λ (n : Nfa). n.reverse ≡ false)
+returns-clause-forward g c = IfOk-weaker c.from_parts.result _ _
     (λ n e. ap (λ (m : Nfa). m.reverse) e)
     (returns-clause-ok g c)
 
 pub returns-clause-err : goal.returns-clause-err
-returns-clause-err g c = IfErr-weaker c.from_parts.result
-    (λ (e : BuildError).
-    (failure (map node_of c.in_ok-states.states.items) c.args.start_anchored c.in_ok-union.union ≡ Some e)
-    ⊎ (e ≡ OutOfMemory))
-    (λ (e : BuildError). IsUnfit c.args.self.now c.args.start_anchored e)
+returns-clause-err g c = IfErr-weaker c.from_parts.result _ _
     (made_unfit c.args.self.now c.args.start_anchored (map node_of c.in_ok-states.states.items) c.in_ok-union.union
     c.self.inside.look_matcher (made g c))
     c.from_parts.ensures.err

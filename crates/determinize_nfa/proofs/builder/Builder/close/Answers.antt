@@ -6,28 +6,24 @@ use Rattle.determinize_nfa.proofs.builder.Builder.close.Goals as goal
 pub index-requires : goal.index-requires
 index-requires g c =
     let within : c.as_usize-index.result < length c.self.inside.states.items
-    = index_within node_of c.self.inside.states.items c.self.inside.patterns c.self.inside.look_matcher
-    c.args.self.now c.self.view_is c.as_usize-index.result c.args.union c.as_usize-index.ensures.value c.requires in
+    = index_within _ _ _ _ _ c.self.view_is c.as_usize-index.result c.args.union c.as_usize-index.ensures.value c.requires in
     omega (arith, within)
 
 pub index_mut-requires : goal.index_mut-requires
 index_mut-requires g c =
     let within : c.as_usize-index.result < length c.self.inside.states.items
-    = index_within node_of c.self.inside.states.items c.self.inside.patterns c.self.inside.look_matcher
-    c.args.self.now c.self.view_is c.as_usize-index.result c.args.union c.as_usize-index.ensures.value c.requires in
+    = index_within _ _ _ _ _ c.self.view_is c.as_usize-index.result c.args.union c.as_usize-index.ensures.value c.requires in
     omega (arith, within)
 
 pub set_alternates-requires : goal.set_alternates-requires
 set_alternates-requires g c =
-    let same = same_node node_of c.self.inside.states.items c.self.inside.patterns c.self.inside.look_matcher
-    c.args.self.now c.self.view_is c.as_usize-index.result c.args.union c.as_usize-index.ensures.value c.requires
+    let same = same_node _ _ _ _ _ c.self.view_is c.as_usize-index.result c.args.union c.as_usize-index.ensures.value c.requires
     c.index_mut.result.now c.index.result.now c.index_mut.ensures.value c.index.ensures in
     ap is_place same ∙ sym c.is_empty_union.ensures ∙ c.if-not-is_empty_union.false
 
 pub returns-then-not-is_empty_union-clause-err : goal.returns-then-not-is_empty_union-clause-err
 returns-then-not-is_empty_union-clause-err g c =
-    let node = node_is node_of c.self.inside.states.items c.self.inside.patterns c.self.inside.look_matcher
-    c.args.self.now c.self.view_is c.as_usize-index.result c.args.union c.as_usize-index.ensures.value c.requires
+    let node = node_is _ _ _ _ _ c.self.view_is c.as_usize-index.result c.args.union c.as_usize-index.ensures.value c.requires
     c.index.result.now c.index.ensures in
     inl (
       ap is_place (sym node) ∙ sym c.is_empty_union.ensures ∙ c.if-not-is_empty_union.true,
@@ -35,22 +31,18 @@ returns-then-not-is_empty_union-clause-err g c =
     )
 
 pub returns-in_err-alternates-clause-err : goal.returns-in_err-alternates-clause-err
-returns-in_err-alternates-clause-err g c = if_err_and c.from_residual.result
-    (λ (e : BuildError). e ≡ OutOfMemory)
-    (λ (e : BuildError). IsNotSet (is_place (get_or c.args.self.now.states c.args.union Fail)) c.args.union e)
+returns-in_err-alternates-clause-err g c = if_err_and c.from_residual.result _ _
     (λ e h. inr h) c.from_residual.ensures.1
 
 pub returns-clause-place : goal.returns-clause-place
 returns-clause-place g c =
-    let node = node_is node_of c.self.inside.states.items c.self.inside.patterns c.self.inside.look_matcher
-    c.args.self.now c.self.view_is c.as_usize-index.result c.args.union c.as_usize-index.ensures.value c.requires
+    let node = node_is _ _ _ _ _ c.self.view_is c.as_usize-index.result c.args.union c.as_usize-index.ensures.value c.requires
     c.index.result.now c.index.ensures in
     ap is_place (sym node) ∙ sym c.is_empty_union.ensures ∙ c.if-not-is_empty_union.false
 
 pub returns-clause-count : goal.returns-clause-count
 returns-clause-count g c =
-    count_is node_of c.self.inside.states.items c.self.inside.patterns c.self.inside.look_matcher
-    c.args.self.now c.self.view_is c.as_usize-index.result c.set_alternates.new.state
+    count_is _ _ _ _ _ c.self.view_is c.as_usize-index.result c.set_alternates.new.state
 
 pub returns-clause-closed : goal.returns-clause-closed
 returns-clause-closed g c =

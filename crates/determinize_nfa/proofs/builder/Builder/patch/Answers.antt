@@ -7,21 +7,18 @@ use Rattle.determinize_nfa.proofs.builder.Builder.patch.Goals as goal
 pub index-requires : goal.index-requires
 index-requires g c =
     let within : c.as_usize-index.result < length c.self.inside.states.items
-    = index_within node_of c.self.inside.states.items c.self.inside.patterns c.self.inside.look_matcher
-    c.args.self.now c.self.view_is c.as_usize-index.result c.args.from c.as_usize-index.ensures.value c.requires in
+    = index_within _ _ _ _ _ c.self.view_is c.as_usize-index.result c.args.from c.as_usize-index.ensures.value c.requires in
     omega (arith, within)
 
 pub index_mut-requires : goal.index_mut-requires
 index_mut-requires g c =
     let within : c.as_usize-index.result < length c.self.inside.states.items
-    = index_within node_of c.self.inside.states.items c.self.inside.patterns c.self.inside.look_matcher
-    c.args.self.now c.self.view_is c.as_usize-index.result c.args.from c.as_usize-index.ensures.value c.requires in
+    = index_within _ _ _ _ _ c.self.view_is c.as_usize-index.result c.args.from c.as_usize-index.ensures.value c.requires in
     omega (arith, within)
 
 pub returns-then-not-has_target-clause-err : goal.returns-then-not-has_target-clause-err
 returns-then-not-has_target-clause-err g c =
-    let node = node_is node_of c.self.inside.states.items c.self.inside.patterns c.self.inside.look_matcher
-    c.args.self.now c.self.view_is c.as_usize-index.result c.args.from c.as_usize-index.ensures.value c.requires
+    let node = node_is _ _ _ _ _ c.self.view_is c.as_usize-index.result c.args.from c.as_usize-index.ensures.value c.requires
     c.index.result.now c.index.ensures in
     inl (
       ap is_patchable (sym node) ∙ sym c.has_target.ensures ∙ c.if-not-has_target.true,
@@ -30,8 +27,7 @@ returns-then-not-has_target-clause-err g c =
 
 pub returns-clause-patchable : goal.returns-clause-patchable
 returns-clause-patchable g c =
-    let node = node_is node_of c.self.inside.states.items c.self.inside.patterns c.self.inside.look_matcher
-    c.args.self.now c.self.view_is c.as_usize-index.result c.args.from c.as_usize-index.ensures.value c.requires
+    let node = node_is _ _ _ _ _ c.self.view_is c.as_usize-index.result c.args.from c.as_usize-index.ensures.value c.requires
     c.index.result.now c.index.ensures in
     on_ok_weaker c.redirect.result
     (λ n. ap is_patchable (sym node) ∙ sym c.has_target.ensures ∙ c.if-not-has_target.false)
@@ -39,19 +35,16 @@ returns-clause-patchable g c =
 
 pub returns-clause-count : goal.returns-clause-count
 returns-clause-count g c =
-    count_is node_of c.self.inside.states.items c.self.inside.patterns c.self.inside.look_matcher
-    c.args.self.now c.self.view_is c.as_usize-index.result c.redirect.new.state
+    count_is _ _ _ _ _ c.self.view_is c.as_usize-index.result c.redirect.new.state
 
 pub returns-clause-err : goal.returns-clause-err
-returns-clause-err g c = IfErr-weaker c.redirect.result (λ (e : BuildError). e ≡ OutOfMemory)
-    (λ (e : BuildError). IsNotSet (is_patchable (get_or c.args.self.now.states c.args.from Fail)) c.args.from e)
+returns-clause-err g c = IfErr-weaker c.redirect.result _ _
     (λ e h. inr h) c.redirect.ensures.err
 
 pub returns-clause-patched : goal.returns-clause-patched
 returns-clause-patched g c =
     let value : c.as_usize-index.result ≡ c.args.from = c.as_usize-index.ensures.value in
-    let within = index_within node_of c.self.inside.states.items c.self.inside.patterns c.self.inside.look_matcher
-    c.args.self.now c.self.view_is c.as_usize-index.result c.args.from value c.requires in
+    let within = index_within _ _ _ _ _ c.self.view_is c.as_usize-index.result c.args.from value c.requires in
     let there = node_there node_of c.self.inside.states.items c.as_usize-index.result c.index_mut.result.now within
     c.index_mut.ensures.value in
     on_ok_weaker c.redirect.result

@@ -25,8 +25,7 @@ pub returns-in_err-add_arc-clause-err : goal.returns-in_err-add_arc-clause-err
 returns-in_err-add_arc-clause-err g c =
     let room = room_arc c.args.id (node_of c.args.state.now) c.in-Some.arc c.loop-arc.arc-iterator c.next.new.self
     c.args.self.now c.loop-arc.self c.loop-arc.invariant.rest c.in-Some.ensures.steps in
-    if_err_and c.from_residual.result (λ (e : BuildError). e ≡ c.in_err-add_arc.field-0.0)
-    (λ (e : BuildError). IsTooLarge (total (with_node c.args.self.now c.args.id (node_of c.args.state.now))) e)
+    if_err_and c.from_residual.result _ _
     (λ e h. rw h (larger (total (with_arc c.loop-arc.self c.args.id c.in-Some.arc))
     (total (with_node c.args.self.now c.args.id (node_of c.args.state.now))) c.in_err-add_arc.field-0.0 room
     c.in_err-add_arc.ensures.err))

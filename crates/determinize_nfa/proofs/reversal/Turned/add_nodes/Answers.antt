@@ -34,8 +34,7 @@ returns-in_err-add_node-clause-err g c =
     ∙ sym c.id-item.is in
     let room = room_node c.args.nfa.now c.args.ids.now c.loop-id.self c.loop-id.id-index c.id-item.result
     (node_of c.state.result.now) c.requires.distinct c.loop-id.invariant low item c.state.ensures.state in
-    if_err_and c.from_residual-in_err-add_node.result (λ (e : BuildError). e ≡ c.in_err-add_node.field-0.0)
-    (λ (e : BuildError). IsTooLarge (most_states c.args.nfa.now) e)
+    if_err_and c.from_residual-in_err-add_node.result _ _
     (λ e h. rw h (larger (total (with_node c.loop-id.self c.id-item.result (node_of c.state.result.now)))
     (most_states c.args.nfa.now) c.in_err-add_node.field-0.0 room c.in_err-add_node.ensures.err))
     c.from_residual-in_err-add_node.ensures.1
@@ -48,6 +47,5 @@ pub returns-clause-count : goal.returns-clause-count
 returns-clause-count g c = c.loop-id.invariant.count
 
 pub returns-in_err-add-clause-err : goal.returns-in_err-add-clause-err
-returns-in_err-add-clause-err g c = if_err_and c.from_residual.result
-    (λ (e : BuildError). e ≡ c.in_err-add.field-0.0) (λ (e : BuildError). IsTooLarge (most_states c.args.nfa.now) e)
+returns-in_err-add-clause-err g c = if_err_and c.from_residual.result _ _
     (λ e h. inl (h ∙ c.in_err-add.ensures.err)) c.from_residual.ensures.1

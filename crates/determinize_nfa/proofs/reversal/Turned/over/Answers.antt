@@ -13,17 +13,13 @@ returns-clause-ok g c = record {
 }
 
 pub returns-in_err-found-clause-err : goal.returns-in_err-found-clause-err
-returns-in_err-found-clause-err g c = if_err_and c.from_residual.result
-    (λ (e : BuildError). e ≡ OutOfMemory) (λ (e : BuildError). IsTooLarge (most_states c.args.nfa.now) e)
+returns-in_err-found-clause-err g c = if_err_and c.from_residual.result _ _
     (λ e h. inl h) c.from_residual.ensures.1
 
 pub returns-in_err-turned-clause-err : goal.returns-in_err-turned-clause-err
-returns-in_err-turned-clause-err g c = if_err_and c.from_residual-in_err-turned.result
-    (λ (e : BuildError). e ≡ OutOfMemory) (λ (e : BuildError). IsTooLarge (most_states c.args.nfa.now) e)
+returns-in_err-turned-clause-err g c = if_err_and c.from_residual-in_err-turned.result _ _
     (λ e h. inl h) c.from_residual-in_err-turned.ensures.1
 
 pub returns-in_err-add_nodes-clause-err : goal.returns-in_err-add_nodes-clause-err
-returns-in_err-add_nodes-clause-err g c = if_err_and c.from_residual-in_err-add_nodes.result
-    (λ (e : BuildError). e ≡ c.in_err-add_nodes.field-0.0)
-    (λ (e : BuildError). IsTooLarge (most_states c.args.nfa.now) e)
+returns-in_err-add_nodes-clause-err g c = if_err_and c.from_residual-in_err-add_nodes.result _ _
     (λ e h. rw h c.in_err-add_nodes.ensures.err) c.from_residual-in_err-add_nodes.ensures.1
