@@ -1,7 +1,9 @@
 //! A search for the leftmost match that owns its NFAs.
 
-ghost use Rattle.std.specs.Prelude.{◌≡◌, IfErr, IfOk, false};
+ghost use Rattle.std.specs.Prelude.{◌≡◌, ◌+◌, ◌≤◌, IfErr, IfOk, false, length};
+ghost use Rattle.determinize_below.specs.Edges.{pattern_count};
 ghost use Rattle.determinize_below.specs.Nfa.{IsAccepted};
+ghost use Rattle.determinize_lazy.specs.MostBytes.{most_bytes};
 ghost use Rattle.determinize_nfa.specs.Prefix.{HasPrefix};
 ghost use Rattle.determinize_nfa.specs.Reversal.{IsReverseOf, IsTooLarge, most_states};
 
@@ -25,11 +27,11 @@ impl<A: Allocator + Copy> OwnedRegex<A, A> {
     pub fn from_nfa(alloc: A, nfa: NFA<A>, limit: usize) -> Result<OwnedRegex<A, A>, BuildError>
         requires forward { nfa.reverse ≡ false }
         requires prefix { HasPrefix nfa }
-        ensures value { IfOk result (λ regex. regex ≡ record {
-          nfa = nfa;
-          limit = limit;
-          limit_backward = limit;
-        }) }
+        ensures nfa { IfOk result (λ regex. regex.nfa ≡ nfa) }
+        ensures limit { IfOk result (λ regex. regex.limit ≡ limit) }
+        ensures limit_backward { IfOk result (λ regex. regex.limit_backward ≡ limit) }
+        ensures size { IfOk result (λ regex. length regex.backward.states ≤ most_states nfa) }
+        ensures pattern { IfOk result (λ regex. pattern_count regex.backward ≡ 1) }
         ensures err { IfErr result (λ e. IsTooLarge (most_states nfa) e) }
     {
         let backward = reversed(alloc, &nfa)?;
@@ -52,9 +54,20 @@ impl<N: Allocator, A: Allocator + Copy> OwnedRegex<N, A> {
 
     /// Returns the reverse of the NFA.
     pub fn reverse(&self) -> &NFA<N>
-        ensures { IsReverseOf result.now self.now.nfa }
+        ensures value { result.now ≡ self.now.backward }
+        ensures reverse { IsReverseOf result.now self.now.nfa }
     {
         self.backward.nfa()
+    }
+
+    /// Returns the heap memory that both caches use now, in bytes: the sum of what `forward` and
+    /// `backward` use.
+    pub fn memory_usage(&self) -> usize
+        ensures { result ≤ most_bytes self.now.limit self.now.nfa
+            + most_bytes self.now.limit_backward self.now.backward }
+    {
+        let forward = self.forward.memory_usage();
+        forward.saturating_add(self.backward.memory_usage())
     }
 
     /// Clears both caches.

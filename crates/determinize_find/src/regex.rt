@@ -51,6 +51,7 @@ impl<F: Engine, B: Engine<Error = F::Error>> Model for Regex<F, B> {
 
     ghost view = { λ r. record {
       nfa = (F.engine r.forward).nfa;
+      backward = (B.engine r.backward).nfa;
       limit = (F.engine r.forward).limit;
       limit_backward = (B.engine r.backward).limit;
     } };
@@ -92,6 +93,7 @@ impl<F: Engine, B: Engine<Error = F::Error>> Regex<F, B> {
         requires reverse { IsReverseOf (B.engine backward).nfa (F.engine forward).nfa }
         ensures { result ≡ record {
           nfa = (F.engine forward).nfa;
+          backward = (B.engine backward).nfa;
           limit = (F.engine forward).limit;
           limit_backward = (B.engine backward).limit;
         } }
@@ -116,6 +118,7 @@ impl<F: Engine, B: Engine<Error = F::Error>> Regex<F, B> {
 
     /// Returns the DFA that reads backward and finds the starts of matches.
     pub fn backward(&self) -> &B
+        ensures nfa { (B.engine result.now).nfa ≡ self.now.backward }
         ensures reverse { IsReverseOf (B.engine result.now).nfa self.now.nfa }
         ensures kind { (B.engine result.now).kind ≡ kinds.All }
         ensures limit { (B.engine result.now).limit ≡ self.now.limit_backward }
@@ -130,6 +133,7 @@ impl<F: Engine, B: Engine<Error = F::Error>> Regex<F, B> {
         ensures prefix { HasPrefix self.nfa }
         ensures kind { (F.engine result.0).kind ≡ kinds.LeftmostFirst }
         ensures limit { (F.engine result.0).limit ≡ self.limit }
+        ensures nfa_backward { (B.engine result.1).nfa ≡ self.backward }
         ensures reverse { IsReverseOf (B.engine result.1).nfa self.nfa }
         ensures kind_backward { (B.engine result.1).kind ≡ kinds.All }
         ensures limit_backward { (B.engine result.1).limit ≡ self.limit_backward }
@@ -294,7 +298,12 @@ impl<'n, N: Allocator, B: Allocator, A: Allocator + Copy> LazyRegex<'n, N, B, A>
         requires forward { nfa.now.reverse ≡ false }
         requires prefix { HasPrefix nfa.now }
         requires reverse { IsReverseOf backward.now nfa.now }
-        ensures { result ≡ record { nfa = nfa.now; limit = limit; limit_backward = limit } }
+        ensures { result ≡ record {
+          nfa = nfa.now;
+          backward = backward.now;
+          limit = limit;
+          limit_backward = limit;
+        } }
     {
         Regex {
             forward: Lazy::new(alloc, nfa, MatchKind::LeftmostFirst, limit),

@@ -1,0 +1,10 @@
+use Rattle.std.proofs.Common.{ap, length, rules, sym, ◌∙◌, ◌≡◌}
+use Rattle.std.proofs.lemmas.List.Sums.{length-filter}
+use Rattle.determinize_below.specs.Edges.{is_match_node}
+use Rattle.determinize_find.proofs.owned.OwnedRegex+A+A.from_nfa.Goals as goal
+
+pub returns-clause-pattern : goal.returns-clause-pattern
+returns-clause-pattern g c =
+    let same : c.from_engines.result.backward ≡ c.in_ok-backward.backward = search rules in
+    rw same (sym (length-filter is_match_node c.in_ok-backward.backward.states)
+    ∙ ap length c.in_ok-backward.ensures.pattern)
