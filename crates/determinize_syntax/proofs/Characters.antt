@@ -35,7 +35,8 @@ char_class_of s t re h same m text i j = (
   λ x. (h m text i j).1 (char_from t s text.bytes i j (λ c is. sym (same c is)) x),
 )
 
-pub one_of_same : (u : Bool) (s t : Set) (re : Re) → IsOneOf u s re → ((c : ℕ) → c < 0x11_0000 → s c ≡ t c) → IsOneOf u t re
+pub one_of_same : (u : Bool) (s t : Set) (re : Re) → IsOneOf u s re → ((c : ℕ) → c < 0x11_0000 → s c ≡ t c)
+    → IsOneOf u t re
 one_of_same false s t re h same = class_of s t re h (λ b small. same b (omega arith))
 one_of_same true s t re h same = char_class_of s t re h (λ c is. same c (scalar_small c is))
 
@@ -44,7 +45,8 @@ turned_same : (n : Bool) (f : Flags) (r s : Set) → ((c : ℕ) → c < 0x11_000
 turned_same n f r s h c small = ap (λ x. cond n (not x) x) (folded_same 0x11_0000 f r s (omega arith) h c small)
 
 -- the pattern of ranges is one of the set that they have
-pub one_of_listed : (f : Flags) (n : Bool) (s : Set) (ranges : List ClassUnicodeRange) (re : Re) → HasChars s (char_pairs ranges)
+pub one_of_listed : (f : Flags) (n : Bool) (s : Set) (ranges : List ClassUnicodeRange) (re : Re)
+    → HasChars s (char_pairs ranges)
     → IsOneOf f.unicode (turned n (folded f (has_char ranges))) re → IsOneOf f.unicode (turned n (folded f s)) re
 one_of_listed f n s ranges re has h =
     one_of_same f.unicode (turned n (folded f (has_char ranges))) (turned n (folded f s)) re h
@@ -109,7 +111,8 @@ class_added true s class old mid new has high added e c small =
       wide_or true = refl
       wide_or false = refl
 
-      low : nat_lt c 128 ≡ true → ((is_in old (Some c) || (nat_lt c 128 && is_in class (Some c))) || (within 128 0x10_FFFF c || false))
+      low : nat_lt c 128 ≡ true → ((is_in old (Some c) || (nat_lt c 128 && is_in class (Some c)))
+          || (within 128 0x10_FFFF c || false))
           ≡ (is_in old (Some c) || not (s c))
       low l =
           let below : c < 128 = ltb-true c 128 l in
@@ -117,7 +120,8 @@ class_added true s class old mid new has high added e c small =
           let in_class : is_in class (Some c) ≡ not (s c) = has c (omega arith) in
           rw (l, out, in_class) (low_or (is_in old (Some c)) (not (s c)))
 
-      wide : nat_lt c 128 ≡ false → ((is_in old (Some c) || (nat_lt c 128 && is_in class (Some c))) || (within 128 0x10_FFFF c || false))
+      wide : nat_lt c 128 ≡ false → ((is_in old (Some c) || (nat_lt c 128 && is_in class (Some c)))
+          || (within 128 0x10_FFFF c || false))
           ≡ (is_in old (Some c) || not (s c))
       wide l =
           let above : 128 ≤ c = ltb-false c 128 l in
@@ -131,7 +135,8 @@ IsAdding listed rest s = (c : ℕ) → (is_in listed (Some c) || (nat_lt c 128 &
 pub all_added : (listed : List (ℕ × ℕ)) (rest : List ClassBytesRange) (s : Set) → IsAdding listed rest s → rest ≡ []
     → (c : ℕ) → is_in listed (Some c) ≡ s c
 all_added listed rest s h e c =
-    sym (ap (λ l. is_in listed (Some c) || (nat_lt c 128 && has l c)) e ∙ none (is_in listed (Some c)) (nat_lt c 128)) ∙ h c where
+    sym (ap (λ l. is_in listed (Some c) || (nat_lt c 128 && has l c)) e ∙ none (is_in listed (Some c)) (nat_lt c 128))
+    ∙ h c where
       none : (x l : Bool) → (x || (l && false)) ≡ x
       none true l = refl
       none false true = refl

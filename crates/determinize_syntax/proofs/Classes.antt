@@ -27,10 +27,11 @@ in_some (r ∷ rs) b = ap (λ x. within r.start r.end b || x) (in_some rs b)
 
 pub has_more : (ranges more : List ClassBytesRange) (b : ℕ) → has (ranges ++ more) b ≡ (has ranges b || has more b)
 has_more [] more b = refl
-has_more (r ∷ rs) more b = ap (λ x. within r.start r.end b || x) (has_more rs more b) ∙ assoc (within r.start r.end b) _ _ where
-  assoc : (x y z : Bool) → (x || (y || z)) ≡ ((x || y) || z)
-  assoc true y z = refl
-  assoc false y z = refl
+has_more (r ∷ rs) more b = ap (λ x. within r.start r.end b || x) (has_more rs more b)
+    ∙ assoc (within r.start r.end b) _ _ where
+      assoc : (x y z : Bool) → (x || (y || z)) ≡ ((x || y) || z)
+      assoc true y z = refl
+      assoc false y z = refl
 
 nat_eq_cases : (b i : ℕ) → (b ≡ i) ⊎ (b ≡ i → ⊥)
 nat_eq_cases b i = by_test (nat_eq b i) refl where
@@ -78,5 +79,7 @@ folded_same n f r s l h b small = both f.case_insensitive where
   both false = h b small
 
 pub kind_class : (f : Flags) (n : Bool) (s : Set) (ranges : List ClassBytesRange) (class : List (ℕ × ℕ))
-    → HasBytes s (pairs ranges) → HasBytes (turned n (folded f (has ranges))) class → HasBytes (turned n (folded f s)) class
-kind_class f n s ranges class h k b small = k b small ∙ ap (λ x. cond n (not x) x) (folded_same 256 f (has ranges) s (omega arith) h b small)
+    → HasBytes s (pairs ranges) → HasBytes (turned n (folded f (has ranges))) class
+    → HasBytes (turned n (folded f s)) class
+kind_class f n s ranges class h k b small = k b small
+    ∙ ap (λ x. cond n (not x) x) (folded_same 256 f (has ranges) s (omega arith) h b small)

@@ -41,7 +41,8 @@ number_begins radix n (d ∷ w) e =
 no_smaller : (v : ℕ) (t : Bytes) → v ≤ number_after 10 v t
 no_smaller v [] = omega arith
 no_smaller v (d ∷ t) =
-    let more : v * 10 + digit_value d ≤ number_after 10 (v * 10 + digit_value d) t = no_smaller (v * 10 + digit_value d) t in
+    let more : v * 10 + digit_value d ≤ number_after 10 (v * 10 + digit_value d) t =
+    no_smaller (v * 10 + digit_value d) t in
     omega arith
 
 pub count_begun : {a b u : Bytes} (n m : ℕ) → Part a b (IsDigit m) → Part a u (IsCount n) → Left 10 m n u b
@@ -66,8 +67,10 @@ next_digit {a} {b} {u} v n m (t, e, x) past h = next t e x where
       absurd (cc)
   next (d ∷ w) e x =
       let same : h.2.0 ∷ b ≡ d ∷ (w ++ u) = sym begins ∙ e in
-      let value : digit_value d ≡ m = ap digit_value (sym (heads h.2.0 d b (w ++ u) same)) ∙ value_of h.2.0 h.2.2 ∙ sym h.2.3 in
-      let all : (is_digit d 10 ≡ true) × AreDigits 10 w = both_true (is_digit d 10) (list_all (λ y. is_digit y 10) w) x.0 in
+      let value : digit_value d ≡ m = ap digit_value (sym (heads h.2.0 d b (w ++ u) same)) ∙ value_of h.2.0 h.2.2
+      ∙ sym h.2.3 in
+      let all : (is_digit d 10 ≡ true) × AreDigits 10 w =
+      both_true (is_digit d 10) (list_all (λ y. is_digit y 10) w) x.0 in
       (w, tails h.2.0 d b (w ++ u) same, (all.1, ap (λ y. number_after 10 (v * 10 + y) w) (sym value) ∙ x.1))
 
 pub count_more : {a b u : Bytes} (v n m w : ℕ) → Left 10 v n u a → IsPastDigits u → Part a b (IsDigit m)
@@ -86,7 +89,8 @@ count_ended {a} {u} v n (t, e, x) past = ended t e x where
   ended [] e x = (x.1, e)
   ended (d ∷ w) e x =
       let never : is_ascii_digit d ≡ false = past d (ap (λ l. slice_get l 0) e) in
-      let yes : is_ascii_digit d ≡ true = decimal d (both_true (is_digit d 10) (list_all (λ y. is_digit y 10) w) x.0).0 in
+      let yes : is_ascii_digit d ≡ true = decimal d
+      (both_true (is_digit d 10) (list_all (λ y. is_digit y 10) w) x.0).0 in
       absurd (cc)
 
 -- a count begins with a digit
@@ -108,7 +112,8 @@ AfterFirst n u x = (x ≡ 0x7D ∷ u) ⊎ ((x ≡ 0x2C ∷ 0x7D ∷ u)
 abbrev pub First : Bytes → Bytes → Type 0
 First u a = (n : ℕ) × (x : Bytes) × Part a x (IsCount n) × IsPastDigits x × AfterFirst n u x
 
-split : (min : ℕ) (max : Option ℕ) (x : Bytes) → Operator min max x → (t a u : Bytes) → x ≡ 0x7B ∷ t → a ≡ t ++ u → First u a
+split : (min : ℕ) (max : Option ℕ) (x : Bytes) → Operator min max x → (t a u : Bytes) → x ≡ 0x7B ∷ t → a ≡ t ++ u
+    → First u a
 split _ _ x s.star t a u e r = differ 0x2A 0x7B [] t e refl
 split _ _ x s.plus t a u e r = differ 0x2B 0x7B [] t e refl
 split _ _ x s.query t a u e r = differ 0x3F 0x7B [] t e refl
@@ -164,7 +169,8 @@ at_least_passed n u x y r (inl e) comma brace =
 at_least_passed n u x y r (inr (inl e)) comma brace =
     sym (tails 0x7D 0x7D u r (tails 0x2C 0x2C (0x7D ∷ u) y (sym e ∙ comma) ∙ brace))
 at_least_passed n u x y r (inr (inr h)) comma brace =
-    count_begins h.0 h.3 (subst IsPastDigits (sym (tails 0x2C 0x2C h.1 y (sym h.2 ∙ comma) ∙ brace)) (past_sign 0x7D r refl))
+    count_begins h.0 h.3 (subst IsPastDigits (sym (tails 0x2C 0x2C h.1 y (sym h.2 ∙ comma) ∙ brace))
+    (past_sign 0x7D r refl))
 
 -- a second count after the comma
 pub second_count : (n : ℕ) (u x y : Bytes) → AfterFirst n u x → x ≡ 0x2C ∷ y → (slice_get y 0 ≡ Some 0x7D → ⊥)

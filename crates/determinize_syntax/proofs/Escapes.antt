@@ -89,7 +89,8 @@ past_boundary k f b t h w e =
     let d = number_begins 10 y.0 y.2.0 y.2.2.0 in
     (d.0, d.1 ++ y.1, y.2.1 ∙ ap (λ l. l ++ y.1) d.2, decimal d.0 d.3)
 
-pub may_precede : (k : List Flags) (f : Flags) (b : Bool) (t : Bytes) (e : Escape) → FromOperator k f b t → MayPrecede e t
+pub may_precede : (k : List Flags) (f : Flags) (b : Bool) (t : Bytes) (e : Escape) → FromOperator k f b t
+    → MayPrecede e t
 may_precede k f b t (escape.Byte c) h = tt
 may_precede k f b t (escape.Wide c) h = tt
 may_precede k f b t (escape.Class kind negated) h = tt
@@ -120,7 +121,8 @@ same_available f (escape.Class j m) (escape.Look l) same h = absurd same
 same_available f (escape.Look a) (escape.Byte b) same h = absurd same
 same_available f (escape.Look a) (escape.Wide b) same h = absurd same
 same_available f (escape.Look a) (escape.Class k n) same h = absurd same
-same_available f (escape.Look a) (escape.Look b) same h = subst (λ l. (not f.unicode || is_text_end l) ≡ true) (sym same) h
+same_available f (escape.Look a) (escape.Look b) same h =
+    subst (λ l. (not f.unicode || is_text_end l) ≡ true) (sym same) h
 
 -- a literal character, and what follows
 abbrev pub AtLiteral : List Flags → Flags → Bytes → Type 0
@@ -131,10 +133,12 @@ pub literal_here : (k : List Flags) (f : Flags) (t : Bytes) → FromAtom k f t
     → ((c : ℕ) → slice_get t 0 ≡ Some c → (c ∈ "(^$.\\[") ≡ false) → AtLiteral k f t
 literal_here k f t (to.group _ _ g v w is h) other = let never : true ≡ false = other 0x28 refl in absurd (cc)
 literal_here k f t (to.single _ _ v w is h) other = one v is other where
-  one : (v : Bytes) → Single f v → ((c : ℕ) → slice_get (v ++ w) 0 ≡ Some c → (c ∈ "(^$.\\[") ≡ false) → AtLiteral k f (v ++ w)
+  one : (v : Bytes) → Single f v → ((c : ℕ) → slice_get (v ++ w) 0 ≡ Some c → (c ∈ "(^$.\\[") ≡ false)
+      → AtLiteral k f (v ++ w)
   one v (to.plain c is cases) other = inl (c, w, refl, (both_true (is_ascii c) (not (c ∈ "\\.+*?()|[{^$")) is).0, h)
   one v (to.character c _ is cases) other = of_wide v is other where
-    of_wide : (v : Bytes) → Wide c v → ((d : ℕ) → slice_get (v ++ w) 0 ≡ Some d → (d ∈ "(^$.\\[") ≡ false) → AtLiteral k f (v ++ w)
+    of_wide : (v : Bytes) → Wide c v → ((d : ℕ) → slice_get (v ++ w) 0 ≡ Some d → (d ∈ "(^$.\\[") ≡ false)
+        → AtLiteral k f (v ++ w)
     of_wide v (s.itself _ wide) other = inr (c, w, refl, wide, h)
     of_wide v (s.by_number _ u is wide) other = let never : true ≡ false = other 0x5C refl in absurd (cc)
   one v (to.sign c is) other =

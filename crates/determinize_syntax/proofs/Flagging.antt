@@ -9,7 +9,7 @@ use Rattle.std.proofs.lemmas.List.{append_assoc}
 use Rattle.std.proofs.lemmas.Bool.{eqb-true}
 use Rattle.ordered_reach.proofs.Cases.{by_cases, by_test, some_injective}
 use Rattle.determinize_syntax.specs.Private.Following as to
-use Rattle.determinize_syntax.specs.Private.Following.{Enters, FromAtom, FromItem, IsAfterLetters, IsStop}
+use Rattle.determinize_syntax.specs.Private.Following.{Enters, FromAtom, FromItem, IsAfterLetters, IsBranchEnd}
 use Rattle.determinize_syntax.specs.Private.Letters as letters
 use Rattle.determinize_syntax.specs.Private.Letters.{Letters}
 use Rattle.determinize_syntax.specs.Spells.{Bytes, Sets}
@@ -29,7 +29,8 @@ is_letter f c on h e =
     (λ t5. by_test (c ∈ "u") (λ t. within (λ y. y ∈ "imsURu") (codes "u") c t refl)
     (λ t6. let never : None ≡ Some h = simp (t1, t2, t3, t4, t5, t6) at e in absurd (cc)))))))
 
-no_letter : {A : Type 0} (f : Flags) (c : ℕ) (on : Bool) (h : Flags) → set_flag f c on ≡ Some h → (c ∈ ":)<=!P-") ≡ true → A
+no_letter : {A : Type 0} (f : Flags) (c : ℕ) (on : Bool) (h : Flags) → set_flag f c on ≡ Some h → (c ∈ ":)<=!P-") ≡ true
+    → A
 no_letter f c on h e sign =
     let never : true ≡ false = sym sign ∙ apart (λ y. y ∈ "imsURu") (codes ":)<=!P-") c (is_letter f c on h e) refl in
     absurd (cc)
@@ -37,7 +38,8 @@ no_letter f c on h e sign =
 -- the next letter, with what follows
 abbrev pub AtLetter : Flags → Bytes → Bytes → Bool → Flags → Bytes → Type 0
 AtLetter g u seen on f t =
-    ((c : ℕ) × (h : Flags) × (w : Bytes) × (t ≡ c ∷ w) × (list_any (λ d. d == c) seen ≡ false) × (set_flag f c on ≡ Some h)
+    ((c : ℕ) × (h : Flags) × (w : Bytes) × (t ≡ c ∷ w) × (list_any (λ d. d == c) seen ≡ false)
+    × (set_flag f c on ≡ Some h)
     × Letters g u (seen ++ c ∷ []) on h w)
     ⊎ ((c : ℕ) × (h : Flags) × (w : Bytes) × (t ≡ 0x2D ∷ c ∷ w) × (on ≡ true) × (list_any (λ d. d == c) seen ≡ false)
     × (set_flag f c false ≡ Some h) × Letters g u (seen ++ 0x2D ∷ c ∷ []) false h w)
@@ -53,27 +55,31 @@ pub letters_end : (g : Flags) (u seen : Bytes) (on : Bool) (f : Flags) (t : Byte
     → IsAfterLetters t → (f ≡ g) × (t ≡ u)
 letters_end g u seen on f t (letters.no_letter _ _) after = (refl, refl)
 letters_end g u seen on f t (letters.flag _ _ _ h c w new set more) after =
-    no_letter f c on h set (signs c (subst (λ x. (x ∈ ":)") ≡ true) (sym (heads c after.0 w after.1 after.2)) after.3)) where
-      signs : (c : ℕ) → (c ∈ ":)") ≡ true → (c ∈ ":)<=!P-") ≡ true
-      signs c x = within (λ y. y ∈ ":)<=!P-") (codes ":)") c x refl
+    no_letter f c on h set (signs c (subst (λ x. (x ∈ ":)") ≡ true) (sym (heads c after.0 w after.1 after.2)) after.3))
+  where
+    signs : (c : ℕ) → (c ∈ ":)") ≡ true → (c ∈ ":)<=!P-") ≡ true
+    signs c x = within (λ y. y ∈ ":)<=!P-") (codes ":)") c x refl
 letters_end g u seen on f t (letters.cleared _ _ h c w new set more) after =
     unlisted 0x2D after.0 (c ∷ w) after.1 (codes ":)") after.2 after.3 refl
 
 -- the first letter is none of the signs
-pub first_letter : {A : Type 0} (f g : Flags) (on : Bool) (c : ℕ) (n : Bytes) → Sets f on g (c ∷ n) → (c ∈ ":)<=!P") ≡ true → A
+pub first_letter : {A : Type 0} (f g : Flags) (on : Bool) (c : ℕ) (n : Bytes) → Sets f on g (c ∷ n)
+    → (c ∈ ":)<=!P") ≡ true → A
 first_letter {A = A} f g on c n sets sign =
-    by_sum (letters_next g [] [] true f ((c ∷ n) ++ []) (letters_follow f on g (c ∷ n) [] sets) (λ e. absurd (cc))) where
-      by_sum : AtLetter g [] [] true f ((c ∷ n) ++ []) → A
-      by_sum (inl x) = no_letter f x.0 true x.1 x.5
-          (subst (λ d. (d ∈ ":)<=!P-") ≡ true) (heads c x.0 (n ++ []) x.2 x.3) (signs c sign)) where
-            signs : (c : ℕ) → (c ∈ ":)<=!P") ≡ true → (c ∈ ":)<=!P-") ≡ true
-            signs c x = within (λ y. y ∈ ":)<=!P-") (codes ":)<=!P") c x refl
-      by_sum (inr x) =
-          unlisted 0x2D c (x.0 ∷ x.2) (n ++ []) (codes ":)<=!P") (sym x.3) sign refl
+    by_sum (letters_next g [] [] true f ((c ∷ n) ++ []) (letters_follow f on g (c ∷ n) [] sets) (λ e. absurd (cc)))
+  where
+    by_sum : AtLetter g [] [] true f ((c ∷ n) ++ []) → A
+    by_sum (inl x) = no_letter f x.0 true x.1 x.5
+        (subst (λ d. (d ∈ ":)<=!P-") ≡ true) (heads c x.0 (n ++ []) x.2 x.3) (signs c sign)) where
+          signs : (c : ℕ) → (c ∈ ":)<=!P") ≡ true → (c ∈ ":)<=!P-") ≡ true
+          signs c x = within (λ y. y ∈ ":)<=!P-") (codes ":)<=!P") c x refl
+    by_sum (inr x) =
+        unlisted 0x2D c (x.0 ∷ x.2) (n ++ []) (codes ":)<=!P") (sym x.3) sign refl
 
 -- a setting of flags, after its `(?`, with what follows
 abbrev pub AtSetting : List Flags → Flags → Bytes → Type 0
-AtSetting k f r = (g : Flags) × (on : Bool) × (c : ℕ) × (n w : Bytes) × (r ≡ (c ∷ n) ++ (0x29 ∷ w)) × Sets f on g (c ∷ n)
+AtSetting k f r = (g : Flags) × (on : Bool) × (c : ℕ) × (n w : Bytes) × (r ≡ (c ∷ n) ++ (0x29 ∷ w))
+    × Sets f on g (c ∷ n)
     × FromItem k g w
 
 pub next_setting : (k : List Flags) (f : Flags) (t : Bytes) → FromItem k f t → (r : Bytes) → t ≡ 0x28 ∷ 0x3F ∷ r
@@ -87,7 +93,7 @@ next_setting k f t (to.atom _ _ _ h) r e = inr h
 
 -- without `(?` there is no setting
 pub no_setting : (k : List Flags) (f : Flags) (t : Bytes) → FromItem k f t → ((r : Bytes) → t ≡ 0x28 ∷ 0x3F ∷ r → ⊥)
-    → IsStop t ⊎ FromAtom k f t
+    → IsBranchEnd t ⊎ FromAtom k f t
 no_setting k f t (to.ended _) other = inl (inl (inl refl))
 no_setting k f t (to.bar _ _ w h) other = inl (inr (w, refl))
 no_setting k f t (to.closed j _ _ w h) other = inl (inl (inr (w, refl)))
@@ -111,7 +117,8 @@ entered k f g v (to.named_p n is) w h r e =
 entered k f g v (to.group _ on n sets) w h r e =
     inr (inr (g, on, n, w, tails 0x3F 0x3F r _ e ∙ append_assoc n (codes ":") w, sets, h))
 
-pub opening_next : (k : List Flags) (f : Flags) (t : Bytes) → FromAtom k f t → (r : Bytes) → t ≡ 0x28 ∷ 0x3F ∷ r → AtOpening k f r
+pub opening_next : (k : List Flags) (f : Flags) (t : Bytes) → FromAtom k f t → (r : Bytes) → t ≡ 0x28 ∷ 0x3F ∷ r
+    → AtOpening k f r
 opening_next k f t h r e =
     let x : Opened k f (0x3F ∷ r) = opened k f t h (0x3F ∷ r) e in
     entered k f x.0 x.1 x.4 x.2 x.5 r x.3
@@ -143,7 +150,8 @@ one_letter g u seen on f t (inr x) other = absurd (other (ap (λ l. slice_get l 
 -- the letter after a hyphen
 abbrev pub OneCleared : Flags → Bytes → Bytes → Bool → Flags → Bytes → Type 0
 OneCleared g u seen on f r = (c : ℕ) × (h : Flags) × (w : Bytes) × (r ≡ c ∷ w) × (on ≡ true)
-    × (list_any (λ d. d == c) seen ≡ false) × (set_flag f c false ≡ Some h) × Letters g u (seen ++ 0x2D ∷ c ∷ []) false h w
+    × (list_any (λ d. d == c) seen ≡ false) × (set_flag f c false ≡ Some h)
+    × Letters g u (seen ++ 0x2D ∷ c ∷ []) false h w
 
 pub one_cleared : (g : Flags) (u seen : Bytes) (on : Bool) (f : Flags) (t r : Bytes) → AtLetter g u seen on f t
     → t ≡ 0x2D ∷ r → OneCleared g u seen on f r
@@ -189,7 +197,8 @@ opening_flags k f r (inr (inl x)) other p = absurd (p (x.0 ++ 0x3E ∷ x.1) x.2)
 opening_flags k f r (inr (inr x)) other p = x
 
 -- what looks ahead or behind opens nothing
-pub opening_sign : {A : Type 0} (k : List Flags) (f : Flags) (r : Bytes) → AtOpening k f r → (d : ℕ) (q : Bytes) → r ≡ d ∷ q
+pub opening_sign : {A : Type 0} (k : List Flags) (f : Flags) (r : Bytes) → AtOpening k f r → (d : ℕ) (q : Bytes)
+    → r ≡ d ∷ q
     → (d ∈ "=!)") ≡ true → A
 opening_sign k f r (inl x) d q e sign = unlisted 0x3C d _ q (codes "=!)") (sym x.2 ∙ e) sign refl
 opening_sign k f r (inr (inl x)) d q e sign = unlisted 0x50 d _ q (codes "=!)") (sym x.2 ∙ e) sign refl
@@ -204,7 +213,8 @@ after_here (x ∷ w) b e is = (
   w,
   refl,
   subst (λ y. (y ∈ ":)") ≡ true) (sym (some_injective x b e))
-      (by_cases is (λ h. subst (λ y. (y ∈ ":)") ≡ true) (sym h) refl) (λ h. subst (λ y. (y ∈ ":)") ≡ true) (sym h) refl)),
+      (by_cases is (λ h. subst (λ y. (y ∈ ":)") ≡ true) (sym h) refl)
+      (λ h. subst (λ y. (y ∈ ":)") ≡ true) (sym h) refl)),
 )
 
 -- another byte is next
@@ -213,12 +223,15 @@ not_after t b e other h =
     let same : h.0 ≡ b = some_injective h.0 b (ap (λ l. slice_get l 0) (sym h.2) ∙ e) in
     other (by_test (0x3A == h.0) (λ i. inr (sym same ∙ sym (eqb-true 0x3A h.0 i)))
     (λ i. by_test (0x29 == h.0) (λ j. inl (sym same ∙ sym (eqb-true 0x29 h.0 j)))
-    (λ j. let never : false ≡ true = sym (ap (λ x. x || ((0x29 == h.0) || false)) i ∙ ap (λ x. x || false) j) ∙ h.3 in absurd (cc))))
+    (λ j. let never : false ≡ true = sym (ap (λ x. x || ((0x29 == h.0) || false)) i ∙ ap (λ x. x || false) j) ∙ h.3 in
+    absurd (cc))))
 
 -- letters do not end with the text
-pub letters_none : {A : Type 0} (g : Flags) (u seen : Bytes) (on : Bool) (f : Flags) (t : Bytes) → Letters g u seen on f t
+pub letters_none : {A : Type 0} (g : Flags) (u seen : Bytes) (on : Bool) (f : Flags) (t : Bytes)
+    → Letters g u seen on f t
     → t ≡ [] → IsAfterLetters u → A
-letters_none g u seen on f t (letters.no_letter _ _) e after = let never : [] ≡ after.0 ∷ after.1 = sym e ∙ after.2 in absurd (cc)
+letters_none g u seen on f t (letters.no_letter _ _) e after = let never : [] ≡ after.0 ∷ after.1 = sym e ∙ after.2 in
+    absurd (cc)
 letters_none g u seen on f t (letters.flag _ _ _ h c w new set more) e after = absurd (cc)
 letters_none g u seen on f t (letters.cleared _ _ h c w new set more) e after = absurd (cc)
 
@@ -251,10 +264,22 @@ SetOrGroup k f t r = ((g : Flags) × (w : Bytes) × Letters g (0x29 ∷ w) [] tr
 pub set_or_group : (k : List Flags) (f : Flags) (t r : Bytes) → AtSetting k f r ⊎ FromAtom k f t → t ≡ 0x28 ∷ 0x3F ∷ r
     → (slice_get r 0 ≡ Some 0x3C → ⊥) → ((v : Bytes) → r ≡ 0x50 ∷ 0x3C ∷ v → ⊥) → SetOrGroup k f t r
 set_or_group k f t r (inl x) e other p =
-    inl (x.0, x.4, subst (Letters x.0 (0x29 ∷ x.4) [] true f) (sym x.5) (letters_follow f x.1 x.0 (x.2 ∷ x.3) (0x29 ∷ x.4) x.6), x.7)
+    inl (
+      x.0,
+      x.4,
+      subst (Letters x.0 (0x29 ∷ x.4) [] true f) (sym x.5)
+          (letters_follow f x.1 x.0 (x.2 ∷ x.3) (0x29 ∷ x.4) x.6),
+      x.7,
+    )
 set_or_group k f t r (inr h) e other p =
     let x = opening_flags k f r (opening_next k f t h r e) other p in
-    inr (x.0, x.3, subst (Letters x.0 (0x3A ∷ x.3) [] true f) (sym x.4) (letters_follow f x.1 x.0 x.2 (0x3A ∷ x.3) x.5), h)
+    inr (
+      x.0,
+      x.3,
+      subst (Letters x.0 (0x3A ∷ x.3) [] true f) (sym x.4)
+          (letters_follow f x.1 x.0 x.2 (0x3A ∷ x.3) x.5),
+      h,
+    )
 
 -- what begins otherwise is no setting
 pub other_setting : (k : List Flags) (f : Flags) (t r : Bytes) → AtSetting k f r ⊎ FromAtom k f t → (d : ℕ) (q : Bytes)

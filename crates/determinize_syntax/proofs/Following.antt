@@ -13,7 +13,8 @@ use Rattle.determinize_syntax.specs.Private.Following.{FromAtom, FromItem, FromO
 use Rattle.determinize_syntax.specs.declared.flags.Flags.{Flags}
 
 mutual
-  atom_follows : (f : Flags) (re : Re) (t : Bytes) → Atom f re t → (k : List Flags) (w : Bytes) → FromOperator k f false w
+  atom_follows : (f : Flags) (re : Re) (t : Bytes) → Atom f re t → (k : List Flags) (w : Bytes)
+      → FromOperator k f false w
       → FromAtom k f (t ++ w)
   atom_follows f re t (s.plain _ c _ is cases _) k w h = to.single k f (c ∷ []) w (to.plain c is cases) h
   atom_follows f re t (s.character _ c _ is cases) k w h = to.single k f t w (to.character c t is cases) h
@@ -30,7 +31,8 @@ mutual
       to.single k f (codes "[^" ++ u ++ codes "]") w (to.other_brackets set u is cases) h
   atom_follows f re t (s.capture _ g _ u inner) k w h =
       subst (FromAtom k f) (sym (append_assoc (codes "(" ++ u) (codes ")") w))
-      (to.group k f f [] (u ++ 0x29 ∷ w) to.capture (choice_follows f g re u inner (f ∷ k) (0x29 ∷ w) (to.closed k f g w h)))
+      (to.group k f f [] (u ++ 0x29 ∷ w) to.capture
+      (choice_follows f g re u inner (f ∷ k) (0x29 ∷ w) (to.closed k f g w h)))
   atom_follows f re t (s.named _ g _ n u is inner) k w h =
       subst (FromAtom k f) (sym (append_assoc (codes "(?<" ++ n ++ codes ">" ++ u) (codes ")") w
       ∙ append_assoc (codes "(?<" ++ n ++ codes ">") u (codes ")" ++ w)))
@@ -66,7 +68,8 @@ mutual
       (repeated_follows g e re v last k w (to.none k g e w h))))
   items_follow f g res t (s.setting _ i _ on _ u n c items sets) k w h =
       subst (FromItem k f) (sym (append_assoc (u ++ codes "(?" ++ c ∷ n) (codes ")") w
-      ∙ append_assoc (u ++ codes "(?") (c ∷ n) (codes ")" ++ w) ∙ append_assoc u (codes "(?") ((c ∷ n) ++ (codes ")" ++ w))))
+      ∙ append_assoc (u ++ codes "(?") (c ∷ n) (codes ")" ++ w)
+      ∙ append_assoc u (codes "(?") ((c ∷ n) ++ (codes ")" ++ w))))
       (items_follow f i res u items k (codes "(?" ++ ((c ∷ n) ++ (codes ")" ++ w))) (to.set k i g on c n w sets h))
 
   branches_follow : (f g : Flags) (res : List Re) (t : Bytes) → Branches f g res t → (k : List Flags) (w : Bytes)

@@ -38,8 +38,10 @@ looks_begin look t e =
     (λ h5. by_test (is_text "b{start}" t) (λ h. (0x62, codes "{start}", text_is t (codes "b{start}") h, refl, inl refl))
     (λ h6. by_test (is_text ">" t) (λ h. (0x3E, [], text_is t (codes ">") h, refl, inr refl))
     (λ h7. by_test (is_text "b{end}" t) (λ h. (0x62, codes "{end}", text_is t (codes "b{end}") h, refl, inl refl))
-    (λ h8. by_test (is_text "b{start-half}" t) (λ h. (0x62, codes "{start-half}", text_is t (codes "b{start-half}") h, refl, inl refl))
-    (λ h9. by_test (is_text "b{end-half}" t) (λ h. (0x62, codes "{end-half}", text_is t (codes "b{end-half}") h, refl, inl refl))
+    (λ h8. by_test (is_text "b{start-half}" t)
+    (λ h. (0x62, codes "{start-half}", text_is t (codes "b{start-half}") h, refl, inl refl))
+    (λ h9. by_test (is_text "b{end-half}" t) (λ h.
+    (0x62, codes "{end-half}", text_is t (codes "b{end-half}") h, refl, inl refl))
     (λ h10. let never : None ≡ Some look = simp (h1, h2, h3, h4, h5, h6, h7, h8, h9, h10) at e in absurd (cc)))))))))))
 
 -- an escape by its number, after its `\x`
@@ -103,9 +105,11 @@ two_next e u r (inl x) other =
     let b = number_begins 16 x.2 (x.0 ∷ x.1 ∷ []) x.3 in
     let c : x.0 ≡ b.0 = heads x.0 b.0 (x.1 ∷ []) b.1 b.2 in
     let w : x.1 ∷ [] ≡ b.1 = tails x.0 b.0 (x.1 ∷ []) b.1 b.2 in
-    let all : list_all (λ y. is_digit y 16) (x.1 ∷ []) ≡ true = subst (λ l. list_all (λ y. is_digit y 16) l ≡ true) (sym w) b.4 in
+    let all : list_all (λ y. is_digit y 16) (x.1 ∷ []) ≡ true =
+    subst (λ l. list_all (λ y. is_digit y 16) l ≡ true) (sym w) b.4 in
     let value : digit_value x.0 * 16 + digit_value x.1 ≡ x.2 =
-    ap (λ y. digit_value y * 16 + digit_value x.1) c ∙ subst (λ l. number_after 16 (digit_value b.0) l ≡ x.2) (sym w) b.5 in (
+    ap (λ y. digit_value y * 16 + digit_value x.1) c
+    ∙ subst (λ l. number_after 16 (digit_value b.0) l ≡ x.2) (sym w) b.5 in (
       x.0,
       x.1,
       x.5,
@@ -129,17 +133,21 @@ braces_next e u r (inl x) =
 braces_next e u r (inr (inl x)) = (x.1, (x.0, tails 0x7B 0x7B r (x.0 ++ 0x7D ∷ u) x.5, x.2), inl (x.3, x.4))
 braces_next e u r (inr (inr x)) = (x.1, (x.0, tails 0x7B 0x7B r (x.0 ++ 0x7D ∷ u) x.6, x.2), inr (x.3, x.4, x.5))
 
--- the digits of the number n that are left before a brace, after some of the value v, which may be too large for a character
+-- the digits of the number n that are left before a brace, after some of the value v, which may be too large for a
+-- character
 abbrev pub HexLeft : ℕ → ℕ → Bytes → Bytes → Type 0
-HexLeft v n u a = Part a (0x7D ∷ u) (λ t. (list_all (λ d. is_digit d 16) t ≡ true) × (n ≤ 0x10_FFFF → number_after 16 v t ≡ n))
+HexLeft v n u a = Part a (0x7D ∷ u) (λ t. (list_all (λ d. is_digit d 16) t ≡ true)
+    × (n ≤ 0x10_FFFF → number_after 16 v t ≡ n))
 
 not_smaller : (v : ℕ) (t : Bytes) → v ≤ number_after 16 v t
 not_smaller v [] = omega arith
 not_smaller v (d ∷ t) =
-    let more : v * 16 + digit_value d ≤ number_after 16 (v * 16 + digit_value d) t = not_smaller (v * 16 + digit_value d) t in
+    let more : v * 16 + digit_value d ≤ number_after 16 (v * 16 + digit_value d) t =
+    not_smaller (v * 16 + digit_value d) t in
     omega arith
 
-pub hex_begun : {a b u : Bytes} (n m : ℕ) → Part a b (IsHexDigit m) → Part a (0x7D ∷ u) (λ t. number 16 t ≡ Some n) → HexLeft m n u b
+pub hex_begun : {a b u : Bytes} (n m : ℕ) → Part a b (IsHexDigit m) → Part a (0x7D ∷ u) (λ t. number 16 t ≡ Some n)
+    → HexLeft m n u b
 hex_begun {a} {b} {u} n m h k =
     let x = number_begins 16 n k.0 k.2 in
     let same : h.2.0 ∷ b ≡ x.0 ∷ (x.1 ++ 0x7D ∷ u) =
@@ -153,7 +161,8 @@ hex_more {a} {b} {u} v n m w (t, e, x) h grows = more t e x where
   begins : a ≡ h.2.0 ∷ b
   begins = h.1 ∙ ap (λ l. l ++ b) h.2.1
 
-  next : (d : ℕ) (t : Bytes) → digit_value d ≡ m → number_after 16 v (d ∷ t) ≡ n → n ≤ 0x10_FFFF → w ≡ v * 16 + digit_value d
+  next : (d : ℕ) (t : Bytes) → digit_value d ≡ m → number_after 16 v (d ∷ t) ≡ n → n ≤ 0x10_FFFF
+      → w ≡ v * 16 + digit_value d
   next d t value whole small =
       let le : v ≤ number_after 16 v (d ∷ t) = not_smaller v (d ∷ t) in
       let below : v ≤ 0x10_FFFF = omega (arith, le, whole, small) in
@@ -173,7 +182,8 @@ hex_more {a} {b} {u} v n m w (t, e, x) h grows = more t e x where
         (all.1, λ small. ap (λ y. number_after 16 y t) (next d t value (x.1 small) small) ∙ x.1 small),
       )
 
-pub hex_ended : {a u : Bytes} (v n : ℕ) → HexLeft v n u a → slice_get a 0 ≡ Some 0x7D → (n ≤ 0x10_FFFF → v ≡ n) × (a ≡ 0x7D ∷ u)
+pub hex_ended : {a u : Bytes} (v n : ℕ) → HexLeft v n u a → slice_get a 0 ≡ Some 0x7D → (n ≤ 0x10_FFFF → v ≡ n)
+    × (a ≡ 0x7D ∷ u)
 hex_ended {a} {u} v n (t, e, h) r = ended t e h where
   ended : (t : Bytes) → a ≡ t ++ 0x7D ∷ u
       → (list_all (λ d. is_digit d 16) t ≡ true) × (n ≤ 0x10_FFFF → number_after 16 v t ≡ n)
@@ -182,7 +192,8 @@ hex_ended {a} {u} v n (t, e, h) r = ended t e h where
   ended (d ∷ t) e h =
       let same : d ≡ 0x7D = some_injective d 0x7D (ap (λ l. slice_get l 0) (sym e) ∙ r) in
       let never : false ≡ true =
-      subst (λ y. is_digit y 16 ≡ true) same (both_true (is_digit d 16) (list_all (λ y. is_digit y 16) t) h.0).0 in absurd (cc)
+      subst (λ y. is_digit y 16 ≡ true) same (both_true (is_digit d 16) (list_all (λ y. is_digit y 16) t) h.0).0 in
+      absurd (cc)
 
 -- a digit or the brace is next
 pub hex_next : {A : Type 0} {a u : Bytes} (v n : ℕ) → HexLeft v n u a → (slice_get a 0 ≡ Some 0x7D → ⊥)
@@ -233,15 +244,19 @@ AtEscape e u r =
 byte_next : (b : ℕ) (t : Bytes) → Escaped b t → (u r : Bytes) → t ++ u ≡ 0x5C ∷ r → (slice_get r 0 ≡ Some 0x78 → ⊥)
     → AtEscape (escape.Byte b) u r
 byte_next b t (s.letter c _ is) u r e other = inl (c, b, is, refl, sym (tails 0x5C 0x5C (c ∷ u) r e))
-byte_next b t (s.two_digits c d _ is) u r e other = absurd (other (ap (λ l. slice_get l 0) (sym (tails 0x5C 0x5C _ r e))))
-byte_next b t (s.braces v _ is small) u r e other = absurd (other (ap (λ l. slice_get l 0) (sym (tails 0x5C 0x5C _ r e))))
+byte_next b t (s.two_digits c d _ is) u r e other =
+    absurd (other (ap (λ l. slice_get l 0) (sym (tails 0x5C 0x5C _ r e))))
+byte_next b t (s.braces v _ is small) u r e other =
+    absurd (other (ap (λ l. slice_get l 0) (sym (tails 0x5C 0x5C _ r e))))
 
 character_next : (c : ℕ) (t : Bytes) → Wide c t → (u r : Bytes) → t ++ u ≡ 0x5C ∷ r → (slice_get r 0 ≡ Some 0x78 → ⊥)
     → AtEscape (escape.Wide c) u r
 character_next c t (s.itself _ wide) u r e other = not_itself c wide.0 u r e
-character_next c t (s.by_number _ v is wide) u r e other = absurd (other (ap (λ l. slice_get l 0) (sym (tails 0x5C 0x5C _ r e))))
+character_next c t (s.by_number _ v is wide) u r e other =
+    absurd (other (ap (λ l. slice_get l 0) (sym (tails 0x5C 0x5C _ r e))))
 
-pub escape_after : (e : Escape) (u r : Bytes) → Part (0x5C ∷ r) u (IsEscape e) → (slice_get r 0 ≡ Some 0x78 → ⊥) → AtEscape e u r
+pub escape_after : (e : Escape) (u r : Bytes) → Part (0x5C ∷ r) u (IsEscape e) → (slice_get r 0 ≡ Some 0x78 → ⊥)
+    → AtEscape e u r
 escape_after (escape.Byte b) u r h other = byte_next b h.0 h.2 u r (sym h.1) other
 escape_after (escape.Wide c) u r h other = character_next c h.0 h.2 u r (sym h.1) other
 escape_after (escape.Class kind negated) u r h other =
@@ -298,7 +313,8 @@ look_begun r c u at e =
     let same : c ≡ 0x62 = some_injective c 0x62 (sym (ap (λ l. slice_get l 0) e) ∙ at) in
     subst (λ y. (y ∈ "AzbB<>") ≡ true) (sym same) refl
 
-pub look_at : (r : Bytes) (c : ℕ) (u : Bytes) (look : Look) (x : Bytes) → Part r x (λ t. assertion t ≡ Some look) → r ≡ c ∷ u
+pub look_at : (r : Bytes) (c : ℕ) (u : Bytes) (look : Look) (x : Bytes) → Part r x (λ t. assertion t ≡ Some look)
+    → r ≡ c ∷ u
     → (c ∈ "AzbB<>") ≡ true
 look_at r c u look x h e =
     let b = looks_begin look h.0 h.2 in

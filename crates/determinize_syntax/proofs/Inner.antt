@@ -58,7 +58,8 @@ lists_follow f p set t (s.character q r u v c lists unicode is) after w h =
     (λ b e. to.character b q c v w unicode is (more f after (AfterOne true c) _ w h)))
 lists_follow f p set t (s.class q r u c k lists bytes is) after w h =
     subst (Listing f after false First) (sym (append_assoc u (0x5C ∷ c ∷ []) w))
-    (lists_follow f q r u lists after (0x5C ∷ c ∷ w) (λ b e. to.class b q c k w bytes is (more f after AfterClass _ w h)))
+    (lists_follow f q r u lists after (0x5C ∷ c ∷ w)
+    (λ b e. to.class b q c k w bytes is (more f after AfterClass _ w h)))
 lists_follow f p set t (s.name q r u n k lists is) after w h =
     subst (Listing f after false First) (sym (append_assoc (u ++ codes "[:" ++ n) (codes ":]") w
     ∙ append_assoc (u ++ codes "[:") n (codes ":]" ++ w) ∙ append_assoc u (codes "[:") (n ++ (codes ":]" ++ w))))

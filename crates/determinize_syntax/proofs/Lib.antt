@@ -14,3 +14,4 @@ pub mod Flagging
 pub mod Munch
 pub mod Hexes
 pub mod Widths
+pub mod Limits

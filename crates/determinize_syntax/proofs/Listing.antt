@@ -23,13 +23,15 @@ use Rattle.determinize_syntax.specs.declared.kind.ClassKind.{ClassKind}
 use Rattle.determinize_syntax.proofs.Parts.{Ended, Text, at_front, closed, onward, prefixed, renamed, took}
 
 -- with the characters of more ranges
-pub has_joined : (r k : Set) (ranges more all : List (ℕ × ℕ)) → all ≡ ranges ++ more → HasChars r ranges → HasChars k more
+pub has_joined : (r k : Set) (ranges more all : List (ℕ × ℕ)) → all ≡ ranges ++ more → HasChars r ranges
+    → HasChars k more
     → HasChars (joined r k) all
 has_joined r k ranges more all e h m c small =
     ap (λ l. is_in l (Some c)) e ∙ list_any-append (λ (x : ℕ × ℕ). within x.0 x.1 c) ranges more
     ∙ ap (λ x. x || is_in more (Some c)) (h c small) ∙ ap (λ x. r c || x) (m c small)
 
-has_added : (r k : Set) (ranges all : List (ℕ × ℕ)) → AddsChars k ranges all → HasChars r ranges → HasChars (joined r k) all
+has_added : (r k : Set) (ranges all : List (ℕ × ℕ)) → AddsChars k ranges all → HasChars r ranges
+    → HasChars (joined r k) all
 has_added r k ranges all more h c small = more c small ∙ ap (λ x. x || k c) (h c small)
 
 pub has_range : (low high : ℕ) → HasChars (is_in_range low high) ((low, high) ∷ [])
@@ -82,11 +84,13 @@ class_listed f p kind negated ranges all t bytes x more r u lists has =
 
 -- the name of a class, after its bracket
 pub name_read : {a b d e g : Text} (f : Flags) (p : Before) (n : Text) (k : Set) (ranges all : List (ℕ × ℕ))
-    → a ≡ 0x3A ∷ b → b ≡ n ++ d → d ≡ 0x3A ∷ e → e ≡ 0x5D ∷ g → named_class n ≡ Some k → AddsChars (folded f k) ranges all
+    → a ≡ 0x3A ∷ b → b ≡ n ++ d → d ≡ 0x3A ∷ e → e ≡ 0x5D ∷ g → named_class n ≡ Some k
+    → AddsChars (folded f k) ranges all
     → Part a g (λ t. Extends f p ranges AfterRange all (0x5B ∷ t))
 name_read {a} {b} {d} {e} {g} f p n k ranges all r1 r2 r3 r4 is more = (
   0x3A ∷ (n ++ 0x3A ∷ 0x5D ∷ []),
-  r1 ∙ ap (λ w. 0x3A ∷ w) (r2 ∙ ap (λ w. n ++ w) (r3 ∙ ap (λ w. 0x3A ∷ w) r4) ∙ sym (append_assoc n (0x3A ∷ 0x5D ∷ []) g)),
+  r1 ∙ ap (λ w. 0x3A ∷ w) (r2 ∙ ap (λ w. n ++ w) (r3 ∙ ap (λ w. 0x3A ∷ w) r4)
+      ∙ sym (append_assoc n (0x3A ∷ 0x5D ∷ []) g)),
   λ r u lists h. (
     joined r (folded f k),
     subst (Lists f AfterRange (joined r (folded f k))) (text n u) (s.name p r u n k lists is),
@@ -138,7 +142,8 @@ hyphen_read f ranges all e = (
 )
 
 -- the end of a range
-pub range_read : {a b : Text} (f : Flags) (e : Bool) (low high : ℕ) (ranges all : List (ℕ × ℕ)) → Part a b (Bound f high) → low ≤ high
+pub range_read : {a b : Text} (f : Flags) (e : Bool) (low high : ℕ) (ranges all : List (ℕ × ℕ))
+    → Part a b (Bound f high) → low ≤ high
     → all ≡ ranges ++ (low, high) ∷ []
     → Part a b (λ t. Extends f (AfterOne e low) ranges AfterRange all (0x2D ∷ t))
 range_read f e low high ranges all h le more =
@@ -157,7 +162,8 @@ Begun f p ranges left t = (r : Set) × Lists f p r t × HasChars r ranges × (t 
 pub begun_more : {a b d : Text} (f : Flags) (p q : Before) (ranges all : List (ℕ × ℕ)) → Part a b (Begun f p ranges b)
     → Part b d (Extends f p ranges q all) → length d < length b → Part a d (Begun f q all d)
 begun_more {a} {b} {d} f p q ranges all h k less =
-    onward (Begun f p ranges b) (λ u. Extends f p ranges q all u × (b ≡ u ++ d)) (Begun f q all d) h (k.0, k.1, (k.2, k.1))
+    onward (Begun f p ranges b) (λ u. Extends f p ranges q all u × (b ≡ u ++ d)) (Begun f q all d) h
+    (k.0, k.1, (k.2, k.1))
     (λ t u x y. let new = y.0 x.0 t x.1 x.2 in (new.0, new.1, new.2, λ e. absurd (longer t u y.1 e))) where
       longer : (t u : Text) → b ≡ u ++ d → t ++ u ≡ [] → ⊥
       longer [] [] e z = let same : length b ≡ length d = ap length e in omega arith
@@ -196,7 +202,8 @@ not_caret : (c : ℕ) → (c ≡ 0x5E → ⊥) → not (c ∈ "^") ≡ true
 not_caret c n = grind (arith, n)
 
 pub bracket_read : {a b : Text} (f : Flags) (ranges : List (ℕ × ℕ)) (re : Re) → (slice_get a 0 ≡ Some 0x5E → ⊥)
-    → Part a b (IsInside f ranges) → knows_cases f ≡ true → ((r : Set) → HasChars r ranges → IsOneOf f.unicode (folded f r) re)
+    → Part a b (IsInside f ranges) → knows_cases f ≡ true
+    → ((r : Set) → HasChars r ranges → IsOneOf f.unicode (folded f r) re)
     → Part a b (λ t. Atom f re (0x5B ∷ t))
 bracket_read {a} {b} f ranges re other h known has =
     (h.0, h.1, rule (inside_cons f h.2.0 h.2.1 h.2.2)) where
@@ -204,10 +211,13 @@ bracket_read {a} {b} f ranges re other h known has =
       rule z =
           subst (λ w. Atom f re (0x5B ∷ w)) (sym (h.2.4 ∙ ap (λ w. w ++ codes "]") z.2))
           (s.brackets f h.2.0 re z.0 z.1 (subst (Inside f h.2.0) z.2 h.2.2) (not_caret z.0 (λ e. other
-          (at_front a 0x5E (z.1 ++ codes "]" ++ b) (h.1 ∙ ap (λ w. w ++ b) (h.2.4 ∙ ap (λ w. w ++ codes "]") z.2) ∙ ap (λ x. x ∷ (z.1 ++ codes "]" ++ b)) e))))
+          (at_front a 0x5E (z.1 ++ codes "]" ++ b)
+          (h.1 ∙ ap (λ w. w ++ b) (h.2.4 ∙ ap (λ w. w ++ codes "]") z.2)
+          ∙ ap (λ x. x ∷ (z.1 ++ codes "]" ++ b)) e))))
           known (has h.2.0 h.2.3))
 
-pub other_bracket_read : {a b d : Text} (f : Flags) (ranges : List (ℕ × ℕ)) (re : Re) → a ≡ 0x5E ∷ b → Part b d (IsInside f ranges)
+pub other_bracket_read : {a b d : Text} (f : Flags) (ranges : List (ℕ × ℕ)) (re : Re) → a ≡ 0x5E ∷ b
+    → Part b d (IsInside f ranges)
     → knows_cases f ≡ true → ((r : Set) → HasChars r ranges → IsOneOf f.unicode (complement (folded f r)) re)
     → Part a d (λ t. Atom f re (0x5B ∷ t))
 other_bracket_read f ranges re r h known has =
@@ -218,7 +228,8 @@ other_bracket_read f ranges re r h known has =
 -- a name, negated or not
 pub any_name_read : {a b c d e g : Text} (f : Flags) (p : Before) (n : Text) (k : Set) (negated : Bool)
     (ranges all : List (ℕ × ℕ)) → a ≡ 0x3A ∷ b → (negated ≡ true → b ≡ 0x5E ∷ c) → (negated ≡ false → c ≡ b)
-    → c ≡ n ++ d → d ≡ 0x3A ∷ e → e ≡ 0x5D ∷ g → named_class n ≡ Some k → AddsChars (turned negated (folded f k)) ranges all
+    → c ≡ n ++ d → d ≡ 0x3A ∷ e → e ≡ 0x5D ∷ g → named_class n ≡ Some k
+    → AddsChars (turned negated (folded f k)) ranges all
     → Part a g (λ t. Extends f p ranges AfterRange all (0x5B ∷ t))
 any_name_read f p n k true ranges all r1 r0 same r2 r3 r4 is more =
     other_name_read f p n k ranges all r1 (r0 refl) r2 r3 r4 is more
@@ -228,7 +239,8 @@ any_name_read f p n k false ranges all r1 r0 same r2 r3 r4 is more =
 pub any_bracket_read : {a b d : Text} (f : Flags) (negated : Bool) (ranges : List (ℕ × ℕ)) (re : Re)
     → (negated ≡ true → a ≡ 0x5E ∷ b) → (negated ≡ false → b ≡ a) → (negated ≡ false → slice_get a 0 ≡ Some 0x5E → ⊥)
     → Part b d (IsInside f ranges) → knows_cases f ≡ true
-    → ((r : Set) → HasChars r ranges → IsOneOf f.unicode (turned negated (folded f r)) re) → Part a d (λ t. Atom f re (0x5B ∷ t))
+    → ((r : Set) → HasChars r ranges → IsOneOf f.unicode (turned negated (folded f r)) re)
+    → Part a d (λ t. Atom f re (0x5B ∷ t))
 any_bracket_read f true ranges re r same other h known has = other_bracket_read f ranges re (r refl) h known has
 any_bracket_read {a} {b} {d} f false ranges re r same other h known has =
     bracket_read f ranges re (other refl) (subst (λ x. Part x d (IsInside f ranges)) (same refl) h) known has

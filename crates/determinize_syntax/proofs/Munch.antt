@@ -63,7 +63,8 @@ names_same t n x u is_t is_n e past =
       ends c s = subst (λ d. is_in_name d ≡ false) (some_injective 0x3E c s) refl
 
 -- a name begins so
-pub name_begins : (n w a : Bytes) → is_name n ≡ true → a ≡ n ++ w → (c : ℕ) × (v : Bytes) × (a ≡ c ∷ v) × (begins_name c ≡ true)
+pub name_begins : (n w a : Bytes) → is_name n ≡ true → a ≡ n ++ w → (c : ℕ) × (v : Bytes) × (a ≡ c ∷ v)
+    × (begins_name c ≡ true)
 name_begins [] w a e r = absurd (cc)
 name_begins (c ∷ n) w a e r = (c, n ++ w, r, (both_true (begins_name c) (list_all is_in_name n) e).0)
 
@@ -89,9 +90,21 @@ boundary_looks look t e =
     (λ h2. by_test (is_text "b{end}" (0x62 ∷ t))
     (λ h. inr (0x65, codes "nd", tails 0x62 0x62 t (codes "{end}") (text_is (0x62 ∷ t) (codes "b{end}") h), refl))
     (λ h3. by_test (is_text "b{start-half}" (0x62 ∷ t))
-    (λ h. inr (0x73, codes "tart-half", tails 0x62 0x62 t (codes "{start-half}") (text_is (0x62 ∷ t) (codes "b{start-half}") h), refl))
+    (λ h. inr (
+      0x73,
+      codes "tart-half",
+      tails 0x62 0x62 t (codes "{start-half}")
+          (text_is (0x62 ∷ t) (codes "b{start-half}") h),
+      refl,
+    ))
     (λ h4. by_test (is_text "b{end-half}" (0x62 ∷ t))
-    (λ h. inr (0x65, codes "nd-half", tails 0x62 0x62 t (codes "{end-half}") (text_is (0x62 ∷ t) (codes "b{end-half}") h), refl))
+    (λ h. inr (
+      0x65,
+      codes "nd-half",
+      tails 0x62 0x62 t (codes "{end-half}")
+          (text_is (0x62 ∷ t) (codes "b{end-half}") h),
+      refl,
+    ))
     (λ h5. let never : None ≡ Some look = simp (h1, h2, h3, h4, h5) at e in absurd (cc))))))
 
 pub all_more : (p : ℕ → Bool) (t v : Bytes) (c : ℕ) → All p t → p c ≡ true → v ≡ t ++ c ∷ [] → All p v
@@ -107,36 +120,39 @@ BoundaryCase look a u m x =
     ((a ≡ u) × (m ≡ []) × (assertion (0x62 ∷ []) ≡ Some look))
     ⊎ ((m ≡ [] → ⊥) × (x ≡ 0x7D ∷ u) × (assertion (codes "b{" ++ m ++ codes "}") ≡ Some look))
 
-pub boundary_case : (look : Look) (a u r m x : Bytes) → Part a u (λ t. assertion (0x62 ∷ t) ≡ Some look) → IsPastBoundary u
+pub boundary_case : (look : Look) (a u r m x : Bytes) → Part a u (λ t. assertion (0x62 ∷ t) ≡ Some look)
+    → IsPastBoundary u
     → a ≡ 0x7B ∷ r → r ≡ m ++ x → All is_in_boundary m → IsPast is_in_boundary x → BoundaryCase look a u m x
-boundary_case look a u r m x (t, e, is) past brace name letters after = by_cases (boundary_looks look t is) unnamed named where
-  unnamed : t ≡ [] → BoundaryCase look a u m x
-  unnamed none =
-      let same : a ≡ u = e ∙ ap (λ l. l ++ u) none in
-      let d = past r (sym same ∙ brace) in
-      inl (same, no_letters m name letters, subst (λ l. assertion (0x62 ∷ l) ≡ Some look) none is) where
-        no_letters : (m : Bytes) → r ≡ m ++ x → All is_in_boundary m → m ≡ []
-        no_letters [] name letters = refl
-        no_letters (c ∷ m) name letters =
-            let d = past r (sym (e ∙ ap (λ l. l ++ u) none) ∙ brace) in
-            let same : c ≡ d.0 = heads c d.0 (m ++ x) d.1 (sym name ∙ d.2) in
-            let yes : is_in_boundary c ≡ true = (both_true (is_in_boundary c) (list_all is_in_boundary m) letters).0 in
-            let never : true ≡ false = sym yes ∙ ap is_in_boundary same ∙ digit_no_letter d.0 d.3 in absurd (cc)
+boundary_case look a u r m x (t, e, is) past brace name letters after =
+    by_cases (boundary_looks look t is) unnamed named where
+      unnamed : t ≡ [] → BoundaryCase look a u m x
+      unnamed none =
+          let same : a ≡ u = e ∙ ap (λ l. l ++ u) none in
+          let d = past r (sym same ∙ brace) in
+          inl (same, no_letters m name letters, subst (λ l. assertion (0x62 ∷ l) ≡ Some look) none is) where
+            no_letters : (m : Bytes) → r ≡ m ++ x → All is_in_boundary m → m ≡ []
+            no_letters [] name letters = refl
+            no_letters (c ∷ m) name letters =
+                let d = past r (sym (e ∙ ap (λ l. l ++ u) none) ∙ brace) in
+                let same : c ≡ d.0 = heads c d.0 (m ++ x) d.1 (sym name ∙ d.2) in
+                let yes : is_in_boundary c ≡ true =
+                (both_true (is_in_boundary c) (list_all is_in_boundary m) letters).0 in
+                let never : true ≡ false = sym yes ∙ ap is_in_boundary same ∙ digit_no_letter d.0 d.3 in absurd (cc)
 
-  named : InBraces t → BoundaryCase look a u m x
-  named b =
-      let text : r ≡ (b.0 ∷ b.1) ++ (0x7D ∷ u) =
-      tails 0x7B 0x7B r ((b.0 ∷ b.1) ++ (0x7D ∷ u)) (sym brace ∙ e ∙ ap (λ l. l ++ u) b.2
-      ∙ ap (λ l. 0x7B ∷ b.0 ∷ l) (append_assoc b.1 (0x7D ∷ []) u)) in
-      let same = munch is_in_boundary m (b.0 ∷ b.1) x (0x7D ∷ u) letters b.3 (sym name ∙ text) after ends in
-      inr (
-        λ none. (let never : [] ≡ b.0 ∷ b.1 = sym none ∙ same.0 in absurd (cc)),
-        same.1,
-        subst (λ l. assertion (codes "b{" ++ l ++ codes "}") ≡ Some look) (sym same.0)
-            (subst (λ l. assertion (0x62 ∷ l) ≡ Some look) b.2 is),
-      ) where
-        ends : IsPast is_in_boundary (0x7D ∷ u)
-        ends c s = subst (λ d. is_in_boundary d ≡ false) (some_injective 0x7D c s) refl
+      named : InBraces t → BoundaryCase look a u m x
+      named b =
+          let text : r ≡ (b.0 ∷ b.1) ++ (0x7D ∷ u) =
+          tails 0x7B 0x7B r ((b.0 ∷ b.1) ++ (0x7D ∷ u)) (sym brace ∙ e ∙ ap (λ l. l ++ u) b.2
+          ∙ ap (λ l. 0x7B ∷ b.0 ∷ l) (append_assoc b.1 (0x7D ∷ []) u)) in
+          let same = munch is_in_boundary m (b.0 ∷ b.1) x (0x7D ∷ u) letters b.3 (sym name ∙ text) after ends in
+          inr (
+            λ none. (let never : [] ≡ b.0 ∷ b.1 = sym none ∙ same.0 in absurd (cc)),
+            same.1,
+            subst (λ l. assertion (codes "b{" ++ l ++ codes "}") ≡ Some look) (sym same.0)
+                (subst (λ l. assertion (0x62 ∷ l) ≡ Some look) b.2 is),
+          ) where
+            ends : IsPast is_in_boundary (0x7D ∷ u)
+            ends c s = subst (λ d. is_in_boundary d ≡ false) (some_injective 0x7D c s) refl
 
 pub nil_when : (t : Bytes) → (length t == 0) ≡ true → t ≡ []
 nil_when [] e = refl
@@ -147,10 +163,13 @@ filled t e none = let never : true ≡ false = ap (λ l. length l == 0) (sym non
 
 -- a text that is none of the four names names no boundary
 pub no_boundary : (n : Bytes) (look : Look) → (n ≡ codes "start" → ⊥) → (n ≡ codes "end" → ⊥)
-    → (n ≡ codes "start-half" → ⊥) → (n ≡ codes "end-half" → ⊥) → assertion (codes "b{" ++ n ++ codes "}") ≡ Some look → ⊥
+    → (n ≡ codes "start-half" → ⊥) → (n ≡ codes "end-half" → ⊥) → assertion (codes "b{" ++ n ++ codes "}") ≡ Some look
+    → ⊥
 no_boundary n look start end start_half end_half e =
-    by_test (is_text "b{start}" (codes "b{" ++ n ++ codes "}")) (λ h. start (named "start" (text_is _ (codes "b{start}") h)))
-    (λ h1. by_test (is_text "b{end}" (codes "b{" ++ n ++ codes "}")) (λ h. end (named "end" (text_is _ (codes "b{end}") h)))
+    by_test (is_text "b{start}" (codes "b{" ++ n ++ codes "}"))
+    (λ h. start (named "start" (text_is _ (codes "b{start}") h)))
+    (λ h1. by_test (is_text "b{end}" (codes "b{" ++ n ++ codes "}"))
+    (λ h. end (named "end" (text_is _ (codes "b{end}") h)))
     (λ h2. by_test (is_text "b{start-half}" (codes "b{" ++ n ++ codes "}"))
     (λ h. start_half (named "start-half" (text_is _ (codes "b{start-half}") h)))
     (λ h3. by_test (is_text "b{end-half}" (codes "b{" ++ n ++ codes "}"))
@@ -227,11 +246,13 @@ pub name_after : (n : Bytes) (s : Set) (a b w : Bytes) (negated : Bool) → name
     → b ≡ n ++ w
 name_after n s a b w true is (inr e) hat filled past other read same no_hat =
     tails 0x5E 0x5E b (n ++ w) (sym (read refl) ∙ e)
-name_after n s a b w true is (inl e) hat filled past other read same no_hat = begins n (named_letters n s is) (sym e ∙ read refl) where
-  begins : (m : Bytes) → All is_in_boundary m → m ++ w ≡ 0x5E ∷ b → b ≡ n ++ w
-  begins [] letters r = absurd (other (ap (λ l. slice_get l 0) r))
-  begins (c ∷ m) letters r =
-      let yes : is_in_boundary c ≡ true = (both_true (is_in_boundary c) (list_all is_in_boundary m) letters).0 in
-      let never : true ≡ false = sym yes ∙ ap is_in_boundary (heads c 0x5E (m ++ w) b r) ∙ hat in absurd (cc)
+name_after n s a b w true is (inl e) hat filled past other read same no_hat =
+    begins n (named_letters n s is) (sym e ∙ read refl) where
+      begins : (m : Bytes) → All is_in_boundary m → m ++ w ≡ 0x5E ∷ b → b ≡ n ++ w
+      begins [] letters r = absurd (other (ap (λ l. slice_get l 0) r))
+      begins (c ∷ m) letters r =
+          let yes : is_in_boundary c ≡ true = (both_true (is_in_boundary c) (list_all is_in_boundary m) letters).0 in
+          let never : true ≡ false = sym yes ∙ ap is_in_boundary (heads c 0x5E (m ++ w) b r) ∙ hat in absurd (cc)
 name_after n s a b w false is (inl e) hat filled past other read same no_hat = same refl ∙ e
-name_after n s a b w false is (inr e) hat filled past other read same no_hat = absurd (no_hat refl (ap (λ l. slice_get l 0) e))
+name_after n s a b w false is (inr e) hat filled past other read same no_hat =
+    absurd (no_hat refl (ap (λ l. slice_get l 0) e))

@@ -1,5 +1,6 @@
 -- What may follow in brackets, by the byte that is there.
--- Main statements: closed_by, ended_by, hyphen_first, hyphen_after_range, no_hyphen, range_next, escape_next, name_next, plain_next,
+-- Main statements: closed_by, ended_by, hyphen_first, hyphen_after_range, no_hyphen, range_next, escape_next,
+-- name_next, plain_next,
 --   front_next, not_ended, bracket_next.
 -- Used by: the proofs that the parser rejects no brackets.
 -- Idea: the first byte, and of a hyphen what is before it, decides which item it is.
@@ -43,11 +44,13 @@ stands_plain (AfterOne false b) c e =
     plain_ascii c (both_true (is_ascii c && not (c ∈ "[]\\-")) (not (b == c && c ∈ "&~")) e).0
 
 -- a sign is no literal byte
-no_literal : {A : Type 0} (p : Before) (c d : ℕ) (l m : Bytes) → stands p c ≡ true → c ∷ l ≡ d ∷ m → (d ∈ "[]\\-") ≡ true → A
+no_literal : {A : Type 0} (p : Before) (c d : ℕ) (l m : Bytes) → stands p c ≡ true → c ∷ l ≡ d ∷ m
+    → (d ∈ "[]\\-") ≡ true → A
 no_literal p c d l m is e sign = unlisted c d l m (codes "[]\\-") e sign (stands_plain p c is).1
 
 -- an escape begins with a backslash
-no_escape : {A : Type 0} (b : ℕ) (t : Bytes) → Escaped b t → (d : ℕ) (w u : Bytes) → t ++ w ≡ d ∷ u → (0x5C == d) ≡ false → A
+no_escape : {A : Type 0} (b : ℕ) (t : Bytes) → Escaped b t → (d : ℕ) (w u : Bytes) → t ++ w ≡ d ∷ u
+    → (0x5C == d) ≡ false → A
 no_escape b t is d w u e other =
     let x = escaped_starts b t is in
     differ 0x5C d (x.0 ++ w) u (ap (λ l. l ++ w) (sym x.1) ∙ e) other
@@ -60,14 +63,16 @@ no_wide : {A : Type 0} (c : ℕ) (t : Bytes) → Wide c t → (d : ℕ) (w u : B
     → is_ascii d ≡ true → A
 no_wide {A = A} c t is d w u e other ascii = begins (wide_starts c t is) where
   begins : (x : ℕ) × (v : Bytes) × (t ≡ x ∷ v) × ((x ≡ 0x5C) ⊎ (128 ≤ x)) → A
-  begins (x, v, start, inl back) = differ 0x5C d (v ++ w) u (ap (λ y. y ∷ (v ++ w)) (sym back) ∙ ap (λ l. l ++ w) (sym start) ∙ e) other
+  begins (x, v, start, inl back) = differ 0x5C d (v ++ w) u
+      (ap (λ y. y ∷ (v ++ w)) (sym back) ∙ ap (λ l. l ++ w) (sym start) ∙ e) other
   begins (x, v, start, inr large) =
       let same : x ≡ d = heads x d (v ++ w) u (ap (λ l. l ++ w) (sym start) ∙ e) in
       let small : d < 128 = ascii_small d ascii in
       absurd (omega (arith, same, small, large))
 
 -- the last bracket
-pub closed_by : (f : Flags) (u : Bytes) (b : Bool) (p : Before) (t : Bytes) → Listing f u b p t → (r : Bytes) → t ≡ 0x5D ∷ r
+pub closed_by : (f : Flags) (u : Bytes) (b : Bool) (p : Before) (t : Bytes) → Listing f u b p t → (r : Bytes)
+    → t ≡ 0x5D ∷ r
     → (b ≡ false → ⊥) → r ≡ u
 closed_by f u b p t (to.close _) r e some = sym (tails 0x5D 0x5D u r e)
 closed_by f u b p t (to.last_hyphen _ _ may) r e some = differ 0x2D 0x5D _ r e refl
@@ -121,7 +126,8 @@ AtHyphen f u First r = Listing f u true First r
 AtHyphen f u AfterRange r = Listing f u true AfterHyphen r
 AtHyphen f u AfterHyphen r = ⊥
 AtHyphen f u AfterClass r = ⊥
-AtHyphen f u (AfterOne e low) r = (high : ℕ) × (w : Bytes) × (low ≤ high) × Part r w (Bound f high) × Listing f u true AfterRange w
+AtHyphen f u (AfterOne e low) r = (high : ℕ) × (w : Bytes) × (low ≤ high) × Part r w (Bound f high)
+    × Listing f u true AfterRange w
 
 pub hyphen_next : (f : Flags) (u : Bytes) (b : Bool) (p : Before) (t : Bytes) → Listing f u b p t → (r : Bytes)
     → t ≡ 0x2D ∷ r → (may_end p ≡ true → (w : Bytes) → t ≡ 0x2D ∷ 0x5D ∷ w → ⊥) → AtHyphen f u p r
@@ -147,7 +153,8 @@ Listed f (escape.Class kind negated) q = (f.unicode ≡ false) × (q ≡ AfterCl
 Listed f (escape.Look look) q = ⊥
 
 abbrev pub AtBackslash : Flags → Bytes → Bytes → Type 0
-AtBackslash f u t = (e : Escape) × (q : Before) × (w : Bytes) × Part t w (IsEscape e) × Listed f e q × Listing f u true q w
+AtBackslash f u t = (e : Escape) × (q : Before) × (w : Bytes) × Part t w (IsEscape e) × Listed f e q
+    × Listing f u true q w
 
 wide_next : (f : Flags) (u : Bytes) (c : ℕ) (v : Bytes) → Wide c v → f.unicode ≡ true → (w : Bytes)
     → Listing f u true (AfterOne true c) w → (r : Bytes) → v ++ w ≡ 0x5C ∷ r → AtBackslash f u (v ++ w)
@@ -197,7 +204,8 @@ name_next f u b p t (to.range _ d low high v w le bound h) r e = differ 0x2D 0x5
 -- a literal byte, or a character beyond ASCII as itself
 abbrev pub AtPlain : Flags → Bytes → Before → Bytes → Type 0
 AtPlain f u p t = ((c : ℕ) × (w : Bytes) × (t ≡ c ∷ w) × (stands p c ≡ true) × Listing f u true (AfterOne false c) w)
-    ⊎ ((c : ℕ) × (w : Bytes) × (t ≡ encode_utf8 c ++ w) × (f.unicode ≡ true) × IsWide c × Listing f u true (AfterOne true c) w)
+    ⊎ ((c : ℕ) × (w : Bytes) × (t ≡ encode_utf8 c ++ w) × (f.unicode ≡ true) × IsWide c
+    × Listing f u true (AfterOne true c) w)
 
 wide_plain : (f : Flags) (u : Bytes) (p : Before) (c : ℕ) (v : Bytes) → Wide c v → f.unicode ≡ true → (w : Bytes)
     → Listing f u true (AfterOne true c) w → ((d : ℕ) → slice_get (v ++ w) 0 ≡ Some d → (d ∈ "[]\\-") ≡ false)
@@ -221,10 +229,12 @@ plain_next f u b p t (to.character _ _ c v w unicode is h) other = wide_plain f 
 plain_next f u b p t (to.class _ _ c k w bytes is h) other = let never : true ≡ false = other 0x5C refl in absurd (cc)
 plain_next f u b p t (to.name _ _ n k w is h) other = let never : true ≡ false = other 0x5B refl in absurd (cc)
 plain_next f u b p t (to.other_name _ _ n k w is h) other = let never : true ≡ false = other 0x5B refl in absurd (cc)
-plain_next f u b p t (to.range _ d low high v w le bound h) other = let never : true ≡ false = other 0x2D refl in absurd (cc)
+plain_next f u b p t (to.range _ d low high v w le bound h) other = let never : true ≡ false = other 0x2D refl in
+    absurd (cc)
 
 -- the bracket in front is literal
-pub front_next : (f : Flags) (u : Bytes) (b : Bool) (p : Before) (t : Bytes) → Listing f u b p t → (r : Bytes) → t ≡ 0x5D ∷ r
+pub front_next : (f : Flags) (u : Bytes) (b : Bool) (p : Before) (t : Bytes) → Listing f u b p t → (r : Bytes)
+    → t ≡ 0x5D ∷ r
     → b ≡ false → Listing f u true AfterRange r
 front_next f u b p t (to.close _) r e none = absurd (cc)
 front_next f u b p t (to.last_hyphen _ _ may) r e none = differ 0x2D 0x5D _ r e refl
@@ -240,7 +250,8 @@ front_next f u b p t (to.other_name _ _ n k w is h) r e none = differ 0x5B 0x5D 
 front_next f u b p t (to.range _ d low high v w le bound h) r e none = differ 0x2D 0x5D _ r e refl
 
 -- brackets do not end with the text
-pub not_ended : {A : Type 0} (f : Flags) (u : Bytes) (b : Bool) (p : Before) (t : Bytes) → Listing f u b p t → t ≡ [] → A
+pub not_ended : {A : Type 0} (f : Flags) (u : Bytes) (b : Bool) (p : Before) (t : Bytes) → Listing f u b p t → t ≡ []
+    → A
 not_ended f u b p t (to.close _) e = absurd (cc)
 not_ended f u b p t (to.last_hyphen _ _ may) e = absurd (cc)
 not_ended f u b p t (to.closing w h) e = absurd (cc)
@@ -274,11 +285,12 @@ single_bracket f v (following.class c k is bytes) w r e = differ 0x5C 0x5B _ r e
 single_bracket f v (following.asserted t look is available) w r e = differ 0x5C 0x5B _ r e refl
 single_bracket f v (following.brackets set c u inside other cases) w r e =
     let same : (c ∷ u) ++ (0x5D ∷ w) ≡ r = sym (append_assoc (c ∷ u) (codes "]") w) ∙ tails 0x5B 0x5B _ r e in
-    (cases, inr (hat c other r same, subst (Listing f w false First) same (inside_follows f set (c ∷ u) w inside))) where
-      hat : (c : ℕ) → not (c ∈ "^") ≡ true → (r : Bytes) → (c ∷ u) ++ (0x5D ∷ w) ≡ r → slice_get r 0 ≡ Some 0x5E → ⊥
-      hat c other r same at =
-          let is : c ≡ 0x5E = some_injective c 0x5E (ap (λ l. slice_get l 0) same ∙ at) in
-          let never : false ≡ true = subst (λ x. not (x ∈ "^") ≡ true) is other in absurd (cc)
+    (cases, inr (hat c other r same, subst (Listing f w false First) same (inside_follows f set (c ∷ u) w inside)))
+  where
+    hat : (c : ℕ) → not (c ∈ "^") ≡ true → (r : Bytes) → (c ∷ u) ++ (0x5D ∷ w) ≡ r → slice_get r 0 ≡ Some 0x5E → ⊥
+    hat c other r same at =
+        let is : c ≡ 0x5E = some_injective c 0x5E (ap (λ l. slice_get l 0) same ∙ at) in
+        let never : false ≡ true = subst (λ x. not (x ∈ "^") ≡ true) is other in absurd (cc)
 single_bracket f v (following.other_brackets set u inside cases) w r e =
     let same : 0x5E ∷ (u ++ (0x5D ∷ w)) ≡ r =
     ap (λ l. 0x5E ∷ l) (sym (append_assoc u (codes "]") w)) ∙ tails 0x5B 0x5B _ r e in
@@ -297,7 +309,8 @@ IsEndOf f h _ = ⊥
 
 pub bound_escape : (f : Flags) (h : ℕ) (t : Bytes) → Bound f h t → (w r : Bytes) → t ++ w ≡ 0x5C ∷ r
     → (e : Escape) × Part (0x5C ∷ r) w (IsEscape e) × IsEndOf f h e
-bound_escape f h t (s.plain c is) w r e = unlisted c 0x5C w r (codes "]\\-") e refl (not_listed (is_ascii c) (c ∈ "]\\-") is)
+bound_escape f h t (s.plain c is) w r e = unlisted c 0x5C w r (codes "]\\-") e refl
+    (not_listed (is_ascii c) (c ∈ "]\\-") is)
 bound_escape f h t (s.escaped b _ is) w r e = (escape.Byte b, (t, sym e, is), refl)
 bound_escape f h t (s.character c _ unicode is) w r e = of_wide c t is unicode e where
   of_wide : (c : ℕ) (t : Bytes) → Wide c t → f.unicode ≡ true → t ++ w ≡ 0x5C ∷ r
@@ -310,7 +323,8 @@ abbrev pub AtBound : Flags → ℕ → Bytes → Bytes → Type 0
 AtBound f h r w = ((r ≡ h ∷ w) × ((is_ascii h && not (h ∈ "]\\-")) ≡ true))
     ⊎ ((f.unicode ≡ true) × IsWide h × (r ≡ encode_utf8 h ++ w))
 
-pub bound_next : (f : Flags) (h : ℕ) (t : Bytes) → Bound f h t → (w r : Bytes) → r ≡ t ++ w → (slice_get r 0 ≡ Some 0x5C → ⊥)
+pub bound_next : (f : Flags) (h : ℕ) (t : Bytes) → Bound f h t → (w r : Bytes) → r ≡ t ++ w
+    → (slice_get r 0 ≡ Some 0x5C → ⊥)
     → AtBound f h r w
 bound_next f h t (s.plain c is) w r e other = inl (e, is)
 bound_next f h t (s.escaped b _ is) w r e other =
@@ -331,11 +345,13 @@ bound_some f h t (s.character c _ unicode is) w r e none =
     let never : x.0 ∷ (x.1 ++ w) ≡ [] = ap (λ l. l ++ w) (sym x.2) ∙ sym e ∙ none in absurd (cc)
 
 -- no character beyond ASCII begins with a byte of ASCII
-pub ascii_first : {A : Type 0} (c : ℕ) → 128 ≤ c → (w r : Bytes) (d : ℕ) → slice_get r 0 ≡ Some d → r ≡ encode_utf8 c ++ w
+pub ascii_first : {A : Type 0} (c : ℕ) → 128 ≤ c → (w r : Bytes) (d : ℕ) → slice_get r 0 ≡ Some d
+    → r ≡ encode_utf8 c ++ w
     → is_ascii d ≡ true → A
 ascii_first c large w r d at e ascii =
     let x = encode_starts c large in
-    let same : x.0 ≡ d = some_injective x.0 d (ap (λ l. slice_get (l ++ w) 0) (sym x.2) ∙ ap (λ l. slice_get l 0) (sym e) ∙ at) in
+    let same : x.0 ≡ d = some_injective x.0 d
+    (ap (λ l. slice_get (l ++ w) 0) (sym x.2) ∙ ap (λ l. slice_get l 0) (sym e) ∙ at) in
     let small : d < 128 = ascii_small d ascii in
     let more : 128 ≤ x.0 = x.3 in
     absurd (omega (arith, same, small, more))
@@ -347,7 +363,8 @@ may_listed f (escape.Wide c) q w h = tt
 may_listed f (escape.Class kind negated) q w h = tt
 may_listed f (escape.Look look) q w h = absurd h
 
-pub listed_byte : (f : Flags) (b : ℕ) (e : Escape) (q : Before) → IsSame (escape.Byte b) e → Listed f e q → q ≡ AfterOne true b
+pub listed_byte : (f : Flags) (b : ℕ) (e : Escape) (q : Before) → IsSame (escape.Byte b) e → Listed f e q
+    → q ≡ AfterOne true b
 listed_byte f b (escape.Byte c) q same h = h ∙ ap (λ x. AfterOne true x) (sym same)
 listed_byte f b (escape.Wide c) q same h = absurd same
 listed_byte f b (escape.Class kind negated) q same h = absurd same
@@ -360,14 +377,16 @@ listed_wide f b (escape.Wide c) q same h = (h.0, h.1 ∙ ap (λ x. AfterOne true
 listed_wide f b (escape.Class kind negated) q same h = absurd same
 listed_wide f b (escape.Look look) q same h = absurd same
 
-pub listed_class : (f : Flags) (k : ClassKind) (n : Bool) (e : Escape) (q : Before) → IsSame (escape.Class k n) e → Listed f e q
+pub listed_class : (f : Flags) (k : ClassKind) (n : Bool) (e : Escape) (q : Before) → IsSame (escape.Class k n) e
+    → Listed f e q
     → (f.unicode ≡ false) × (q ≡ AfterClass)
 listed_class f k n (escape.Byte c) q same h = absurd same
 listed_class f k n (escape.Wide c) q same h = absurd same
 listed_class f k n (escape.Class kind negated) q same h = h
 listed_class f k n (escape.Look look) q same h = absurd same
 
-pub listed_look : {A : Type 0} (f : Flags) (l : Look) (e : Escape) (q : Before) → IsSame (escape.Look l) e → Listed f e q → A
+pub listed_look : {A : Type 0} (f : Flags) (l : Look) (e : Escape) (q : Before) → IsSame (escape.Look l) e
+    → Listed f e q → A
 listed_look f l (escape.Byte c) q same h = absurd same
 listed_look f l (escape.Wide c) q same h = absurd same
 listed_look f l (escape.Class kind negated) q same h = absurd same
@@ -377,7 +396,8 @@ listed_look f l (escape.Look look) q same h = absurd h
 pub no_bracket_sign : (c : ℕ) → (c ∈ "-\\[") ≡ false → (0x5D == c) ≡ false → (c ∈ "[]\\-") ≡ false
 no_bracket_sign c signs close =
     by_test (c ∈ "[]\\-")
-    (λ t. let one : ((c ∈ "-\\[") || (0x5D == c)) ≡ true = within (λ y. (y ∈ "-\\[") || (0x5D == y)) (codes "[]\\-") c t refl in
+    (λ t. let one : ((c ∈ "-\\[") || (0x5D == c)) ≡ true =
+    within (λ y. (y ∈ "-\\[") || (0x5D == y)) (codes "[]\\-") c t refl in
     let never : false ≡ true = sym (ap (λ x. x || (0x5D == c)) signs ∙ close) ∙ one in absurd (cc)) (λ t. t)
 
 pub may_bound : (f : Flags) (h : ℕ) (e : Escape) (w : Bytes) → IsEndOf f h e → MayPrecede e w
@@ -392,7 +412,8 @@ end_byte f b h (escape.Wide c) same x = absurd same
 end_byte f b h (escape.Class kind negated) same x = absurd same
 end_byte f b h (escape.Look look) same x = absurd same
 
-pub end_wide : (f : Flags) (b h : ℕ) (e : Escape) → IsSame (escape.Wide b) e → IsEndOf f h e → (f.unicode ≡ true) × (b ≡ h)
+pub end_wide : (f : Flags) (b h : ℕ) (e : Escape) → IsSame (escape.Wide b) e → IsEndOf f h e → (f.unicode ≡ true)
+    × (b ≡ h)
 end_wide f b h (escape.Byte c) same x = absurd same
 end_wide f b h (escape.Wide c) same x = (x.0, same ∙ x.1)
 end_wide f b h (escape.Class kind negated) same x = absurd same
@@ -416,7 +437,8 @@ pub not_close : (d : ℕ) → (d ≡ 0x5D → ⊥) → (0x5D == d) ≡ false
 not_close d other = by_test (0x5D == d) (λ t. absurd (other (sym (eqb-true 0x5D d t)))) (λ t. t)
 
 -- the byte is beyond ASCII, or it is not
-pub not_ascii : {A : Type 0} (b c : ℕ) (r w : Bytes) → slice_get r 0 ≡ Some b → r ≡ c ∷ w → is_ascii b ≡ false → is_ascii c ≡ true → A
+pub not_ascii : {A : Type 0} (b c : ℕ) (r w : Bytes) → slice_get r 0 ≡ Some b → r ≡ c ∷ w → is_ascii b ≡ false
+    → is_ascii c ≡ true → A
 not_ascii b c r w at e wide ascii =
     let same : c ≡ b = some_injective c b (sym (ap (λ l. slice_get l 0) e) ∙ at) in
     let never : true ≡ false = sym ascii ∙ ap is_ascii same ∙ wide in absurd (cc)

@@ -95,7 +95,8 @@ at_least_read n h r1 r2 small =
     renamed (Ended (Ended (λ u. number 10 u ≡ Some n) 0x2C) 0x7D) (λ t. Operator n None (0x7B ∷ t))
     (closed (Ended (λ u. number 10 u ≡ Some n) 0x2C) (closed (λ u. number 10 u ≡ Some n) h r1) r2)
     (λ v z. subst (λ w. Operator n None (0x7B ∷ w))
-    (sym (z.2 ∙ ap (λ w. w ++ 0x7D ∷ []) z.1.2 ∙ append_assoc z.1.0 (0x2C ∷ []) (0x7D ∷ []))) (s.at_least n z.1.0 z.1.1 small))
+    (sym (z.2 ∙ ap (λ w. w ++ 0x7D ∷ []) z.1.2 ∙ append_assoc z.1.0 (0x2C ∷ []) (0x7D ∷ [])))
+    (s.at_least n z.1.0 z.1.1 small))
 
 pub between_read : {a d y e x : Text} (n m : ℕ) → Part a d (λ t. number 10 t ≡ Some n) → d ≡ 0x2C ∷ y
     → Part y e (λ t. number 10 t ≡ Some m) → e ≡ 0x7D ∷ x → n ≤ m → m < 2 ^ 32
@@ -105,12 +106,15 @@ between_read n m h r1 k r2 le small =
     (λ t. Operator n (Some m) (0x7B ∷ t))
     (closed (λ u. number 10 u ≡ Some n) h r1) (closed (λ u. number 10 u ≡ Some m) k r2)
     (λ t u p q. subst (λ w. Operator n (Some m) (0x7B ∷ w))
-    (sym (ap (λ w. w ++ u) p.2 ∙ ap (λ w. p.0 ++ 0x2C ∷ [] ++ w) q.2 ∙ sym (append_assoc (p.0 ++ 0x2C ∷ []) q.0 (0x7D ∷ []))))
+    (sym (ap (λ w. w ++ u) p.2 ∙ ap (λ w. p.0 ++ 0x2C ∷ [] ++ w) q.2
+    ∙ sym (append_assoc (p.0 ++ 0x2C ∷ []) q.0 (0x7D ∷ []))))
     (s.between n m p.0 q.0 p.1 q.1 le small))
 
 -- an item after others
-pub item_read : {a b d : Text} (f g : Flags) (ps qs : List Pattern) (p : Pattern) → Part a b (Items f g (map meaning ps))
-    → Part b d (λ t. (e : Bool) × Repeated g e (meaning p) t) → qs ≡ ps ++ p ∷ [] → Part a d (Items f g (map meaning qs))
+pub item_read : {a b d : Text} (f g : Flags) (ps qs : List Pattern) (p : Pattern)
+    → Part a b (Items f g (map meaning ps))
+    → Part b d (λ t. (e : Bool) × Repeated g e (meaning p) t) → qs ≡ ps ++ p ∷ []
+    → Part a d (Items f g (map meaning qs))
 item_read f g ps qs p h k e =
     onward (Items f g (map meaning ps)) (λ t. (e : Bool) × Repeated g e (meaning p) t) (Items f g (map meaning qs)) h k
     (λ t u x y. subst (λ l. Items f g l (t ++ u)) (sym (ap (map meaning) e ∙ map-append meaning ps (p ∷ [])))
@@ -150,7 +154,8 @@ pub opens_capture : (f : Flags) → Opens f f []
 opens_capture f re u h = s.capture f h.0 re u h.1
 
 pub opens_named : (f : Flags) (n : Text) → is_name n ≡ true → Opens f f (0x3F ∷ 0x3C ∷ (n ++ 0x3E ∷ []))
-opens_named f n is re u h = subst (λ w. Atom f re (0x28 ∷ 0x3F ∷ 0x3C ∷ w)) (append_assoc (n ++ 0x3E ∷ []) u (0x29 ∷ []))
+opens_named f n is re u h = subst (λ w. Atom f re (0x28 ∷ 0x3F ∷ 0x3C ∷ w))
+    (append_assoc (n ++ 0x3E ∷ []) u (0x29 ∷ []))
     (s.named f h.0 re n u is h.1)
 
 pub opens_named_p : (f : Flags) (n : Text) → is_name n ≡ true → Opens f f (0x3F ∷ 0x50 ∷ 0x3C ∷ (n ++ 0x3E ∷ []))
@@ -159,12 +164,14 @@ opens_named_p f n is re u h =
     (s.named_p f h.0 re n u is h.1)
 
 pub opens_group : (f g : Flags) (on : Bool) (n : Text) → Sets f on g n → Opens f g (0x3F ∷ (n ++ 0x3A ∷ []))
-opens_group f g on n sets re u h = subst (λ w. Atom f re (0x28 ∷ 0x3F ∷ w)) (append_assoc (n ++ 0x3A ∷ []) u (0x29 ∷ []))
+opens_group f g on n sets re u h = subst (λ w. Atom f re (0x28 ∷ 0x3F ∷ w))
+    (append_assoc (n ++ 0x3A ∷ []) u (0x29 ∷ []))
     (s.group f g h.0 on re n u sets h.1)
 
 pub named_read : {a b d y : Text} (f : Flags) → a ≡ 0x3F ∷ b → b ≡ 0x3C ∷ d → Part d y IsNamed → Part a y (Opens f f)
 named_read f r1 r2 h =
-    prefixed (Opens f f) r1 (prefixed (λ t. Opens f f (0x3F ∷ t)) r2 (renamed IsNamed (λ t. Opens f f (0x3F ∷ 0x3C ∷ t)) h
+    prefixed (Opens f f) r1 (prefixed (λ t. Opens f f (0x3F ∷ t)) r2
+    (renamed IsNamed (λ t. Opens f f (0x3F ∷ 0x3C ∷ t)) h
     (λ t z. subst (λ w. Opens f f (0x3F ∷ 0x3C ∷ w)) (sym z.2) (opens_named f z.0 z.1))))
 
 pub named_p_read : {a b d e y : Text} (f : Flags) → a ≡ 0x3F ∷ b → b ≡ 0x50 ∷ d → d ≡ 0x3C ∷ e → Part e y IsNamed
@@ -174,7 +181,8 @@ named_p_read f r1 r2 r3 h =
     (renamed IsNamed (λ t. Opens f f (0x3F ∷ 0x50 ∷ 0x3C ∷ t)) h
     (λ t z. subst (λ w. Opens f f (0x3F ∷ 0x50 ∷ 0x3C ∷ w)) (sym z.2) (opens_named_p f z.0 z.1)))))
 
-pub flags_read : {a b d y : Text} (f g : Flags) → a ≡ 0x3F ∷ b → Part b d (λ t. (on : Bool) × Sets f on g t) → d ≡ 0x3A ∷ y
+pub flags_read : {a b d y : Text} (f g : Flags) → a ≡ 0x3F ∷ b → Part b d (λ t. (on : Bool) × Sets f on g t)
+    → d ≡ 0x3A ∷ y
     → Part a y (Opens f g)
 flags_read f g r1 h r2 =
     prefixed (Opens f g) r1 (renamed (Ended (λ t. (on : Bool) × Sets f on g t) 0x3A) (λ t. Opens f g (0x3F ∷ t))
@@ -219,7 +227,8 @@ pub cleared_read : {a b d : Text} (seen : Text) (g h : Flags) → a ≡ 0x2D ∷
     → Part a d (SetsMore seen true g false h)
 cleared_read seen g h r k = prefixed (SetsMore seen true g false h) r
     (renamed (IsFlag seen g false h) (λ t. SetsMore seen true g false h (0x2D ∷ t)) k
-    (λ t z f sets. subst (λ w. Sets f false h (seen ++ 0x2D ∷ w)) (sym z.1) (s.first_cleared g h seen z.0 sets z.2 z.3)))
+    (λ t z f sets. subst (λ w. Sets f false h (seen ++ 0x2D ∷ w)) (sym z.1)
+    (s.first_cleared g h seen z.0 sets z.2 z.3)))
 
 pub letters_read : {a b d : Text} (f g h : Flags) (on later : Bool) (seen : Text)
     → ((t : Text) → a ≡ t ++ b → seen ≡ t) → Part a b (Sets f on g) → Part b d (SetsMore seen on g later h)
@@ -236,7 +245,8 @@ name_begun c e = ap (λ x. x && true) e
 pub name_more : (t : Text) (d : ℕ) → is_name t ≡ true → is_in_name d ≡ true → is_name (t ++ d ∷ []) ≡ true
 name_more [] d h e = absurd (cc)
 name_more (c ∷ t) d h e =
-    ap (λ x. begins_name c && x) (list_all-append is_in_name t (d ∷ []) ∙ ap (λ x. list_all is_in_name t && (x && true)) e)
+    ap (λ x. begins_name c && x) (list_all-append is_in_name t (d ∷ [])
+    ∙ ap (λ x. list_all is_in_name t && (x && true)) e)
     ∙ with_true (begins_name c) (list_all is_in_name t) ∙ h where
       with_true : (x y : Bool) → (x && (y && true)) ≡ (x && y)
       with_true true true = refl
@@ -251,7 +261,8 @@ name_grown c h r e =
 
 -- an operator after what it repeats
 pub again_read : (a b d x : Text) (f : Flags) (re new : Re) (min : ℕ) (max : Option ℕ) (is_lazy : Bool)
-    → Part a b (λ t. (e : Bool) × Repeated f e re t × (e ≡ true → slice_get b 0 ≡ Some 0x3F → ⊥)) → Part b d (Operator min max)
+    → Part a b (λ t. (e : Bool) × Repeated f e re t × (e ≡ true → slice_get b 0 ≡ Some 0x3F → ⊥))
+    → Part b d (Operator min max)
     → (is_lazy ≡ true → d ≡ 0x3F ∷ x) → (is_lazy ≡ false → x ≡ d)
     → (is_lazy ≡ false → slice_get d 0 ≡ Some 0x3F → ⊥)
     → new ≡ repeated min max (cond is_lazy f.swap_greed (not f.swap_greed)) re
@@ -269,7 +280,8 @@ again_read a b d x f re new min max true h k r same other m =
       λ e. absurd (cc),
     ))
 again_read a b d x f re new min max false h k r same other m =
-    subst (λ y. Part a y (λ t. (e : Bool) × Repeated f e new t × (e ≡ true → slice_get y 0 ≡ Some 0x3F → ⊥))) (sym (same refl))
+    subst (λ y. Part a y (λ t. (e : Bool) × Repeated f e new t × (e ≡ true → slice_get y 0 ≡ Some 0x3F → ⊥)))
+    (sym (same refl))
     (onward (λ t. (e : Bool) × Repeated f e re t × (e ≡ true → slice_get b 0 ≡ Some 0x3F → ⊥))
     (λ u. Operator min max u × (b ≡ u ++ d))
     (λ t. (e : Bool) × Repeated f e new t × (e ≡ true → slice_get d 0 ≡ Some 0x3F → ⊥)) h (k.0, k.1, (k.2, k.1))

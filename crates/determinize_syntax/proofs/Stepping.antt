@@ -1,7 +1,8 @@
 -- What follows at a place, by the byte that is there.
 -- Main statements: at_bar, at_close, at_end, sign_passed, counts_begin, no_sign, greedy_passed, lazy_passed, opened.
 -- Used by: the proofs that the parser rejects no pattern.
--- Idea: the first byte decides by which rule a text follows, since no two rules have one in common but those of a group and a setting.
+-- Idea: the first byte decides by which rule a text follows, since no two rules have one in common but those of a group
+-- and a setting.
 use Rattle.std.proofs.Common.{◌≡◌, ◌<◌, ◌≤◌, ◌∷◌, ◌++◌, ◌∙◌, ◌&&◌, ◌||◌, ◌⊎◌, ap, arith, inl, inr, length, ltb-false, ltb-true, nat_lt, refl, sym, subst, [], Bool, List, None, Option, Some, false, true, not, slice_get, ℕ}
 use Rattle.std.specs.Prelude.{◌==◌, Err, IfErr, IsErrAnd, Ok, Result, codes}
 use Rattle.std.specs.List.{list_all, list_any}
@@ -15,7 +16,7 @@ use Rattle.determinize_syntax.specs.Spells as s
 use Rattle.determinize_syntax.specs.Spells.{Bytes, Escaped, Operator, Wide, is_limit}
 use Rattle.determinize_syntax.specs.Words.{◌∈◌}
 use Rattle.determinize_syntax.specs.Private.Following as to
-use Rattle.determinize_syntax.specs.Private.Following.{AfterOperator, Enters, FromAtom, FromItem, FromOperator, IsEnd, IsStop, Single, Unlimited}
+use Rattle.determinize_syntax.specs.Private.Following.{AfterOperator, Enters, FromAtom, FromItem, FromOperator, IsEnd, IsBranchEnd, Single, Unlimited}
 use Rattle.determinize_syntax.specs.declared.error.ParseError.{ParseError}
 use Rattle.determinize_syntax.specs.declared.flags.Flags.{Flags}
 
@@ -106,14 +107,16 @@ single_starts f t (to.other_brackets set u inside cases) = (0x5B, _, refl, refl)
 pub unlisted : {A : Type 0} (c d : ℕ) (w u l : Bytes) → c ∷ w ≡ d ∷ u → list_any (λ x. x == d) l ≡ true
     → list_any (λ x. x == c) l ≡ false → A
 unlisted c d w u l e sign other =
-    let never : true ≡ false = sym sign ∙ ap (λ y. list_any (λ x. x == y) l) (sym (heads c d w u e)) ∙ other in absurd (cc)
+    let never : true ≡ false = sym sign ∙ ap (λ y. list_any (λ x. x == y) l) (sym (heads c d w u e)) ∙ other in
+    absurd (cc)
 
 -- no atom begins with the byte
 never : {A : Type 0} (t : Bytes) → Starts t → (d : ℕ) (w u : Bytes) → t ++ w ≡ d ∷ u → (d ∈ "|)*+?{(") ≡ true → A
 never t x d w u e sign = unlisted x.0 d (x.1 ++ w) u (codes "|)*+?{(") (ap (λ l. l ++ w) (sym x.2) ∙ e) sign x.3
 
 -- an atom does not begin with the byte
-pub atom_never : {A : Type 0} (k : List Flags) (f : Flags) (t : Bytes) → FromAtom k f t → (d : ℕ) (u : Bytes) → t ≡ d ∷ u
+pub atom_never : {A : Type 0} (k : List Flags) (f : Flags) (t : Bytes) → FromAtom k f t → (d : ℕ) (u : Bytes)
+    → t ≡ d ∷ u
     → (d ∈ "|)*+?{") ≡ true → A
 atom_never k f t (to.single _ _ v w is h) d u e sign = never v (single_starts f v is) d w u e (or_more d sign) where
   or_more : (c : ℕ) → (c ∈ "|)*+?{") ≡ true → (c ∈ "|)*+?{(") ≡ true
@@ -146,7 +149,8 @@ at_end k f t (to.atom _ _ _ (to.single _ _ v w is h)) e =
 at_end k f t (to.atom _ _ _ (to.group _ _ g v w is h)) e = absurd (cc)
 
 -- there is no operator where an item may begin
-pub no_operator : {A : Type 0} (k : List Flags) (f : Flags) (t : Bytes) → FromItem k f t → (d : ℕ) (u : Bytes) → t ≡ d ∷ u
+pub no_operator : {A : Type 0} (k : List Flags) (f : Flags) (t : Bytes) → FromItem k f t → (d : ℕ) (u : Bytes)
+    → t ≡ d ∷ u
     → (d ∈ "*+?{") ≡ true → A
 no_operator k f t (to.ended _) d u e sign = absurd (cc)
 no_operator k f t (to.bar _ _ w h) d u e sign = unlisted 0x7C d w u (codes "*+?{") e sign refl
@@ -180,7 +184,8 @@ sign_passed k f e t (to.lazy _ _ _ min max v w operator other h) d u same is =
     inr (w, sym (tails d d (0x3F ∷ w) u (ap (λ l. l ++ 0x3F ∷ w) (sym one) ∙ same)), h)
 
 -- an eager operator has no `?`
-pub lazy_passed : (k : List Flags) (f : Flags) (t u : Bytes) → AfterOperator k f t → t ≡ 0x3F ∷ u → FromOperator k f false u
+pub lazy_passed : (k : List Flags) (f : Flags) (t u : Bytes) → AfterOperator k f t → t ≡ 0x3F ∷ u
+    → FromOperator k f false u
 lazy_passed k f t u (inr x) e = subst (FromOperator k f false) (tails 0x3F 0x3F x.0 u (sym x.1 ∙ e)) x.2
 lazy_passed k f t u (inl (to.none _ _ _ _ h)) e = no_operator k f t h 0x3F u e refl
 lazy_passed k f t u (inl (to.greedy _ _ _ min max v w operator other h)) e =
@@ -195,7 +200,8 @@ greedy_passed k f t (inr x) other = absurd (other (ap (λ l. slice_get l 0) x.1)
 
 -- counts after their brace, with what follows
 abbrev pub Counted : List Flags → Flags → Bytes → Type 0
-Counted k f t = (min : ℕ) × (max : Option ℕ) × (v w : Bytes) × (t ≡ v ++ w) × Operator min max (0x7B ∷ v) × AfterOperator k f w
+Counted k f t = (min : ℕ) × (max : Option ℕ) × (v w : Bytes) × (t ≡ v ++ w) × Operator min max (0x7B ∷ v)
+    × AfterOperator k f w
 
 -- an operator that begins with a brace
 braced : (min : ℕ) (max : Option ℕ) (t : Bytes) → Operator min max t → (w u : Bytes) → t ++ w ≡ 0x7B ∷ u
@@ -259,7 +265,8 @@ sign_atom k f t (to.single _ _ v w is h) d u e sign = one v is e where
   one v (to.character c _ is cases) r =
       let x = wide_starts c v is in
       by_cases x.3
-      (λ b. unlisted 0x5C d (x.1 ++ w) u (codes ".^$") (ap (λ y. y ∷ (x.1 ++ w)) (sym b) ∙ ap (λ l. l ++ w) (sym x.2) ∙ r) sign refl)
+      (λ b. unlisted 0x5C d (x.1 ++ w) u (codes ".^$")
+      (ap (λ y. y ∷ (x.1 ++ w)) (sym b) ∙ ap (λ l. l ++ w) (sym x.2) ∙ r) sign refl)
       (λ b. unlisted x.0 d (x.1 ++ w) u (codes ".^$") (ap (λ l. l ++ w) (sym x.2) ∙ r) sign
       (apart (λ y. not (nat_lt y 128)) (codes ".^$") x.0 (ap not (le-ltb x.0 128 b)) refl))
   one v (to.escaped b _ is cases) r =
@@ -279,12 +286,13 @@ operator_taken k f d x h false read same other =
     (true, subst (FromOperator k f true) (sym (same refl)) (greedy_passed k f d h (other refl)))
 
 -- the end of a branch but for a bar
-pub stop_is_end : (t : Bytes) → IsStop t → (slice_get t 0 ≡ Some 0x7C → ⊥) → IsEnd t
+pub stop_is_end : (t : Bytes) → IsBranchEnd t → (slice_get t 0 ≡ Some 0x7C → ⊥) → IsEnd t
 stop_is_end t (inl h) other = h
 stop_is_end t (inr x) other = absurd (other (ap (λ l. slice_get l 0) x.1))
 
 -- the end of a group
-pub group_closed : (k : List Flags) (f g : Flags) (t u : Bytes) → FromItem (f ∷ k) g t → t ≡ 0x29 ∷ u → FromOperator k f false u
+pub group_closed : (k : List Flags) (f g : Flags) (t u : Bytes) → FromItem (f ∷ k) g t → t ≡ 0x29 ∷ u
+    → FromOperator k f false u
 group_closed k f g t u h e =
     let x = at_close (f ∷ k) g t h u e in
     let flags : f ≡ x.0 = (cc) in
@@ -324,7 +332,7 @@ signs_absent t star plus query brace c at sign =
     (λ i4. let never : false ≡ true = simp (i1, i2, i3, i4) at sign in absurd (cc)))))
 
 -- a byte that ends a branch is next, or it is not
-pub stop_here : (t : Bytes) (b : ℕ) → slice_get t 0 ≡ Some b → (b ∈ "|)") ≡ true → IsStop t
+pub stop_here : (t : Bytes) (b : ℕ) → slice_get t 0 ≡ Some b → (b ∈ "|)") ≡ true → IsBranchEnd t
 stop_here [] b e sign = absurd (cc)
 stop_here (x ∷ t) b e sign =
     by_test (0x7C == b) (λ i. inr (t, ap (λ y. y ∷ t) (some_injective x b e ∙ sym (eqb-true 0x7C b i))))
@@ -334,7 +342,7 @@ stop_here (x ∷ t) b e sign =
           ∙ sym (eqb-true 0x29 b (or_false (0x29 == b) (ap (λ z. z || ((0x29 == b) || false)) (sym i) ∙ sign)))),
     )))
 
-pub no_stop : (t : Bytes) (b : ℕ) → slice_get t 0 ≡ Some b → (b ∈ "|)") ≡ false → IsStop t → ⊥
+pub no_stop : (t : Bytes) (b : ℕ) → slice_get t 0 ≡ Some b → (b ∈ "|)") ≡ false → IsBranchEnd t → ⊥
 no_stop t b at other (inl (inl e)) = let never : None ≡ Some b = ap (λ l. slice_get l 0) (sym e) ∙ at in absurd (cc)
 no_stop t b at other (inl (inr x)) =
     let same : 0x29 ≡ b = some_injective 0x29 b (ap (λ l. slice_get l 0) (sym x.1) ∙ at) in

@@ -18,7 +18,7 @@ use Rattle.determinize_pattern.specs.Meaning.{Re}
 use Rattle.determinize_pattern.specs.Patterns.{IsClass, choice_of}
 use Rattle.determinize_syntax.specs.Spells as s
 use Rattle.determinize_syntax.specs.Spells.{Atom, Branches, Bytes, Choice, IsOneOf, Items, Repeated, Sets, Wide, sequence_of}
-use Rattle.determinize_syntax.specs.Unicode.{asks_without_u, clears_u, clears_unicode, has_u}
+use Rattle.determinize_syntax.specs.Unicode.{group_clears_u, clears_u, clears_unicode, has_u}
 use Rattle.determinize_syntax.specs.Words.{Set, ◌∈◌, folded, knows_cases, only, set_flag}
 use Rattle.determinize_syntax.specs.declared.flags.Flags.{Flags}
 
@@ -47,7 +47,7 @@ clears_more (c ∷ a) b h = or_more (c ∈ "-" && has_u a) _ (c ∈ "-" && has_u
     (and_more (c ∈ "-") (has_u a) (has_u (a ++ b)) (has_more a b))
     (and_more (c ∈ "imsRUu") (clears_u a) (clears_u (a ++ b)) (clears_more a b)) h
 
-asks_more : (a b : Bytes) → asks_without_u a ≡ true → asks_without_u (a ++ b) ≡ true
+asks_more : (a b : Bytes) → group_clears_u a ≡ true → group_clears_u (a ++ b) ≡ true
 asks_more [] b h = absurd (false≢true h)
 asks_more (c ∷ a) b h = and_more (c ∈ "?") (clears_u a) (clears_u (a ++ b)) (clears_more a b) h
 
@@ -55,11 +55,11 @@ asks_more (c ∷ a) b h = and_more (c ∈ "?") (clears_u a) (clears_u (a ++ b)) 
 parts_keep : (a b : Bytes) → clears_unicode (a ++ b) ≡ false → (clears_unicode a ≡ false) × (clears_unicode b ≡ false)
 parts_keep [] b h = (refl, h)
 parts_keep (c ∷ a) b h =
-    let each = or_parts (c ∈ "(" && asks_without_u (a ++ b)) (clears_unicode (a ++ b)) h in
+    let each = or_parts (c ∈ "(" && group_clears_u (a ++ b)) (clears_unicode (a ++ b)) h in
     let rest = parts_keep a b each.1 in
-    let first : (c ∈ "(" && asks_without_u a) ≡ false = unless _ (c ∈ "(" && asks_without_u (a ++ b))
-    (and_more (c ∈ "(") (asks_without_u a) (asks_without_u (a ++ b)) (asks_more a b)) each.0 in
-    (or_from (c ∈ "(" && asks_without_u a) (clears_unicode a) first rest.0, rest.1)
+    let first : (c ∈ "(" && group_clears_u a) ≡ false = unless _ (c ∈ "(" && group_clears_u (a ++ b))
+    (and_more (c ∈ "(") (group_clears_u a) (group_clears_u (a ++ b)) (asks_more a b)) each.0 in
+    (or_from (c ∈ "(" && group_clears_u a) (clears_unicode a) first rest.0, rest.1)
 
 -- the letter of a flag: of another one, or `u`
 module _ (g h : Flags) (c : ℕ) (on : Bool) where

@@ -26,10 +26,12 @@ three : (c b : ℕ) (t : Bytes) → 2048 ≤ c → c < 65536 → encode_utf8 c �
 unfolding encode_utf8
 three c b t large small e =
     let more : 128 ≤ c = omega arith in
-    let is = cond-false _ _ _ (le-ltb c 128 more) ∙ cond-false _ _ _ (le-ltb c 2048 large) ∙ cond-true _ _ _ (lt-ltb c 65536 small) in
+    let is = cond-false _ _ _ (le-ltb c 128 more) ∙ cond-false _ _ _ (le-ltb c 2048 large)
+    ∙ cond-true _ _ _ (lt-ltb c 65536 small) in
     let first : 224 + c / 4096 ≡ b = heads (224 + c / 4096) b _ t (sym is ∙ e) in
     let len : len_utf8 c ≡ 3 =
-    cond-false _ _ _ (le-ltb c 128 more) ∙ cond-false _ _ _ (le-ltb c 2048 large) ∙ cond-true _ _ _ (lt-ltb c 65536 small) in
+    cond-false _ _ _ (le-ltb c 128 more) ∙ cond-false _ _ _ (le-ltb c 2048 large)
+    ∙ cond-true _ _ _ (lt-ltb c 65536 small) in
     inr (inl (omega (arith, first), omega (arith, first), len))
 
 four : (c b : ℕ) (t : Bytes) → 65536 ≤ c → encode_utf8 c ≡ b ∷ t → WidthOf b (len_utf8 c)
@@ -37,10 +39,12 @@ unfolding encode_utf8
 four c b t large e =
     let more : 128 ≤ c = omega arith in
     let most : 2048 ≤ c = omega arith in
-    let is = cond-false _ _ _ (le-ltb c 128 more) ∙ cond-false _ _ _ (le-ltb c 2048 most) ∙ cond-false _ _ _ (le-ltb c 65536 large) in
+    let is = cond-false _ _ _ (le-ltb c 128 more) ∙ cond-false _ _ _ (le-ltb c 2048 most)
+    ∙ cond-false _ _ _ (le-ltb c 65536 large) in
     let first : 240 + c / 262144 ≡ b = heads (240 + c / 262144) b _ t (sym is ∙ e) in
     let len : len_utf8 c ≡ 4 =
-    cond-false _ _ _ (le-ltb c 128 more) ∙ cond-false _ _ _ (le-ltb c 2048 most) ∙ cond-false _ _ _ (le-ltb c 65536 large) in
+    cond-false _ _ _ (le-ltb c 128 more) ∙ cond-false _ _ _ (le-ltb c 2048 most)
+    ∙ cond-false _ _ _ (le-ltb c 65536 large) in
     inr (inr (omega (arith, first), len))
 
 pub width_of : (c b : ℕ) (t : Bytes) → 128 ≤ c → encode_utf8 c ≡ b ∷ t → WidthOf b (len_utf8 c)
@@ -55,7 +59,8 @@ take_all (x ∷ xs) ys = ap (λ r. x ∷ r) (take_all xs ys)
 
 pub front_is : (c n : ℕ) (a t : Bytes) → a ≡ encode_utf8 c ++ t → n ≡ len_utf8 c → take n a ≡ encode_utf8 c
 front_is c n a t e width =
-    ap (λ m. take m a) (width ∙ sym (length-encode c)) ∙ ap (take (length (encode_utf8 c))) e ∙ take_all (encode_utf8 c) t
+    ap (λ m. take m a) (width ∙ sym (length-encode c)) ∙ ap (take (length (encode_utf8 c))) e
+    ∙ take_all (encode_utf8 c) t
 
 pub long_enough : (c : ℕ) (a t : Bytes) → a ≡ encode_utf8 c ++ t → len_utf8 c ≤ length a
 long_enough c a t e =

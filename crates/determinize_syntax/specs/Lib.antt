@@ -1,3 +1,4 @@
+pub mod Limits
 pub mod Private
 pub mod Spells
 pub mod Unicode

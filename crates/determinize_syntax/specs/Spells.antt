@@ -186,7 +186,7 @@ SpellsUnder f re text = (g : Flags) × Choice f g re text
 abbrev pub Spells : Re → Bytes → Type 0
 Spells = SpellsUnder no_flags
 
--- a limit was met, which is no fault of the text
+-- the errors that a text which denotes a pattern may have
 abbrev pub is_limit : ErrorKind → Bool
 is_limit OutOfMemory = true
 is_limit NestLimitExceeded = true

@@ -13,11 +13,11 @@ clears_u [] = false
 clears_u (c ∷ t) = (c ∈ "-" && has_u t) || (c ∈ "imsRUu" && clears_u t)
 
 -- the text begins with `?` and flags that clear `u`
-abbrev pub asks_without_u : List ℕ → Bool
-asks_without_u [] = false
-asks_without_u (c ∷ t) = c ∈ "?" && clears_u t
+abbrev pub group_clears_u : List ℕ → Bool
+group_clears_u [] = false
+group_clears_u (c ∷ t) = c ∈ "?" && clears_u t
 
 -- somewhere in the text a `(?` is followed by flags that clear `u`, as in `a(?-u:b)`
 abbrev pub clears_unicode : List ℕ → Bool
 clears_unicode [] = false
-clears_unicode (c ∷ t) = (c ∈ "(" && asks_without_u t) || clears_unicode t
+clears_unicode (c ∷ t) = (c ∈ "(" && group_clears_u t) || clears_unicode t

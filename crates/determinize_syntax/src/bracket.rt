@@ -1,12 +1,13 @@
 //! Brackets.
 
-ghost use Rattle.std.specs.Prelude.{◌≡◌, ◌<◌, ◌++◌, ◌∷◌, ◌&&◌, [], ℕ, Bool, IfOk, List, OnOk, Some, encode_utf8, false, length, not, slice_get, true};
+ghost use Rattle.std.specs.Prelude.{◌≡◌, ◌<◌, ◌++◌, ◌∷◌, ◌&&◌, [], ℕ, Bool, IfErr, IfOk, List, OnOk, Some, encode_utf8, false, length, not, slice_get, true};
 ghost use Rattle.determinize_syntax.specs.Private.Following.{FromAtom, FromOperator, Unended, Unlimited};
 ghost use Rattle.determinize_syntax.specs.Private.Letters.{Listing};
 ghost use Rattle.std.specs.Char.{is_ascii};
 ghost use Rattle.determinize_pattern.specs.Characters.{char_pairs};
 ghost use Rattle.determinize_pattern.specs.Patterns.{meaning};
 ghost use Rattle.determinize_syntax.specs.Private.Brackets.{Extends, IsBegun, IsInside};
+ghost use Rattle.determinize_syntax.specs.Private.Names.{is_local};
 ghost use Rattle.determinize_syntax.specs.Private.Reading.{IsNotAt, Part, Reads, rest};
 ghost use Rattle.determinize_syntax.specs.Private.Sets.{AddsChars, set_of, turned};
 ghost use Rattle.determinize_syntax.specs.Spells as spells;
@@ -64,6 +65,7 @@ pub fn bracket(
         (λ t. Atom flags (meaning p) (0x5B ∷ t))) }
     ensures whole { (k : List Flags) → FromAtom k flags (0x5B ∷ rest cursor.old)
         → Unlimited result (λ p. FromOperator k flags false (rest cursor.new)) }
+    ensures local { IfErr result (λ e. is_local e.kind ≡ true) }
 {
     let negated = cursor.take(b'^');
     let ranges = inside(alloc, cursor, start, flags)?;
@@ -85,6 +87,7 @@ fn inside(
         (IsInside flags (char_pairs v.items))) }
     ensures whole { (u : List ℕ) → Listing flags u false First (rest cursor.old)
         → knows_cases flags ≡ true → Unlimited result (λ v. rest cursor.new ≡ u) }
+    ensures local { IfErr result (λ e. is_local e.kind ≡ true) }
 {
     let mut items = front(alloc, cursor, start)?;
     loop {
@@ -211,6 +214,7 @@ impl Items {
         ensures whole { (u : List ℕ) → Unended flags u self.old.before (rest cursor.old)
             → knows_cases flags ≡ true
             → Unlimited result (λ r. Listing flags u true self.new.before (rest cursor.new)) }
+        ensures local { IfErr result (λ e. is_local e.kind ≡ true) }
     {
         let place = cursor.pos();
         if cursor.take(b'-') {
@@ -234,6 +238,7 @@ impl Items {
         ensures whole { (u : List ℕ) → Unended flags u self.old.before (rest cursor.old)
             → ((c : ℕ) → slice_get (rest cursor.old) 0 ≡ Some c → (c ∈ "-\\[") ≡ false)
             → Unlimited result (λ r. Listing flags u true self.new.before (rest cursor.new)) }
+        ensures local { IfErr result (λ e. is_local e.kind ≡ true) }
     {
         let place = cursor.pos();
         let Some(next) = cursor.peek() else {
@@ -271,6 +276,7 @@ impl Items {
             (char_pairs self.new.ranges.items) (0x5C ∷ t))) }
         ensures whole { (u : List ℕ) → Unended flags u self.old.before (0x5C ∷ rest cursor.old)
             → Unlimited result (λ r. Listing flags u true self.new.before (rest cursor.new)) }
+        ensures local { IfErr result (λ e. is_local e.kind ≡ true) }
     {
         let escape = read_escape(cursor, place)?;
         self.last = place;
@@ -305,6 +311,7 @@ impl Items {
         ensures whole { (u : List ℕ) → Unended flags u self.old.before (0x5B ∷ rest cursor.old)
             → knows_cases flags ≡ true
             → Unlimited result (λ r. Listing flags u true self.new.before (rest cursor.new)) }
+        ensures local { IfErr result (λ e. is_local e.kind ≡ true) }
     {
         if !cursor.take(b':') {
             return Err(ParseError::at(ErrorKind::ClassNested, place));
@@ -337,6 +344,7 @@ impl Items {
             (char_pairs self.new.ranges.items) (0x2D ∷ t))) }
         ensures whole { (u : List ℕ) → Unended flags u self.old.before (0x2D ∷ rest cursor.old)
             → Unlimited result (λ r. Listing flags u true self.new.before (rest cursor.new)) }
+        ensures local { IfErr result (λ e. is_local e.kind ≡ true) }
     {
         match self.before {
             Before::First => {
@@ -373,6 +381,7 @@ impl Items {
         ensures whole { (e : Bool) (u : List ℕ)
             → Unended flags u (AfterOne e low) (0x2D ∷ rest cursor.old)
             → Unlimited result (λ r. Listing flags u true self.new.before (rest cursor.new)) }
+        ensures local { IfErr result (λ e. is_local e.kind ≡ true) }
     {
         let high = self.bound(cursor, place, flags)?;
         if high < low {
@@ -387,6 +396,7 @@ impl Items {
         ensures read { IfOk result (λ h. Reads cursor.old cursor.new (Bound flags h)) }
         ensures whole { (h : ℕ) (u : List ℕ) → Part (rest cursor.old) u (Bound flags h)
             → Unlimited result (λ g. (g ≡ h) × (rest cursor.new ≡ u)) }
+        ensures local { IfErr result (λ e. is_local e.kind ≡ true) }
     {
         let first = cursor.pos();
         let Some(next) = cursor.peek() else {
@@ -414,7 +424,9 @@ impl Items {
     }
 
     /// Returns the error of a class before a hyphen, which is at `place`.
-    fn class_in_range(&self, cursor: &mut Cursor<'_>, place: usize, flags: Flags) -> ParseError {
+    fn class_in_range(&self, cursor: &mut Cursor<'_>, place: usize, flags: Flags) -> ParseError
+        ensures { is_local result.kind ≡ true }
+    {
         match self.bound(cursor, place, flags) {
             Err(error) if error.kind != ErrorKind::ClassRangeLiteral => error,
             _ => ParseError::new(ErrorKind::ClassRangeLiteral, self.last, place),
@@ -422,7 +434,9 @@ impl Items {
     }
 
     /// Returns the error of an assertion, which ends here.
-    fn assertion_error(&self, cursor: &mut Cursor<'_>, flags: Flags) -> ParseError {
+    fn assertion_error(&self, cursor: &mut Cursor<'_>, flags: Flags) -> ParseError
+        ensures { is_local result.kind ≡ true }
+    {
         let place = cursor.pos();
         match cursor.rest {
             [] | [b'-'] => self.unclosed(),
@@ -438,7 +452,9 @@ impl Items {
     }
 
     /// Returns the error of brackets that are not closed.
-    fn unclosed(&self) -> ParseError {
+    fn unclosed(&self) -> ParseError
+        ensures { is_local result.kind ≡ true }
+    {
         ParseError::new(ErrorKind::ClassUnclosed, self.start, self.opened)
     }
 }
@@ -451,6 +467,7 @@ fn wide(cursor: &mut Cursor<'_>, flags: Flags) -> Result<char, ParseError>
     ensures whole { (c : ℕ) (u : List ℕ) → flags.unicode ≡ true → IsWide c
         → rest cursor.old ≡ encode_utf8 c ++ u
         → Unlimited result (λ d. (d ≡ c) × (rest cursor.new ≡ u)) }
+    ensures local { IfErr result (λ e. is_local e.kind ≡ true) }
 {
     let error = cursor.error_here(ErrorKind::UnicodeNotAllowed);
     if !flags.unicode {

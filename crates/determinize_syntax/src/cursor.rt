@@ -96,12 +96,16 @@ impl<'a> Cursor<'a> {
     }
 
     /// Returns an error from `start` to the next byte.
-    pub fn error_since(&self, start: usize, kind: ErrorKind) -> ParseError {
+    pub fn error_since(&self, start: usize, kind: ErrorKind) -> ParseError
+        ensures { result.kind ≡ kind }
+    {
         ParseError::new(kind, start, self.pos())
     }
 
     /// Returns an error at the next character, or at the end of the text.
-    pub fn error_here(&self, kind: ErrorKind) -> ParseError {
+    pub fn error_here(&self, kind: ErrorKind) -> ParseError
+        ensures { result.kind ≡ kind }
+    {
         let width = match self.peek() {
             None => 0,
             Some(byte) => width(byte),
@@ -111,7 +115,9 @@ impl<'a> Cursor<'a> {
     }
 
     /// Returns an error between this byte and the one before.
-    pub fn error_before(&self, kind: ErrorKind) -> ParseError {
+    pub fn error_before(&self, kind: ErrorKind) -> ParseError
+        ensures { result.kind ≡ kind }
+    {
         self.error_since(self.pos(), kind)
     }
 }

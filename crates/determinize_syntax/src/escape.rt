@@ -1,11 +1,12 @@
 //! What follows a backslash.
 
-ghost use Rattle.std.specs.Prelude.{◌≡◌, ◌*◌, ◌+◌, ◌<◌, ◌≤◌, ◌++◌, ◌∷◌, [], ℕ, IfNone, IfOk, IfSome, List, OnErr, OnOk, OnSome, Some, codes, false, length, slice_get, true};
+ghost use Rattle.std.specs.Prelude.{◌≡◌, ◌*◌, ◌+◌, ◌<◌, ◌≤◌, ◌++◌, ◌∷◌, [], ℕ, IfErr, IfNone, IfOk, IfSome, List, OnErr, OnOk, OnSome, Some, codes, false, length, slice_get, true};
 ghost use Rattle.std.specs.Char.{is_digit};
 ghost use Rattle.std.specs.List.{list_all};
 ghost use Rattle.determinize_syntax.specs.Private.Following.{IsPastBoundary, IsSame, MayPrecede, Unlimited};
 ghost use Rattle.determinize_syntax.specs.Private.Following as following;
 ghost use Rattle.determinize_syntax.specs.declared.escape.Escape.{Escape};
+ghost use Rattle.determinize_syntax.specs.Private.Names.{is_local};
 ghost use Rattle.determinize_syntax.specs.Private.Reading.{IsDigits, IsEscape, IsHexDigit, Part, Reads, is_available, rest};
 ghost use Rattle.determinize_syntax.specs.Words as words;
 ghost use Rattle.determinize_syntax.specs.Words.{escaped_byte, number};
@@ -34,6 +35,7 @@ impl Escape {
     pub fn unavailable(self, flags: Flags) -> Option<ErrorKind>
         ensures none { IfNone result (is_available flags self ≡ true) }
         ensures some { OnSome result (is_available flags self ≡ false) }
+        ensures local { IfSome result (λ kind. is_local kind ≡ true) }
     {
         let (available, kind) = match self {
             Escape::Class(..) => (!flags.unicode, ErrorKind::UnicodePerlClassNotFound),
@@ -60,6 +62,7 @@ pub fn read_escape(cursor: &mut Cursor<'_>, start: usize) -> Result<Escape, Pars
         Reads cursor.old cursor.new (λ t. IsEscape e (0x5C ∷ t))) }
     ensures whole { (e : Escape) (u : List ℕ) → Part (0x5C ∷ rest cursor.old) u (IsEscape e)
         → MayPrecede e u → Unlimited result (λ d. IsSame d e × (rest cursor.new ≡ u)) }
+    ensures local { IfErr result (λ e. is_local e.kind ≡ true) }
 {
     if cursor.take(b'x') {
         return hex(cursor);
@@ -83,7 +86,9 @@ pub fn read_escape(cursor: &mut Cursor<'_>, start: usize) -> Result<Escape, Pars
 }
 
 /// Returns the error of an escape that has no meaning, whose byte after the backslash is `next`.
-fn unrecognized(cursor: &Cursor<'_>, start: usize, next: u8) -> ParseError {
+fn unrecognized(cursor: &Cursor<'_>, start: usize, next: u8) -> ParseError
+    ensures { is_local result.kind ≡ true }
+{
     let kind = match next {
         b'0'..=b'9' => ErrorKind::UnsupportedBackreference,
         b'u' | b'U' | b'p' | b'P' => ErrorKind::UnicodeNotAllowed,
@@ -119,6 +124,7 @@ fn assertion(cursor: &mut Cursor<'_>) -> Result<Option<Look>, ParseError>
         → Part (rest cursor.old) u (λ t. words.assertion t ≡ Some l) → IsPastBoundary u
         → Unlimited result (λ o. (o ≡ Some l) × (rest cursor.new ≡ u)) }
     ensures begun { OnErr result (slice_get (rest cursor.old) 0 ≡ Some 0x62) }
+    ensures local { IfErr result (λ e. is_local e.kind ≡ true) }
 {
     if cursor.take(b'b') {
         let look = boundary(cursor)?;
@@ -155,6 +161,7 @@ fn boundary(cursor: &mut Cursor<'_>) -> Result<Look, ParseError>
     ensures whole { (l : _) (u : List ℕ)
         → Part (rest cursor.old) u (λ t. words.assertion (0x62 ∷ t) ≡ Some l) → IsPastBoundary u
         → Unlimited result (λ m. (m ≡ l) × (rest cursor.new ≡ u)) }
+    ensures local { IfErr result (λ e. is_local e.kind ≡ true) }
 {
     let brace = cursor.pos();
     let mut ahead = *cursor;
@@ -234,6 +241,7 @@ fn hex(cursor: &mut Cursor<'_>) -> Result<Escape, ParseError>
     ensures whole { (e : Escape) (u : List ℕ)
         → Part (0x5C ∷ 0x78 ∷ rest cursor.old) u (IsEscape e)
         → Unlimited result (λ d. IsSame d e × (rest cursor.new ≡ u)) }
+    ensures local { IfErr result (λ e. is_local e.kind ≡ true) }
 {
     let brace = cursor.pos();
     if cursor.take(b'{') {
@@ -252,6 +260,7 @@ fn braces(cursor: &mut Cursor<'_>, brace: usize) -> Result<Escape, ParseError>
     ensures whole { (e : Escape) (u : List ℕ)
         → Part (0x5C ∷ 0x78 ∷ 0x7B ∷ rest cursor.old) u (IsEscape e)
         → Unlimited result (λ d. IsSame d e × (rest cursor.new ≡ u)) }
+    ensures local { IfErr result (λ e. is_local e.kind ≡ true) }
 {
     let first = cursor.pos();
     if cursor.take(b'}') {
@@ -278,6 +287,7 @@ fn hex_number(cursor: &mut Cursor<'_>, brace: usize) -> Result<u32, ParseError>
     ensures whole { (n : ℕ) (u : List ℕ)
         → Part (rest cursor.old) (0x7D ∷ u) (λ t. number 16 t ≡ Some n)
         → Unlimited result (λ m. (n ≤ 0x10_FFFF → m ≡ n) × (rest cursor.new ≡ 0x7D ∷ u)) }
+    ensures local { IfErr result (λ e. is_local e.kind ≡ true) }
 {
     let mut value = hex_digit(cursor, brace)?;
     loop {
@@ -309,6 +319,7 @@ fn hex_digit(cursor: &mut Cursor<'_>, from: usize) -> Result<u32, ParseError>
     ensures other { OnErr result ((d : ℕ) → slice_get (rest cursor.old) 0 ≡ Some d
         → is_digit d 16 ≡ false) }
     ensures progress { OnOk result (length (rest cursor.new) < length (rest cursor.old)) }
+    ensures local { IfErr result (λ e. is_local e.kind ≡ true) }
 {
     let Some(next) = cursor.peek() else {
         return Err(cursor.error_since(from, ErrorKind::EscapeUnexpectedEof));

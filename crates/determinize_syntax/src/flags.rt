@@ -1,9 +1,10 @@
 //! The flags of patterns.
 
-ghost use Rattle.std.specs.Prelude.{◌≡◌, ◌<◌, ◌++◌, ◌∷◌, ◌==◌, ◌⊎◌, [], ℕ, Bool, IfNone, IfOk, IfSome, List, MatchOption, OnOk, OnSome, Some, false, length, true};
+ghost use Rattle.std.specs.Prelude.{◌≡◌, ◌<◌, ◌++◌, ◌∷◌, ◌==◌, ◌⊎◌, [], ℕ, Bool, IfErr, IfNone, IfOk, IfSome, List, MatchOption, OnOk, OnSome, Some, false, length, true};
 ghost use Rattle.std.specs.List.{list_any};
-ghost use Rattle.determinize_syntax.specs.Private.Following.{FromAtom, FromItem, IsAfterLetters, IsStop, Unlimited};
+ghost use Rattle.determinize_syntax.specs.Private.Following.{FromAtom, FromItem, IsAfterLetters, IsBranchEnd, Unlimited};
 ghost use Rattle.determinize_syntax.specs.Private.Letters.{Letters};
+ghost use Rattle.determinize_syntax.specs.Private.Names.{is_local};
 ghost use Rattle.determinize_syntax.specs.Private.Reading.{IsFlag, IsNotAt, IsSetting, Reads, SetsMore, rest};
 ghost use Rattle.determinize_syntax.specs.Spells.{Sets};
 ghost use Rattle.determinize_syntax.specs.Words as words;
@@ -61,8 +62,9 @@ pub fn setting(cursor: &mut Cursor<'_>, flags: Flags) -> Result<Option<Flags>, P
     ensures none { IfOk result (λ o. IfNone o (cursor.new ≡ cursor.old)) }
     ensures whole { (k : List Flags) → FromItem k flags (rest cursor.old)
         → Unlimited result (λ o. MatchOption o
-        (IsStop (rest cursor.old) ⊎ FromAtom k flags (rest cursor.old))
+        (IsBranchEnd (rest cursor.old) ⊎ FromAtom k flags (rest cursor.old))
         (λ g. FromItem k g (rest cursor.new))) }
+    ensures local { IfErr result (λ e. is_local e.kind ≡ true) }
 {
     let mut ahead = *cursor;
     if !ahead.take(b'(') || !ahead.take(b'?') || begins_other(&ahead) {
@@ -102,6 +104,7 @@ pub fn letters(cursor: &mut Cursor<'_>, flags: Flags) -> Result<Flags, ParseErro
         (λ t. (on : Bool) × Sets flags on g t)) }
     ensures whole { (g : Flags) (u : List ℕ) → Letters g u [] true flags (rest cursor.old)
         → IsAfterLetters u → Unlimited result (λ h. (h ≡ g) × (rest cursor.new ≡ u)) }
+    ensures local { IfErr result (λ e. is_local e.kind ≡ true) }
 {
     let start = *cursor;
     let mut flags = flags;
@@ -133,6 +136,7 @@ fn next_flag(
         → Unlimited result (λ r. Reads cursor.old cursor.new
         (λ t. Letters g u (seen.now ++ t) r.1 r.0 (rest cursor.new))) }
     ensures progress { OnOk result (length (rest cursor.new) < length (rest cursor.old)) }
+    ensures local { IfErr result (λ e. is_local e.kind ≡ true) }
 {
     let place = cursor.pos();
     if !cursor.take(b'-') {
@@ -156,6 +160,7 @@ fn letter(cursor: &mut Cursor<'_>, seen: &[u8], flags: Flags, on: bool) -> Resul
         → list_any (λ d. d == c) seen.now ≡ false → words.set_flag flags c on ≡ Some g
         → Unlimited result (λ h. (h ≡ g) × (rest cursor.new ≡ t)) }
     ensures progress { OnOk result (length (rest cursor.new) < length (rest cursor.old)) }
+    ensures local { IfErr result (λ e. is_local e.kind ≡ true) }
 {
     let Some(letter) = cursor.peek() else {
         return Err(cursor.error_here(ErrorKind::FlagUnexpectedEof));

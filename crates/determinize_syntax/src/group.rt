@@ -1,8 +1,10 @@
 //! What opens a group.
 
-ghost use Rattle.std.specs.Prelude.{◌≡◌, ◌++◌, ◌∷◌, ℕ, IfOk, List, OnOk, false, true};
+ghost use Rattle.std.specs.Prelude.{◌≡◌, ◌++◌, ◌∷◌, [], ℕ, IfErr, IfOk, List, OnOk, false, true};
 ghost use Rattle.determinize_syntax.specs.Private.Following.{FromAtom, FromItem, Unlimited};
+ghost use Rattle.determinize_syntax.specs.Private.Names.{HasNames, NamesTo, is_local};
 ghost use Rattle.determinize_syntax.specs.Private.Reading.{IsNamed, Opens, Reads, rest};
+ghost use Rattle.determinize_syntax.specs.declared.error.ErrorKind.TheVariants.{NestLimitExceeded};
 ghost use Rattle.determinize_syntax.specs.declared.flags.Flags.{Flags};
 ghost use Rattle.determinize_syntax.specs.Words as words;
 ghost use Rattle.determinize_syntax.specs.Words.{◌∈◌, is_name};
@@ -20,12 +22,14 @@ pub struct Context<'a> {
     /// How deep groups and operators are in the part that was read last.
     pub depth: u8,
     /// The names of groups so far.
-    names: BTreeSet<&'a [u8]>,
+    pub names: BTreeSet<&'a [u8]>,
 }
 
 impl<'a> Context<'a> {
     /// Returns what is known before a text is read.
-    pub fn new(alloc: Global) -> Context<'a> {
+    pub fn new(alloc: Global) -> Context<'a>
+        ensures { result.names.keys ≡ [] }
+    {
         Context {
             alloc,
             depth: 0,
@@ -53,6 +57,9 @@ pub fn read_opening<'a>(
     ensures read { IfOk result (λ o. Reads cursor.old cursor.new (Opens flags o.flags)) }
     ensures whole { (k : List Flags) → FromAtom k flags (0x28 ∷ rest cursor.old)
         → Unlimited result (λ o. FromItem (flags ∷ k) o.flags (rest cursor.new)) }
+    ensures shallow { IfErr result (λ e. e.kind ≡ NestLimitExceeded → ⊥) }
+    ensures names { (text : List ℕ) → HasNames text context.old (rest cursor.old)
+        → NamesTo result text context.new (rest cursor.new) }
 {
     let capture = Opening {
         captures: true,
@@ -102,6 +109,9 @@ fn name<'a>(context: &mut Context<'a>, cursor: &mut Cursor<'a>) -> Result<(), Pa
     ensures read { OnOk result (Reads cursor.old cursor.new IsNamed) }
     ensures whole { (n u : List ℕ) → rest cursor.old ≡ n ++ 0x3E ∷ u → is_name n ≡ true
         → Unlimited result (λ r. rest cursor.new ≡ u) }
+    ensures shallow { IfErr result (λ e. e.kind ≡ NestLimitExceeded → ⊥) }
+    ensures names { (text : List ℕ) → HasNames text context.old (0x3C ∷ rest cursor.old)
+        → NamesTo result text context.new (rest cursor.new) }
 {
     let first = *cursor;
     if let Some(b'>') = cursor.peek() {
@@ -120,7 +130,9 @@ fn name<'a>(context: &mut Context<'a>, cursor: &mut Cursor<'a>) -> Result<(), Pa
 }
 
 /// Returns the error of a byte that the name of a group may not have.
-fn unnamed(cursor: &Cursor<'_>) -> ParseError {
+fn unnamed(cursor: &Cursor<'_>) -> ParseError
+    ensures { is_local result.kind ≡ true }
+{
     cursor.error_here(match cursor.peek() {
         None => ErrorKind::GroupNameUnexpectedEof,
         Some(_) => ErrorKind::GroupNameInvalid,
@@ -132,6 +144,7 @@ fn letters_of_name(cursor: &mut Cursor<'_>) -> Result<(), ParseError>
     ensures read { OnOk result (Reads cursor.old cursor.new (λ t. is_name t ≡ true)) }
     ensures whole { (n u : List ℕ) → rest cursor.old ≡ n ++ 0x3E ∷ u → is_name n ≡ true
         → Unlimited result (λ r. rest cursor.new ≡ 0x3E ∷ u) }
+    ensures local { IfErr result (λ e. is_local e.kind ≡ true) }
 {
     let Some(first) = cursor.peek() else {
         return Err(unnamed(cursor));

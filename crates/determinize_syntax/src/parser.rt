@@ -1,13 +1,17 @@
 //! The levels of a pattern, from its choices down to its atoms.
 
-ghost use Rattle.std.specs.Prelude.{◌≡◌, ◌<◌, ◌∷◌, ℕ, Bool, IfErr, IfOk, List, OnOk, Some, cond, encode_utf8, false, length, map, not, slice_get, true};
+ghost use Rattle.std.specs.Prelude.{◌≡◌, ◌+◌, ◌<◌, ◌≤◌, ◌∷◌, ℕ, Bool, IfErr, IfOk, List, OnOk, Some, cond, encode_utf8, false, length, map, not, slice_get, true};
 ghost use Rattle.determinize_pattern.specs.Meaning.{Re};
-ghost use Rattle.determinize_syntax.specs.Private.Following.{FromAtom, FromItem, FromOperator, IsEnd, IsStop, Unlimited};
+ghost use Rattle.determinize_syntax.specs.Private.Following.{FromAtom, FromItem, FromOperator, IsBranchEnd, IsEnd, Unlimited};
+ghost use Rattle.determinize_syntax.specs.declared.error.ErrorKind.TheVariants.{GroupNameDuplicate, NestLimitExceeded};
 ghost use Rattle.determinize_syntax.specs.declared.flags.Flags.{Flags};
+ghost use Rattle.determinize_syntax.specs.declared.parser.TheConstants.{NEST_LIMIT};
 ghost use Rattle.determinize_below.specs.declared.look.Look.TheVariants as looks;
 ghost use Rattle.determinize_pattern.specs.Meaning as meanings;
 ghost use Rattle.determinize_pattern.specs.Characters.{IsCharClass};
 ghost use Rattle.determinize_pattern.specs.Patterns.{IsClass, choice_of, literal, meaning, repeated};
+ghost use Rattle.determinize_syntax.specs.Limits.{HasNameTwice, openings};
+ghost use Rattle.determinize_syntax.specs.Private.Names.{HasNames, IsDeep, NamesTo, is_local};
 ghost use Rattle.determinize_syntax.specs.Private.Reading.{Reads, rest};
 ghost use Rattle.determinize_syntax.specs.Spells as spells;
 ghost use Rattle.determinize_syntax.specs.Spells.{Atom, Choice, IsOneOf, Items, Repeated, Spells, SpellsUnder, is_limit};
@@ -26,22 +30,36 @@ use determinize_pattern::{ClassBytesRange, ClassUnicodeRange, Pattern};
 use std::alloc::{AllocError, Global};
 
 /// How deep groups and operators may be.
-const NEST_LIMIT: u8 = 250;
+pub const NEST_LIMIT: u8 = 250;
 
 /// Returns the pattern that the text denotes.
+///
+/// Returns an error if it denotes none, and else only `OutOfMemory` if an allocation fails,
+/// `NestLimitExceeded` if groups and operators are more than 250 deep, or `GroupNameDuplicate` if
+/// two groups have the same name.
 pub fn parse(alloc: Global, text: &str) -> Result<Pattern, ParseError>
     ensures spells { IfOk result (λ p. Spells (meaning p) text.now) }
     ensures complete { (re : Re) → Spells re text.now
         → IfErr result (λ e. is_limit e.kind ≡ true) }
+    ensures nested { IfErr result (λ e. e.kind ≡ NestLimitExceeded
+        → NEST_LIMIT < openings text.now) }
+    ensures twice { IfErr result (λ e. e.kind ≡ GroupNameDuplicate → HasNameTwice text.now) }
 {
     parse_with(alloc, text, Flags::new())
 }
 
 /// Returns the pattern that the text denotes, with these flags at its beginning.
+///
+/// Returns an error if it denotes none, and else only `OutOfMemory` if an allocation fails,
+/// `NestLimitExceeded` if groups and operators are more than 250 deep, or `GroupNameDuplicate` if
+/// two groups have the same name.
 pub fn parse_with(alloc: Global, text: &str, flags: Flags) -> Result<Pattern, ParseError>
     ensures spells { IfOk result (λ p. SpellsUnder flags (meaning p) text.now) }
     ensures complete { (re : Re) → SpellsUnder flags re text.now
         → IfErr result (λ e. is_limit e.kind ≡ true) }
+    ensures nested { IfErr result (λ e. e.kind ≡ NestLimitExceeded
+        → NEST_LIMIT < openings text.now) }
+    ensures twice { IfErr result (λ e. e.kind ≡ GroupNameDuplicate → HasNameTwice text.now) }
 {
     let mut cursor = Cursor::new(text);
     let mut context = Context::new(alloc);
@@ -65,6 +83,11 @@ fn choice<'a>(
     ensures whole { (k : List Flags) → FromItem k flags (rest cursor.old)
         → Unlimited result (λ p. (g : Flags) × FromItem k g (rest cursor.new)
         × IsEnd (rest cursor.new)) }
+    ensures depth { OnOk result (context.new.depth + openings (rest cursor.new)
+        ≤ openings (rest cursor.old)) }
+    ensures nested { IfErr result (IsDeep levels (rest cursor.old)) }
+    ensures names { (text : List ℕ) → HasNames text context.old (rest cursor.old)
+        → NamesTo result text context.new (rest cursor.new) }
 {
     let mut flags = flags;
     let mut depth = 0;
@@ -93,7 +116,12 @@ fn items<'a>(
         (Items flags.old flags.new (map meaning ps.items))) }
     ensures whole { (k : List Flags) → FromItem k flags.old (rest cursor.old)
         → Unlimited result (λ ps. FromItem k flags.new (rest cursor.new)
-        × IsStop (rest cursor.new)) }
+        × IsBranchEnd (rest cursor.new)) }
+    ensures depth { OnOk result (context.new.depth + openings (rest cursor.new)
+        ≤ openings (rest cursor.old)) }
+    ensures nested { IfErr result (IsDeep levels (rest cursor.old)) }
+    ensures names { (text : List ℕ) → HasNames text context.old (rest cursor.old)
+        → NamesTo result text context.new (rest cursor.new) }
 {
     let mut depth = 0;
     let mut items = Vec::new(context.alloc);
@@ -115,8 +143,8 @@ fn items<'a>(
 
 /// Returns whether a branch ends at the cursor.
 fn is_branch_end(cursor: &Cursor<'_>) -> bool
-    ensures end { result ≡ true → IsStop (rest cursor.now) }
-    ensures other { result ≡ false → IsStop (rest cursor.now) → ⊥ }
+    ensures end { result ≡ true → IsBranchEnd (rest cursor.now) }
+    ensures other { result ≡ false → IsBranchEnd (rest cursor.now) → ⊥ }
 {
     match cursor.peek() {
         None => true,
@@ -144,6 +172,11 @@ fn repeated<'a>(
     ensures progress { OnOk result (length (rest cursor.new) < length (rest cursor.old)) }
     ensures whole { (k : List Flags) → FromAtom k flags (rest cursor.old)
         → Unlimited result (λ p. FromItem k flags (rest cursor.new)) }
+    ensures depth { OnOk result (context.new.depth + openings (rest cursor.new)
+        ≤ openings (rest cursor.old)) }
+    ensures nested { IfErr result (IsDeep levels (rest cursor.old)) }
+    ensures names { (text : List ℕ) → HasNames text context.old (rest cursor.old)
+        → NamesTo result text context.new (rest cursor.new) }
 {
     let mut pattern = atom(context, cursor, flags, levels)?;
     let mut start = cursor.pos();
@@ -171,6 +204,11 @@ fn atom<'a>(
     ensures progress { OnOk result (length (rest cursor.new) < length (rest cursor.old)) }
     ensures whole { (k : List Flags) → FromAtom k flags (rest cursor.old)
         → Unlimited result (λ p. FromOperator k flags false (rest cursor.new)) }
+    ensures depth { OnOk result (context.new.depth + openings (rest cursor.new)
+        ≤ openings (rest cursor.old)) }
+    ensures nested { IfErr result (IsDeep levels (rest cursor.old)) }
+    ensures names { (text : List ℕ) → HasNames text context.old (rest cursor.old)
+        → NamesTo result text context.new (rest cursor.new) }
 {
     let start = cursor.pos();
     if cursor.take(b'(') {
@@ -207,6 +245,7 @@ fn escaped_atom(
         (λ t. Atom flags (meaning p) (0x5C ∷ t))) }
     ensures whole { (k : List Flags) → FromAtom k flags (0x5C ∷ rest cursor.old)
         → Unlimited result (λ p. FromOperator k flags false (rest cursor.new)) }
+    ensures local { IfErr result (λ e. is_local e.kind ≡ true) }
 {
     let escape = read_escape(cursor, start)?;
     if let Some(kind) = escape.unavailable(flags) {
@@ -227,6 +266,7 @@ fn literal_atom(alloc: Global, cursor: &mut Cursor<'_>, flags: Flags) -> Result<
     ensures whole { (k : List Flags) → FromAtom k flags (rest cursor.old)
         → ((c : ℕ) → slice_get (rest cursor.old) 0 ≡ Some c → (c ∈ "(^$.\\[") ≡ false)
         → Unlimited result (λ p. FromOperator k flags false (rest cursor.new)) }
+    ensures local { IfErr result (λ e. is_local e.kind ≡ true) }
 {
     let Some(next) = cursor.peek() else {
         return Err(cursor.error_before(ErrorKind::RepetitionMissing));
@@ -262,6 +302,11 @@ fn group<'a>(
         (λ t. Atom flags (meaning p) (0x28 ∷ t))) }
     ensures whole { (k : List Flags) → FromAtom k flags (0x28 ∷ rest cursor.old)
         → Unlimited result (λ p. FromOperator k flags false (rest cursor.new)) }
+    ensures depth { OnOk result (context.new.depth + openings (rest cursor.new)
+        ≤ openings (0x28 ∷ rest cursor.old)) }
+    ensures nested { IfErr result (IsDeep levels (0x28 ∷ rest cursor.old)) }
+    ensures names { (text : List ℕ) → HasNames text context.old (0x28 ∷ rest cursor.old)
+        → NamesTo result text context.new (rest cursor.new) }
 {
     let opening = read_opening(context, cursor, start, flags)?;
     if levels == 0 {

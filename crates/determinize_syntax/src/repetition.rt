@@ -1,7 +1,8 @@
 //! Operators of repetitions.
 
-ghost use Rattle.std.specs.Prelude.{◌≡◌, ◌<◌, ◌∷◌, ℕ, Bool, IfNone, IfOk, IfSome, List, MatchOption, OnOk, OnSome, Some, length};
+ghost use Rattle.std.specs.Prelude.{◌≡◌, ◌<◌, ◌∷◌, ℕ, Bool, IfErr, IfNone, IfOk, IfSome, List, MatchOption, OnOk, OnSome, Some, length, true};
 ghost use Rattle.determinize_syntax.specs.Private.Following.{AfterOperator, CountsTo, FromItem, FromOperator, IsCount, IsPastDigits, Unlimited};
+ghost use Rattle.determinize_syntax.specs.Private.Names.{is_local};
 ghost use Rattle.determinize_syntax.specs.Private.Reading.{IsDigit, Part, Reads, rest};
 ghost use Rattle.determinize_syntax.specs.declared.flags.Flags.{Flags};
 ghost use Rattle.determinize_syntax.specs.Spells.{Operator};
@@ -27,6 +28,7 @@ pub fn operator(cursor: &mut Cursor<'_>) -> Result<Option<Bounds>, ParseError>
     ensures whole { (k : List Flags) (f : Flags) (e : Bool) → FromOperator k f e (rest cursor.old)
         → Unlimited result (λ o. MatchOption o (FromItem k f (rest cursor.new))
         (λ b. AfterOperator k f (rest cursor.new))) }
+    ensures local { IfErr result (λ e. is_local e.kind ≡ true) }
 {
     let start = cursor.pos();
     if cursor.take(b'*') {
@@ -54,6 +56,7 @@ fn counts(cursor: &mut Cursor<'_>, start: usize) -> Result<Bounds, ParseError>
         Reads cursor.old cursor.new (λ t. Operator b.min b.max (0x7B ∷ t))) }
     ensures whole { (u : List ℕ) → CountsTo u (rest cursor.old)
         → Unlimited result (λ b. rest cursor.new ≡ u) }
+    ensures local { IfErr result (λ e. is_local e.kind ≡ true) }
 {
     let min = decimal(cursor, start)?;
     if cursor.take(b'}') {
@@ -87,6 +90,7 @@ fn decimal(cursor: &mut Cursor<'_>, start: usize) -> Result<u32, ParseError>
     ensures read { IfOk result (λ n. Reads cursor.old cursor.new (λ t. number 10 t ≡ Some n)) }
     ensures whole { (n : ℕ) (u : List ℕ) → Part (rest cursor.old) u (IsCount n) → IsPastDigits u
         → Unlimited result (λ m. (m ≡ n) × (rest cursor.new ≡ u)) }
+    ensures local { IfErr result (λ e. is_local e.kind ≡ true) }
 {
     let first = cursor.pos();
     let Some(mut value) = digit(cursor) else {
@@ -122,7 +126,9 @@ fn digit(cursor: &mut Cursor<'_>) -> Option<u32>
 }
 
 /// Passes the digits that are left, and returns the error of the number that begins at `first`.
-fn too_large(cursor: &mut Cursor<'_>, first: usize) -> ParseError {
+fn too_large(cursor: &mut Cursor<'_>, first: usize) -> ParseError
+    ensures { is_local result.kind ≡ true }
+{
     while let Some(_) = digit(cursor) {}
     cursor.error_since(first, ErrorKind::DecimalInvalid)
 }

@@ -17,7 +17,8 @@ pub data Enters (f : Flags) : Flags → Bytes → Type 0 where
   capture : Enters f f []
   named : (n : Bytes) → is_name n ≡ true → Enters f f (codes "?<" ++ n ++ codes ">")
   named_p : (n : Bytes) → is_name n ≡ true → Enters f f (codes "?P<" ++ n ++ codes ">")
-  group : (g : Flags) (on : Bool) (n : Bytes) → Sets f on g n → Enters f g (codes "?" ++ n ++ codes ":")
+  group : (g : Flags) (on : Bool) (n : Bytes) → Sets f on g n
+      → Enters f g (codes "?" ++ n ++ codes ":")
 
 -- an atom that is no group
 pub data Single (f : Flags) : Bytes → Type 0 where
@@ -74,8 +75,8 @@ abbrev pub IsEnd : Bytes → Type 0
 IsEnd s = (s ≡ []) ⊎ ((w : Bytes) × (s ≡ 0x29 ∷ w))
 
 -- the end of a branch
-abbrev pub IsStop : Bytes → Type 0
-IsStop s = IsEnd s ⊎ ((w : Bytes) × (s ≡ 0x7C ∷ w))
+abbrev pub IsBranchEnd : Bytes → Type 0
+IsBranchEnd s = IsEnd s ⊎ ((w : Bytes) × (s ≡ 0x7C ∷ w))
 
 -- P holds of the value, unless a limit was met
 abbrev pub Unlimited : {A : Type 0} → Result A ParseError → (A → Type 0) → Type 0

@@ -27,7 +27,8 @@ returns-clause-read c =
     (λ e. ap rest (c.take-negated.ensures.left e)) c.take-negated.ensures.other c.in_ok-ranges.ensures.read
     (sym c.know_cases.ensures ∙ c.if-not-know_cases.false)
     (λ r h. one_of_listed f n r ranges re h
-    (subst (λ l. IsOneOf f.unicode (turned n (folded f (has_char l))) re) c.deref.ensures.value c.in_ok-pattern.ensures))
+    (subst (λ l. IsOneOf f.unicode (turned n (folded f (has_char l))) re) c.deref.ensures.value
+    c.in_ok-pattern.ensures))
 
 -- the inside after the `^` if there is one
 listing : (f : Flags) (w r new : Bytes) (negated : Bool) → AtBracket f w r → (negated ≡ true → r ≡ 0x5E ∷ new)
@@ -42,7 +43,8 @@ listing f w r new false x read same other =
 pub returns-in_err-ranges-clause-whole : goal.returns-in_err-ranges-clause-whole
 returns-in_err-ranges-clause-whole c k h =
     let x = bracket_next k c.args.flags _ h (rest c.args.cursor.now) refl in
-    let inner = listing c.args.flags x.0 (rest c.args.cursor.now) (rest c.take-negated.new.self) c.take-negated.result x.1
+    let inner = listing c.args.flags x.0 (rest c.args.cursor.now)
+    (rest c.take-negated.new.self) c.take-negated.result x.1
     c.take-negated.ensures.read (λ e. ap rest (c.take-negated.ensures.left e)) c.take-negated.ensures.other in
     passed_on _ c.from_residual.result c.in_err-ranges.field-0.0 c.from_residual.ensures.1
     (c.in_err-ranges.ensures.whole x.0 inner x.1.0)
@@ -55,6 +57,7 @@ returns-then-not-know_cases-clause-whole c k h =
 pub returns-clause-whole : goal.returns-clause-whole
 returns-clause-whole c k h =
     let x = bracket_next k c.args.flags _ h (rest c.args.cursor.now) refl in
-    let inner = listing c.args.flags x.0 (rest c.args.cursor.now) (rest c.take-negated.new.self) c.take-negated.result x.1
+    let inner = listing c.args.flags x.0 (rest c.args.cursor.now)
+    (rest c.take-negated.new.self) c.take-negated.result x.1
     c.take-negated.ensures.read (λ e. ap rest (c.take-negated.ensures.left e)) c.take-negated.ensures.other in
     subst (FromOperator k c.args.flags false) (sym (c.in_ok-ranges.ensures.whole x.0 inner x.1.0)) x.2

@@ -30,7 +30,8 @@ returns-clause-read c = λ f. (
   (
     only 0x5D,
     subst (λ q. Lists f q (only 0x5D) (0x5D ∷ [])) (sym c.in_ok-add.ensures.before) s.closing,
-    (λ b small. ap (λ l. is_in l (Some b)) (c.in_ok-add.ensures.ranges ∙ ap (λ l. char_pairs l ++ (0x5D, 0x5D) ∷ []) c.new.ensures.items)
+    (λ b small. ap (λ l. is_in l (Some b)) (c.in_ok-add.ensures.ranges
+        ∙ ap (λ l. char_pairs l ++ (0x5D, 0x5D) ∷ []) c.new.ensures.items)
         ∙ has_only 0x5D b small),
     λ e. absurd (cc),
   ),
@@ -47,6 +48,7 @@ pub returns-clause-whole : goal.returns-clause-whole
 returns-clause-whole c f u h = (
   true,
   subst (λ q. Listing f u true q (rest c.take.new.self)) (sym c.in_ok-add.ensures.before)
-      (front_next f u false First (rest c.args.cursor.now) h (rest c.take.new.self) (c.take.ensures.read c.if-not-take.false) refl),
+      (front_next f u false First (rest c.args.cursor.now) h (rest c.take.new.self)
+      (c.take.ensures.read c.if-not-take.false) refl),
   λ e. absurd (cc),
 )

@@ -32,15 +32,19 @@ loop-alloc-preserved c =
     let left = c.in_ok-ends_with_hyphen.ensures.left c.if-branch.false in
     let same : c.ends_with_hyphen.new.cursor ≡ c.loop-alloc.cursor = left.0 ∙ c.take.ensures.left c.if-take.false in
     let here = rest c.ends_with_hyphen.new.cursor in
-    let start = subst (λ y. Part (rest c.args.cursor.now) (rest y) (Begun f items.before (char_pairs items.ranges.items) (rest y))) (sym same)
+    let start = subst (λ y. Part (rest c.args.cursor.now) (rest y)
+    (Begun f items.before (char_pairs items.ranges.items) (rest y))) (sym same)
     c.loop-alloc.invariant.0 in
-    let begun = subst (λ (i : Items). Part (rest c.args.cursor.now) here (Begun f i.before (char_pairs i.ranges.items) here)) (sym left.1)
+    let begun = subst (λ (i : Items). Part (rest c.args.cursor.now) here
+    (Begun f i.before (char_pairs i.ranges.items) here)) (sym left.1)
     start in (
-      begun_more f c.ends_with_hyphen.new.self.before c.item.new.self.before (char_pairs c.ends_with_hyphen.new.self.ranges.items)
+      begun_more f c.ends_with_hyphen.new.self.before c.item.new.self.before
+          (char_pairs c.ends_with_hyphen.new.self.ranges.items)
           (char_pairs c.item.new.self.ranges.items) begun c.in_ok-item.ensures.read c.in_ok-item.ensures.progress,
       λ u h known. (
         true,
-        c.in_ok-item.ensures.whole u (unended f u items c.ends_with_hyphen.new.self c.loop-alloc.cursor c.ends_with_hyphen.new.cursor
+        c.in_ok-item.ensures.whole u (unended f u items c.ends_with_hyphen.new.self c.loop-alloc.cursor
+            c.ends_with_hyphen.new.cursor
             left.1 same (c.loop-alloc.invariant.1 u h known)
             (c.take.ensures.other c.if-take.false)
             (subst (λ (y : Cursor). spells.may_end items.before ≡ true → (w : Bytes) → rest y ≡ 0x2D ∷ 0x5D ∷ w → ⊥)
@@ -54,10 +58,12 @@ returns-in_err-item-clause-whole c u h known =
     let left = c.in_ok-ends_with_hyphen.ensures.left c.if-branch.false in
     let same : c.ends_with_hyphen.new.cursor ≡ c.loop-alloc.cursor = left.0 ∙ c.take.ensures.left c.if-take.false in
     passed_on _ c.from_residual-in_err-item.result c.in_err-item.field-0.0 c.from_residual-in_err-item.ensures.1
-    (c.in_err-item.ensures.whole u (unended c.args.flags u c.loop-alloc.items c.ends_with_hyphen.new.self c.loop-alloc.cursor
+    (c.in_err-item.ensures.whole u (unended c.args.flags u c.loop-alloc.items c.ends_with_hyphen.new.self
+    c.loop-alloc.cursor
     c.ends_with_hyphen.new.cursor left.1 same (c.loop-alloc.invariant.1 u h known)
     (c.take.ensures.other c.if-take.false)
-    (subst (λ (y : Cursor). spells.may_end c.loop-alloc.items.before ≡ true → (w : Bytes) → rest y ≡ 0x2D ∷ 0x5D ∷ w → ⊥)
+    (subst (λ (y : Cursor). spells.may_end c.loop-alloc.items.before ≡ true → (w : Bytes) → rest y ≡ 0x2D ∷ 0x5D ∷ w
+    → ⊥)
     (c.take.ensures.left c.if-take.false) (c.in_ok-ends_with_hyphen.ensures.other c.if-branch.false))) known)
 
 pub returns-then-take-clause-whole : goal.returns-then-take-clause-whole
@@ -70,11 +76,13 @@ pub returns-then-branch-clause-whole : goal.returns-then-branch-clause-whole
 returns-then-branch-clause-whole c u h known =
     let x = c.loop-alloc.invariant.1 u h known in
     let y = c.in_ok-ends_with_hyphen.ensures.read c.if-branch.true in
-    ended_by c.args.flags u x.0 c.loop-alloc.items.before (rest c.loop-alloc.cursor) x.1 (rest c.ends_with_hyphen.new.cursor)
+    ended_by c.args.flags u x.0 c.loop-alloc.items.before (rest c.loop-alloc.cursor) x.1
+    (rest c.ends_with_hyphen.new.cursor)
     (ap rest (sym (c.take.ensures.left c.if-take.false)) ∙ y.1) y.0
 
 pub returns-then-take-clause-read : goal.returns-then-take-clause-read
-returns-then-take-clause-read c = inside_closed c.args.flags c.loop-alloc.items.before (char_pairs c.loop-alloc.items.ranges.items) c.loop-alloc.invariant.0
+returns-then-take-clause-read c = inside_closed c.args.flags c.loop-alloc.items.before
+    (char_pairs c.loop-alloc.items.ranges.items) c.loop-alloc.invariant.0
     (c.take.ensures.read c.if-take.true)
 
 pub returns-then-branch-clause-read : goal.returns-then-branch-clause-read

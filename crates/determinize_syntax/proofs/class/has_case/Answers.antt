@@ -14,7 +14,8 @@ returns-then-is_in_some c =
 pub returns-else-is_in_some : goal.returns-else-is_in_some
 returns-else-is_in_some c =
     let r = c.args.ranges.now in
-    let miss : has r (to_ascii_lowercase c.args.byte) ≡ false = ap (has r) (sym c.to_ascii_lowercase-lower.ensures.value)
+    let miss : has r (to_ascii_lowercase c.args.byte) ≡ false =
+    ap (has r) (sym c.to_ascii_lowercase-lower.ensures.value)
     ∙ sym (in_some r c.to_ascii_lowercase-lower.result) ∙ sym c.is_in_some.ensures ∙ c.if-is_in_some.false in
     c.is_in_some-else-is_in_some.ensures ∙ in_some r c.to_ascii_uppercase-upper.result
     ∙ ap (has r) c.to_ascii_uppercase-upper.ensures.value

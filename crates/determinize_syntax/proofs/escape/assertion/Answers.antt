@@ -18,7 +18,8 @@ returns-in-Some-look_of-clause-read c =
 pub returns-in_err-look-clause-whole : goal.returns-in_err-look-clause-whole
 returns-in_err-look-clause-whole c l u h past =
     passed_on _ c.from_residual.result c.in_err-look.field-0.0 c.from_residual.ensures.1
-    (c.in_err-look.ensures.whole l u (boundary_part l (rest c.args.cursor.now) u (rest c.take.new.self) h (c.take.ensures.read c.if-take.true)) past)
+    (c.in_err-look.ensures.whole l u (boundary_part l (rest c.args.cursor.now) u (rest c.take.new.self) h
+    (c.take.ensures.read c.if-take.true)) past)
 
 pub returns-then-take-clause-whole : goal.returns-then-take-clause-whole
 returns-then-take-clause-whole c l u h past =

@@ -23,7 +23,8 @@ pub returns-in-Some-clause-read : goal.returns-in-Some-clause-read
 returns-in-Some-clause-read c =
     let digits = subst (λ y. Part (rest y) (rest c.hex_number.new.cursor) (IsDigits c.in_ok-value.value))
     (c.take.ensures.left c.if-take.false) c.in_ok-value.ensures.read in
-    subst (λ n. Part (rest c.args.cursor.now) (rest c.take-2.new.self) (λ t. IsEscape (Wide n) (0x5C ∷ 0x78 ∷ 0x7B ∷ t)))
+    subst (λ n. Part (rest c.args.cursor.now) (rest c.take-2.new.self)
+    (λ t. IsEscape (Wide n) (0x5C ∷ 0x78 ∷ 0x7B ∷ t)))
     (sym c.in-Some.ensures.value.1)
     (wide_read c.in_ok-value.value digits (c.take-2.ensures.read c.if-not-take.false) c.if-value-lt128.false
     c.in-Some.ensures.value.0 c.in-Some.ensures.cases)
@@ -40,7 +41,8 @@ returns-in_err-value-clause-whole c e u part =
     let x = braces_next e u r (hex_escape e u (0x7B ∷ r) part) in
     let same : rest c.take.new.self ≡ r = ap rest (c.take.ensures.left c.if-take.false) in
     let numbers = subst (λ l. Part l (0x7D ∷ u) (λ t. number 16 t ≡ Some x.0)) (sym same) x.1 in
-    passed_on _ c.from_residual.result c.in_err-value.field-0.0 c.from_residual.ensures.1 (c.in_err-value.ensures.whole x.0 u numbers)
+    passed_on _ c.from_residual.result c.in_err-value.field-0.0 c.from_residual.ensures.1
+    (c.in_err-value.ensures.whole x.0 u numbers)
 
 pub returns-then-not-take-clause-whole : goal.returns-then-not-take-clause-whole
 returns-then-not-take-clause-whole c e u part =
@@ -48,7 +50,8 @@ returns-then-not-take-clause-whole c e u part =
     let x = braces_next e u r (hex_escape e u (0x7B ∷ r) part) in
     let same : rest c.take.new.self ≡ r = ap rest (c.take.ensures.left c.if-take.false) in
     let numbers = subst (λ l. Part l (0x7D ∷ u) (λ t. number 16 t ≡ Some x.0)) (sym same) x.1 in
-    absurd (c.take-2.ensures.other c.if-not-take.true (ap (λ l. slice_get l 0) (c.in_ok-value.ensures.whole x.0 u numbers).1))
+    absurd (c.take-2.ensures.other c.if-not-take.true
+    (ap (λ l. slice_get l 0) (c.in_ok-value.ensures.whole x.0 u numbers).1))
 
 pub returns-then-value-lt128-clause-whole : goal.returns-then-value-lt128-clause-whole
 returns-then-value-lt128-clause-whole c e u part =

@@ -7,7 +7,8 @@ use Rattle.determinize_syntax.proofs.escape.hex_digit.Goals as goal
 pub returns-clause-read : goal.returns-clause-read
 returns-clause-read c =
     let d = c.in-Some.next in
-    let small : digit_value d < 16 = subst (λ x. digit_value x < 16) c.from.ensures c.in-Some-to_digit.ensures.value.0 in
+    let small : digit_value d < 16 = subst (λ x. digit_value x < 16) c.from.ensures
+    c.in-Some-to_digit.ensures.value.0 in
     let is : is_digit d 16 ≡ true = grind (arith, small) in
     took {c = d} (IsHexDigit c.in-Some-to_digit.digit) (c.take.ensures.read c.if-not-take.false)
     (d, refl, is, c.in-Some-to_digit.ensures.value.1 ∙ ap digit_value c.from.ensures)

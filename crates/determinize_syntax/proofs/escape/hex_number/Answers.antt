@@ -12,13 +12,15 @@ pub loop-cursor-preserved : goal.loop-cursor-preserved
 loop-cursor-preserved c = (
   digits_grown c.loop-cursor.value c.in_ok-digit.digit c.with_digit-value.result c.loop-cursor.invariant.0
       c.in_ok-digit.ensures.read c.with_digit-value.ensures.read,
-  λ n u h. hex_more c.loop-cursor.value n c.in_ok-digit.digit c.with_digit-value.result (c.loop-cursor.invariant.1 n u h)
+  λ n u h. hex_more c.loop-cursor.value n c.in_ok-digit.digit c.with_digit-value.result
+      (c.loop-cursor.invariant.1 n u h)
       c.in_ok-digit.ensures.read c.with_digit-value.ensures.small,
 )
 
 pub returns-in_err-digit-clause-whole : goal.returns-in_err-digit-clause-whole
 returns-in_err-digit-clause-whole c n u h =
-    hex_next c.loop-cursor.value n (c.loop-cursor.invariant.1 n u h) (c.is_at.ensures.other c.if-is_at.false) c.in_err-digit.ensures.other
+    hex_next c.loop-cursor.value n (c.loop-cursor.invariant.1 n u h)
+    (c.is_at.ensures.other c.if-is_at.false) c.in_err-digit.ensures.other
 
 pub returns-clause-whole : goal.returns-clause-whole
 returns-clause-whole c n u h =

@@ -19,11 +19,13 @@ loop-cursor-preserved c = (
       let b = c.loop-cursor.invariant.1 g u h after in
       let seen : c.since-seen.result.now ≡ b.0 = c.since-seen.ensures b.0 b.1 in
       let n = c.in_ok-flags.ensures.whole g u
-      (subst (λ s. Letters g u s c.loop-cursor.on c.loop-cursor.flags (rest c.loop-cursor.cursor)) (sym seen) b.2) after (not_after (rest c.loop-cursor.cursor) c.in-Some.field-0 (sym c.peek.ensures ∙ c.in-Some.is)
+      (subst (λ s. Letters g u s c.loop-cursor.on c.loop-cursor.flags (rest c.loop-cursor.cursor)) (sym seen) b.2) after
+      (not_after (rest c.loop-cursor.cursor) c.in-Some.field-0 (sym c.peek.ensures ∙ c.in-Some.is)
       (search (c.in-Some.field-0-test))) in (
         b.0 ++ n.0,
         b.1 ∙ ap (λ w. b.0 ++ w) n.1 ∙ sym (append_assoc b.0 n.0 (rest c.next_flag.new.cursor)),
-        subst (λ s. Letters g u (s ++ n.0) c.in_ok-flags.field-0-1 c.in_ok-flags.field-0-0 (rest c.next_flag.new.cursor)) seen n.2,
+        subst (λ s. Letters g u (s ++ n.0) c.in_ok-flags.field-0-1 c.in_ok-flags.field-0-0
+            (rest c.next_flag.new.cursor)) seen n.2,
       ),
 )
 
@@ -41,7 +43,8 @@ pub returns-clause-whole : goal.returns-clause-whole
 returns-clause-whole c g u h after =
     let b = c.loop-cursor.invariant.1 g u h after in
     letters_end g u b.0 c.loop-cursor.on c.loop-cursor.flags (rest c.loop-cursor.cursor) b.2
-    (after_here (rest c.loop-cursor.cursor) c.in-Some-eq58.field-0 (sym c.peek.ensures ∙ c.in-Some-eq58.is) c.in-Some-eq58.field-0-test)
+    (after_here (rest c.loop-cursor.cursor) c.in-Some-eq58.field-0
+    (sym c.peek.ensures ∙ c.in-Some-eq58.is) c.in-Some-eq58.field-0-test)
 
 pub returns-in-None-clause-whole : goal.returns-in-None-clause-whole
 returns-in-None-clause-whole c g u h after =

@@ -36,5 +36,6 @@ returns-then-not-is_in_name-clause-whole c n u e is =
           (some_injective c.in-Some-peek.next d (sym c.in-Some-peek.is ∙ c.peek-in-loop-next.ensures ∙ at))
           (sym c.is_in_name.ensures ∙ w.if-not-is_in_name.true)))
       | then-not-is_in_name-via-else-not-is_in_name+then-not-take-2 w ↦
-          absurd (w.take-else-not-is_in_name.ensures.other w.if-not-take-2.true (sym c.peek-in-loop-next.ensures ∙ c.in-Some-peek.is))
+          absurd (w.take-else-not-is_in_name.ensures.other w.if-not-take-2.true
+          (sym c.peek-in-loop-next.ensures ∙ c.in-Some-peek.is))
     ]

@@ -1,5 +1,7 @@
-use Rattle.std.proofs.Common.{◌≡◌, ◌<◌, Bool, List, true, ◌+◌, ◌*◌, length, map}
+use Rattle.std.proofs.Common.{◌≡◌, ◌<◌, ◌≤◌, Bool, List, true, ◌+◌, ◌*◌, length, map, ℕ}
 use Rattle.determinize_pattern.specs.Patterns.{meaning}
+use Rattle.determinize_syntax.specs.Limits.{openings}
+use Rattle.determinize_syntax.specs.Private.Names.{HasNames}
 use Rattle.determinize_syntax.specs.Private.Following.{FromAtom, FromItem, FromOperator}
 use Rattle.determinize_syntax.specs.Private.Reading.{IsNotAt, Reads, rest}
 use Rattle.determinize_syntax.specs.Spells.{Branches, Items, Repeated}
@@ -25,6 +27,8 @@ abbrev pub invariant-choice-loop-branches : goal.invariant-choice-loop-branches
 invariant-choice-loop-branches l =
     Reads l.fn.cursor l.cursor (Branches l.fn.flags l.flags (map meaning l.branches.items))
     × ((k : List Flags) → FromItem k l.fn.flags (rest l.fn.cursor) → FromItem k l.flags (rest l.cursor))
+    × (l.depth + openings (rest l.cursor) ≤ openings (rest l.fn.cursor))
+    × ((text : List ℕ) → HasNames text l.fn.context (rest l.fn.cursor) → HasNames text l.context (rest l.cursor))
 
 abbrev pub decreases-choice-loop-branches : goal.decreases-choice-loop-branches
 decreases-choice-loop-branches l = length (rest l.cursor)
@@ -33,6 +37,8 @@ abbrev pub invariant-items-loop-cursor : goal.invariant-items-loop-cursor
 invariant-items-loop-cursor l =
     Reads l.fn.cursor l.cursor (Items l.fn.flags l.flags (map meaning l.items.items))
     × ((k : List Flags) → FromItem k l.fn.flags (rest l.fn.cursor) → FromItem k l.flags (rest l.cursor))
+    × (l.depth + openings (rest l.cursor) ≤ openings (rest l.fn.cursor))
+    × ((text : List ℕ) → HasNames text l.fn.context (rest l.fn.cursor) → HasNames text l.context (rest l.cursor))
 
 abbrev pub decreases-items-loop-cursor : goal.decreases-items-loop-cursor
 decreases-items-loop-cursor l = length (rest l.cursor)
@@ -42,7 +48,10 @@ invariant-repeated-loop-bounds l =
     Reads l.fn.cursor l.cursor
     (λ t. (e : Bool) × Repeated l.fn.flags e (meaning l.pattern) t × (e ≡ true → IsNotAt 0x3F l.cursor))
     × (length (rest l.cursor) < length (rest l.fn.cursor))
-    × ((k : List Flags) → FromAtom k l.fn.flags (rest l.fn.cursor) → (e : Bool) × FromOperator k l.fn.flags e (rest l.cursor))
+    × ((k : List Flags) → FromAtom k l.fn.flags (rest l.fn.cursor) → (e : Bool)
+    × FromOperator k l.fn.flags e (rest l.cursor))
+    × (l.context.depth + openings (rest l.cursor) ≤ openings (rest l.fn.cursor))
+    × ((text : List ℕ) → HasNames text l.fn.context (rest l.fn.cursor) → HasNames text l.context (rest l.cursor))
 
 abbrev pub decreases-repeated-loop-bounds : goal.decreases-repeated-loop-bounds
 decreases-repeated-loop-bounds l = length (rest l.cursor)

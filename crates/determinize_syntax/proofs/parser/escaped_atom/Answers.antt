@@ -53,7 +53,8 @@ returns-in_ok-class-in-Class-clause-read c =
     let has = subst (λ g. HasBytes (turned c.in-Class.negated (folded g (set_of c.in-Class.kind))) class) c.new.ensures
     c.in_ok-class-in-Class.ensures in
     renamed _ (λ t. Atom f re (0x5C ∷ t)) read
-    (λ t h. subst (Atom f re) (sym h.2) (spells.class f h.0 s re h.1 (is_false f.unicode known) (class, c.of_class.ensures, has)))
+    (λ t h. subst (Atom f re) (sym h.2) (spells.class f h.0 s re h.1 (is_false f.unicode known)
+    (class, c.of_class.ensures, has)))
 
 pub returns-in-Look-clause-read : goal.returns-in-Look-clause-read
 returns-in-Look-clause-read c =
@@ -70,14 +71,16 @@ returns-in-Look-clause-read c =
 pub returns-in_err-escape-clause-whole : goal.returns-in_err-escape-clause-whole
 returns-in_err-escape-clause-whole c k h =
     let x = escape_here k c.args.flags _ h (rest c.args.cursor.now) refl in
-    passed_on _ c.from_residual.result c.in_err-escape.field-0.0 c.from_residual.ensures.1 (c.in_err-escape.ensures.whole x.1 x.0 x.2 x.4)
+    passed_on _ c.from_residual.result c.in_err-escape.field-0.0 c.from_residual.ensures.1
+    (c.in_err-escape.ensures.whole x.1 x.0 x.2 x.4)
 
 pub returns-in-Some-clause-whole : goal.returns-in-Some-clause-whole
 returns-in-Some-clause-whole c k h =
     let x = escape_here k c.args.flags _ h (rest c.args.cursor.now) refl in
     let y = c.in_ok-escape.ensures.whole x.1 x.0 x.2 x.4 in
     let yes = same_available c.args.flags c.in_ok-escape.escape x.1 y.0 x.3 in
-    let other = subst (λ o. OnSome o (is_available c.args.flags c.in_ok-escape.escape ≡ false)) c.in-Some.is c.unavailable.ensures.some in
+    let other = subst (λ o. OnSome o (is_available c.args.flags c.in_ok-escape.escape ≡ false)) c.in-Some.is
+    c.unavailable.ensures.some in
     let never : true ≡ false = sym yes ∙ other in absurd (cc)
 
 pub returns-in_ok-numbered-in-Byte-clause-whole : goal.returns-in_ok-numbered-in-Byte-clause-whole

@@ -9,8 +9,10 @@ returns-in-None-clause-end c e = inl (inl (at_end (rest c.args.cursor.now) (sym 
 
 pub returns-in-Some-clause-end : goal.returns-in-Some-clause-end
 returns-in-Some-clause-end c e =
-    stop_here (rest c.args.cursor.now) c.in-Some.next (sym c.peek.ensures ∙ c.in-Some.is) (sym c.ends_branch.ensures ∙ e)
+    stop_here (rest c.args.cursor.now) c.in-Some.next (sym c.peek.ensures ∙ c.in-Some.is)
+    (sym c.ends_branch.ensures ∙ e)
 
 pub returns-in-Some-clause-other : goal.returns-in-Some-clause-other
 returns-in-Some-clause-other c e stop =
-    no_stop (rest c.args.cursor.now) c.in-Some.next (sym c.peek.ensures ∙ c.in-Some.is) (sym c.ends_branch.ensures ∙ e) stop
+    no_stop (rest c.args.cursor.now) c.in-Some.next (sym c.peek.ensures ∙ c.in-Some.is)
+    (sym c.ends_branch.ensures ∙ e) stop

@@ -43,7 +43,8 @@ returns-clause-read c =
 
 pub returns-in_default-clause-whole : goal.returns-in_default-clause-whole
 returns-in_default-clause-whole c k h other =
-    atom_some k c.args.flags (rest c.args.cursor.now) h (at_end (rest c.args.cursor.now) (sym c.peek.ensures ∙ c.in_default.is))
+    atom_some k c.args.flags (rest c.args.cursor.now) h
+    (at_end (rest c.args.cursor.now) (sym c.peek.ensures ∙ c.in_default.is))
 
 pub returns-then-is_special-clause-whole : goal.returns-then-is_special-clause-whole
 returns-then-is_special-clause-whole c k h other =
@@ -85,5 +86,6 @@ returns-clause-whole c k h other =
     let at : slice_get r 0 ≡ Some c.in-Some.next = sym c.peek.ensures ∙ c.in-Some.is in
     by_cases x
     (λ y. subst (FromOperator k f false)
-    (sym (tails c.in-Some.next y.0 (rest c.take.new.self) y.1 (sym (c.take.ensures.read c.if-not-take.false) ∙ y.2))) y.4)
+    (sym (tails c.in-Some.next y.0 (rest c.take.new.self) y.1 (sym (c.take.ensures.read c.if-not-take.false) ∙ y.2)))
+    y.4)
     (λ y. ascii_first y.0 y.3.0 y.1 r c.in-Some.next at y.2 (sym c.is_ascii.ensures ∙ c.if-not-is_ascii.false))

@@ -7,6 +7,11 @@ use Rattle.determinize_syntax.specs.Spells.{SpellsUnder}
 use Rattle.determinize_syntax.proofs.Following.{text_follows}
 use Rattle.determinize_syntax.proofs.Parts.{none_of, whole_read}
 use Rattle.determinize_syntax.proofs.Stepping.{error_passed_on, whole_ended}
+use Rattle.std.proofs.Common.{◌<◌, arith}
+use Rattle.determinize_syntax.specs.Limits.{HasNameTwice, openings}
+use Rattle.determinize_syntax.specs.declared.error.ErrorKind.TheVariants.{GroupNameDuplicate, NestLimitExceeded}
+use Rattle.determinize_syntax.specs.declared.parser.TheConstants.{NEST_LIMIT}
+use Rattle.determinize_syntax.proofs.Limits.{error_passed, names_none}
 use Rattle.determinize_syntax.proofs.parser.parse_with.Goals as goal
 
 pub returns-clause-spells : goal.returns-clause-spells
@@ -25,6 +30,22 @@ pub returns-then-is_some-clause-complete : goal.returns-then-is_some-clause-comp
 returns-then-is_some-clause-complete c re h =
     let x = c.in_ok-pattern.ensures.whole [] (subst (FromItem [] c.args.flags) (sym c.new-cursor.ensures)
     (text_follows c.args.flags re c.args.text.now h)) in
-    let off : c.peek.result ≡ None = c.peek.ensures ∙ ap (λ l. slice_get l 0) (whole_ended x.0 (rest c.choice.new.cursor) x.1 x.2) in
+    let off : c.peek.result ≡ None = c.peek.ensures
+    ∙ ap (λ l. slice_get l 0) (whole_ended x.0 (rest c.choice.new.cursor) x.1 x.2) in
     let never : is_some c.peek.result ≡ true = sym c.is_some.ensures ∙ c.if-is_some.true in
     absurd (cc)
+
+pub returns-in_err-pattern-clause-nested : goal.returns-in_err-pattern-clause-nested
+returns-in_err-pattern-clause-nested c =
+    error_passed (λ e. e.kind ≡ NestLimitExceeded → NEST_LIMIT < openings c.args.text.now) c.from_residual.result
+    c.in_err-pattern.field-0.0 c.from_residual.ensures.1
+    (λ is. subst (λ l. NEST_LIMIT < openings l) c.new-cursor.ensures
+    (c.in_err-pattern.ensures.nested is (omega arith)))
+
+pub returns-in_err-pattern-clause-twice : goal.returns-in_err-pattern-clause-twice
+returns-in_err-pattern-clause-twice c =
+    error_passed (λ e. e.kind ≡ GroupNameDuplicate → HasNameTwice c.args.text.now) c.from_residual.result
+    c.in_err-pattern.field-0.0 c.from_residual.ensures.1
+    (c.in_err-pattern.ensures.names c.args.text.now
+    (names_none c.args.text.now (rest c.new-cursor.result) c.new-context.result c.new-cursor.ensures
+    c.new-context.ensures))

@@ -31,7 +31,8 @@ returns-clause-read c =
 pub returns-in_err-min-clause-whole : goal.returns-in_err-min-clause-whole
 returns-in_err-min-clause-whole c u h =
     let x = first_count (rest c.args.cursor.now) u h in
-    passed_on _ c.from_residual.result c.in_err-min.field-0.0 c.from_residual.ensures.1 (c.in_err-min.ensures.whole x.0 x.1 x.2 x.3)
+    passed_on _ c.from_residual.result c.in_err-min.field-0.0 c.from_residual.ensures.1
+    (c.in_err-min.ensures.whole x.0 x.1 x.2 x.3)
 
 pub returns-then-take-clause-whole : goal.returns-then-take-clause-whole
 returns-then-take-clause-whole c u h =
@@ -62,7 +63,8 @@ returns-in_err-max-clause-whole c u h =
     let s = second_count x.0 u x.1 (rest c.take-2.new.self) x.4
     (sym y.1 ∙ ap rest (sym (c.take.ensures.left c.if-take.false)) ∙ c.take-2.ensures.read c.if-not-take.false)
     (c.take-3.ensures.other c.if-take-2.false) in
-    let part = subst (λ l. Part l (0x7D ∷ u) (IsCount s.0)) (ap rest (sym (c.take-3.ensures.left c.if-take-2.false))) s.1 in
+    let part = subst (λ l. Part l (0x7D ∷ u) (IsCount s.0))
+    (ap rest (sym (c.take-3.ensures.left c.if-take-2.false))) s.1 in
     passed_on _ c.from_residual-in_err-max.result c.in_err-max.field-0.0 c.from_residual-in_err-max.ensures.1
     (c.in_err-max.ensures.whole s.0 (0x7D ∷ u) part (past_sign 0x7D u refl))
 
@@ -73,7 +75,8 @@ returns-then-not-take-2-clause-whole c u h =
     let s = second_count x.0 u x.1 (rest c.take-2.new.self) x.4
     (sym y.1 ∙ ap rest (sym (c.take.ensures.left c.if-take.false)) ∙ c.take-2.ensures.read c.if-not-take.false)
     (c.take-3.ensures.other c.if-take-2.false) in
-    let part = subst (λ l. Part l (0x7D ∷ u) (IsCount s.0)) (ap rest (sym (c.take-3.ensures.left c.if-take-2.false))) s.1 in
+    let part = subst (λ l. Part l (0x7D ∷ u) (IsCount s.0))
+    (ap rest (sym (c.take-3.ensures.left c.if-take-2.false))) s.1 in
     let z = c.in_ok-max.ensures.whole s.0 (0x7D ∷ u) part (past_sign 0x7D u refl) in
     absurd (c.take-4.ensures.other c.if-not-take-2.true (ap (λ l. slice_get l 0) z.1))
 
@@ -84,7 +87,8 @@ returns-then-max-min-clause-whole c u h =
     let s = second_count x.0 u x.1 (rest c.take-2.new.self) x.4
     (sym y.1 ∙ ap rest (sym (c.take.ensures.left c.if-take.false)) ∙ c.take-2.ensures.read c.if-not-take.false)
     (c.take-3.ensures.other c.if-take-2.false) in
-    let part = subst (λ l. Part l (0x7D ∷ u) (IsCount s.0)) (ap rest (sym (c.take-3.ensures.left c.if-take-2.false))) s.1 in
+    let part = subst (λ l. Part l (0x7D ∷ u) (IsCount s.0))
+    (ap rest (sym (c.take-3.ensures.left c.if-take-2.false))) s.1 in
     let z = c.in_ok-max.ensures.whole s.0 (0x7D ∷ u) part (past_sign 0x7D u refl) in
     let less : c.in_ok-max.max < c.in_ok-min.min = c.if-max-min.true in
     let min : c.in_ok-min.min ≡ x.0 = y.0 in
@@ -99,6 +103,7 @@ returns-clause-whole c u h =
     let s = second_count x.0 u x.1 (rest c.take-2.new.self) x.4
     (sym y.1 ∙ ap rest (sym (c.take.ensures.left c.if-take.false)) ∙ c.take-2.ensures.read c.if-not-take.false)
     (c.take-3.ensures.other c.if-take-2.false) in
-    let part = subst (λ l. Part l (0x7D ∷ u) (IsCount s.0)) (ap rest (sym (c.take-3.ensures.left c.if-take-2.false))) s.1 in
+    let part = subst (λ l. Part l (0x7D ∷ u) (IsCount s.0))
+    (ap rest (sym (c.take-3.ensures.left c.if-take-2.false))) s.1 in
     let z = c.in_ok-max.ensures.whole s.0 (0x7D ∷ u) part (past_sign 0x7D u refl) in
     tails 0x7D 0x7D (rest c.take-4.new.self) u (sym (c.take-4.ensures.read c.if-not-take-2.false) ∙ z.1)

@@ -13,7 +13,8 @@ loop-next-init c = (
 
 pub loop-next-preserved : goal.loop-next-preserved
 loop-next-preserved c =
-    let grown = c.in-Some-checked_add.ensures.1 ∙ ap (λ x. x + c.in-Some-digit.next) c.in-Some-checked_mul.ensures.1 in (
+    let grown = c.in-Some-checked_add.ensures.1
+    ∙ ap (λ x. x + c.in-Some-digit.next) c.in-Some-checked_mul.ensures.1 in (
       number_grown c.loop-next.value c.in-Some-digit.next c.in-Some-checked_add.grown c.loop-next.invariant.0
           c.in-Some-digit.ensures.read grown,
       λ n u h p. count_more c.loop-next.value n c.in-Some-digit.next c.in-Some-checked_add.grown
@@ -22,26 +23,30 @@ loop-next-preserved c =
 
 pub returns-in-Some-peek-clause-whole : goal.returns-in-Some-peek-clause-whole
 returns-in-Some-peek-clause-whole c n u h p =
-    count_begins n h (subst (λ o. IfNone o (IsPastDigits (rest c.args.cursor.now))) c.in_default.is c.digit.ensures.past)
+    count_begins n h (subst (λ o. IfNone o (IsPastDigits (rest c.args.cursor.now))) c.in_default.is
+    c.digit.ensures.past)
 
 pub returns-in_default-checked_mul-clause-whole : goal.returns-in_default-checked_mul-clause-whole
 returns-in_default-checked_mul-clause-whole c n u h p =
     let le : c.loop-next.value * 10 + c.in-Some-digit.next ≤ n =
-    count_over c.loop-next.value n c.in-Some-digit.next (c.loop-next.invariant.1 n u h p) p c.in-Some-digit.ensures.read in
+    count_over c.loop-next.value n c.in-Some-digit.next
+    (c.loop-next.invariant.1 n u h p) p c.in-Some-digit.ensures.read in
     let small : n < 2 ^ 32 = h.2.1 in
     absurd (c.in_default-checked_mul.ensures (omega (arith, le, small)))
 
 pub returns-in_default-checked_add-clause-whole : goal.returns-in_default-checked_add-clause-whole
 returns-in_default-checked_add-clause-whole c n u h p =
     let le : c.loop-next.value * 10 + c.in-Some-digit.next ≤ n =
-    count_over c.loop-next.value n c.in-Some-digit.next (c.loop-next.invariant.1 n u h p) p c.in-Some-digit.ensures.read in
+    count_over c.loop-next.value n c.in-Some-digit.next
+    (c.loop-next.invariant.1 n u h p) p c.in-Some-digit.ensures.read in
     let small : n < 2 ^ 32 = h.2.1 in
     let tenfold : c.in-Some-checked_mul.tenfold ≡ c.loop-next.value * 10 = c.in-Some-checked_mul.ensures.1 in
     absurd (c.in_default-checked_add.ensures (omega (arith, le, small, tenfold)))
 
 pub returns-clause-whole : goal.returns-clause-whole
 returns-clause-whole c n u h p =
-    let past = subst (λ o. IfNone o (IsPastDigits (rest c.loop-next.cursor))) c.in_default-digit.is c.digit-in-loop-next.ensures.past in
+    let past = subst (λ o. IfNone o (IsPastDigits (rest c.loop-next.cursor))) c.in_default-digit.is
+    c.digit-in-loop-next.ensures.past in
     let same = subst (λ o. IfNone o (c.digit-in-loop-next.new.cursor ≡ c.loop-next.cursor)) c.in_default-digit.is
     c.digit-in-loop-next.ensures.none in
     let ended = count_ended c.loop-next.value n (c.loop-next.invariant.1 n u h p) past in

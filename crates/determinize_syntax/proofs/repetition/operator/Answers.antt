@@ -11,11 +11,13 @@ returns-then-take-clause-read c = took (Operator 0 None) (c.take.ensures.read c.
 
 pub returns-then-take-2-clause-read : goal.returns-then-take-2-clause-read
 returns-then-take-2-clause-read c =
-    took (Operator 1 None) (ap rest (sym (c.take.ensures.left c.if-take.false)) ∙ c.take-2.ensures.read c.if-take-2.true) plus
+    took (Operator 1 None) (ap rest (sym (c.take.ensures.left c.if-take.false))
+    ∙ c.take-2.ensures.read c.if-take-2.true) plus
 
 pub returns-then-take-3-clause-read : goal.returns-then-take-3-clause-read
 returns-then-take-3-clause-read c =
-    took (Operator 0 (Some 1)) (ap rest (sym (c.take-2.ensures.left c.if-take-2.false ∙ c.take.ensures.left c.if-take.false))
+    took (Operator 0 (Some 1)) (ap rest (sym (c.take-2.ensures.left c.if-take-2.false
+    ∙ c.take.ensures.left c.if-take.false))
     ∙ c.take-3.ensures.read c.if-take-3.true) query
 
 pub returns-then-take-clause-whole : goal.returns-then-take-clause-whole
@@ -35,7 +37,8 @@ returns-then-take-3-clause-whole c k f e h =
 
 pub returns-in_err-bounds-clause-whole : goal.returns-in_err-bounds-clause-whole
 returns-in_err-bounds-clause-whole c k f e h =
-    let start = c.take-3.ensures.left c.if-take-3.false ∙ c.take-2.ensures.left c.if-take-2.false ∙ c.take.ensures.left c.if-take.false in
+    let start = c.take-3.ensures.left c.if-take-3.false ∙ c.take-2.ensures.left c.if-take-2.false
+    ∙ c.take.ensures.left c.if-take.false in
     let x = counts_begin k f e (rest c.args.cursor.now) h (rest c.take-4.new.self)
     (ap rest (sym start) ∙ c.take-4.ensures.read c.if-take-4.true) in
     passed_on _ c.from_residual.result c.in_err-bounds.field-0.0 c.from_residual.ensures.1
@@ -43,7 +46,8 @@ returns-in_err-bounds-clause-whole c k f e h =
 
 pub returns-then-take-4-clause-whole : goal.returns-then-take-4-clause-whole
 returns-then-take-4-clause-whole c k f e h =
-    let start = c.take-3.ensures.left c.if-take-3.false ∙ c.take-2.ensures.left c.if-take-2.false ∙ c.take.ensures.left c.if-take.false in
+    let start = c.take-3.ensures.left c.if-take-3.false ∙ c.take-2.ensures.left c.if-take-2.false
+    ∙ c.take.ensures.left c.if-take.false in
     let x = counts_begin k f e (rest c.args.cursor.now) h (rest c.take-4.new.self)
     (ap rest (sym start) ∙ c.take-4.ensures.read c.if-take-4.true) in
     subst (AfterOperator k f) (sym (c.in_ok-bounds.ensures.whole x.3 (x.0, x.1, (x.2, x.4, x.5)))) x.6

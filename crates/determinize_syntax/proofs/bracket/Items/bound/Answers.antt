@@ -32,7 +32,8 @@ returns-in-Wide-clause-read c =
     let read = subst (λ e. Reads c.take.new.self c.read_escape.new.cursor (λ t. IsEscape e (0x5C ∷ t))) c.in-Wide.is
     c.in_ok-escape.ensures.read in
     prefixed (Bound f h) (c.take.ensures.read c.if-take.true)
-    (renamed (λ t. Wide h (0x5C ∷ t)) (λ t. Bound f h (0x5C ∷ t)) read (λ t x. s.character h (0x5C ∷ t) c.if-flags.true x))
+    (renamed (λ t. Wide h (0x5C ∷ t)) (λ t. Bound f h (0x5C ∷ t)) read
+    (λ t x. s.character h (0x5C ∷ t) c.if-flags.true x))
 
 pub returns-then-not-is_ascii-clause-read : goal.returns-then-not-is_ascii-clause-read
 returns-then-not-is_ascii-clause-read c =
@@ -47,7 +48,8 @@ pub returns-clause-read : goal.returns-clause-read
 returns-clause-read c =
     let f = c.args.flags in
     let b = c.in-Some.next in
-    subst (λ h. Part (rest c.args.cursor.now) (rest c.take-else-not-may_end_range.new.self) (Bound f h)) (sym c.from-2.ensures)
+    subst (λ h. Part (rest c.args.cursor.now) (rest c.take-else-not-may_end_range.new.self) (Bound f h))
+    (sym c.from-2.ensures)
     (took {c = b} (Bound f b)
     (ap rest (sym (c.take-2.ensures.left c.if-take-2.false ∙ c.take.ensures.left c.if-take.false))
     ∙ c.take-else-not-may_end_range.ensures.read c.if-not-take.false)
@@ -126,13 +128,16 @@ returns-then-not-may_end_range-clause-whole c h u part =
     by_cases (bound_next f h part.0 part.2 u r part.1 (c.take.ensures.other c.if-take.false))
     (λ x. let same : c.in-Some.next ≡ h =
     some_injective c.in-Some.next h (sym c.in-Some.is ∙ c.peek.ensures ∙ ap (λ l. slice_get l 0) x.0) in
-    let may : c.may_end_range.result ≡ true = c.may_end_range.ensures ∙ ap (λ y. is_ascii y && not (y ∈ "]\\-")) same ∙ x.1 in
+    let may : c.may_end_range.result ≡ true = c.may_end_range.ensures ∙ ap (λ y. is_ascii y && not (y ∈ "]\\-")) same
+    ∙ x.1 in
     elim c.then-not-may_end_range.branch [
       | then-not-may_end_range-via-then-not-may_end_range w ↦
           (let never : true ≡ false = sym may ∙ w.if-not-may_end_range.true in absurd (cc))
       | then-not-may_end_range-via-else-not-may_end_range+then-not-take w ↦
-          absurd (w.take-else-not-may_end_range.ensures.other w.if-not-take.true (ap (λ (y : Cursor). slice_get (rest y) 0)
-          (c.take-2.ensures.left c.if-take-2.false ∙ c.take.ensures.left c.if-take.false) ∙ sym c.peek.ensures ∙ c.in-Some.is))
+          absurd (w.take-else-not-may_end_range.ensures.other w.if-not-take.true
+          (ap (λ (y : Cursor). slice_get (rest y) 0)
+          (c.take-2.ensures.left c.if-take-2.false ∙ c.take.ensures.left c.if-take.false) ∙ sym c.peek.ensures
+          ∙ c.in-Some.is))
     ])
     (λ x. ascii_first h x.1.0 u r c.in-Some.next (sym c.peek.ensures ∙ c.in-Some.is) x.2
     (sym c.is_ascii.ensures ∙ c.if-not-is_ascii.false))
@@ -148,4 +153,5 @@ returns-clause-whole c h u part =
       c.from-2.ensures ∙ heads c.in-Some.next h (rest c.take-else-not-may_end_range.new.self) u (sym read ∙ x.0),
       tails c.in-Some.next h (rest c.take-else-not-may_end_range.new.self) u (sym read ∙ x.0),
     ))
-    (λ x. ascii_first h x.1.0 u r c.in-Some.next (ap (λ l. slice_get l 0) read) x.2 (sym c.is_ascii.ensures ∙ c.if-not-is_ascii.false))
+    (λ x. ascii_first h x.1.0 u r c.in-Some.next (ap (λ l. slice_get l 0) read) x.2
+    (sym c.is_ascii.ensures ∙ c.if-not-is_ascii.false))

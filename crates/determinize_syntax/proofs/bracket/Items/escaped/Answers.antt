@@ -28,7 +28,8 @@ returns-in_ok-add_escaped-in-Byte-clause-read c =
     subst (λ q. Part (rest c.args.cursor.now) (rest c.read_escape.new.cursor) (λ t. Extends f p old q all (0x5C ∷ t)))
     (sym (added.before ∙ ap (λ n. AfterOne true n) c.from.ensures))
     (renamed (λ t. Escaped b (0x5C ∷ t)) (λ t. Extends f p old (AfterOne true b) all (0x5C ∷ t)) read
-    (λ t x. escaped_listed f p b old all (0x5C ∷ t) x (subst (λ n. all ≡ old ++ (n, n) ∷ []) c.from.ensures added.ranges)))
+    (λ t x. escaped_listed f p b old all (0x5C ∷ t) x
+    (subst (λ n. all ≡ old ++ (n, n) ∷ []) c.from.ensures added.ranges)))
 
 pub returns-in_ok-add_escaped-in-Wide-clause-read : goal.returns-in_ok-add_escaped-in-Wide-clause-read
 returns-in_ok-add_escaped-in-Wide-clause-read c =
@@ -54,7 +55,8 @@ returns-in_ok-add_class-in-Class-2-clause-read c =
     let old = char_pairs c.args.self.now.ranges.items in
     let all = char_pairs c.add_class.new.self.ranges.items in
     let added = c.in_ok-add_class-in-Class-2.ensures in
-    let read = subst (λ e. Reads c.args.cursor.now c.read_escape.new.cursor (λ t. IsEscape e (0x5C ∷ t))) c.in-Class-2.is
+    let read = subst (λ e. Reads c.args.cursor.now c.read_escape.new.cursor (λ t. IsEscape e (0x5C ∷ t)))
+    c.in-Class-2.is
     c.in_ok-escape.ensures.read in
     subst (λ q. Part (rest c.args.cursor.now) (rest c.read_escape.new.cursor) (λ t. Extends f p old q all (0x5C ∷ t)))
     (sym added.before)
@@ -93,8 +95,10 @@ returns-in_ok-add_class-in-Class-2-clause-whole c u h =
     let f = c.args.flags in
     let x = escape_next f u h.0 c.args.self.now.before _ h.1 (rest c.args.cursor.now) refl in
     let y = c.in_ok-escape.ensures.whole x.0 x.2 x.3 (may_listed f x.0 x.1 x.2 x.4) in
-    let q = (listed_class f c.in-Class-2.kind c.in-Class-2.negated x.0 x.1 (subst (λ d. IsSame d x.0) c.in-Class-2.is y.0) x.4).1 in
-    subst (λ p. Listing f u true p (rest c.read_escape.new.cursor)) (q ∙ sym c.in_ok-add_class-in-Class-2.ensures.before)
+    let q = (listed_class f c.in-Class-2.kind c.in-Class-2.negated x.0 x.1
+    (subst (λ d. IsSame d x.0) c.in-Class-2.is y.0) x.4).1 in
+    subst (λ p. Listing f u true p (rest c.read_escape.new.cursor))
+    (q ∙ sym c.in_ok-add_class-in-Class-2.ensures.before)
     (subst (Listing f u true x.1) (sym y.1) x.5)
 
 pub returns-in-Look-clause-whole : goal.returns-in-Look-clause-whole
@@ -117,5 +121,6 @@ returns-in-Class-clause-whole c u h =
     let f = c.args.flags in
     let x = escape_next f u h.0 c.args.self.now.before _ h.1 (rest c.args.cursor.now) refl in
     let y = c.in_ok-escape.ensures.whole x.0 x.2 x.3 (may_listed f x.0 x.1 x.2 x.4) in
-    let q = listed_class f c.in-Class.field-0 c.in-Class.field-1 x.0 x.1 (subst (λ d. IsSame d x.0) c.in-Class.is y.0) x.4 in
+    let q = listed_class f c.in-Class.field-0 c.in-Class.field-1 x.0 x.1
+    (subst (λ d. IsSame d x.0) c.in-Class.is y.0) x.4 in
     let never : true ≡ false = sym c.if-flags-2.true ∙ q.0 in absurd (cc)

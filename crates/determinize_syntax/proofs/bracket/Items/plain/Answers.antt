@@ -69,7 +69,8 @@ returns-then-not-is_ascii-clause-whole c u h other =
     (λ y. not_ascii c.in-Some.next y.0 r y.1 (sym c.peek.ensures ∙ c.in-Some.is) y.2
     (sym c.is_ascii.ensures ∙ c.if-not-is_ascii.true) (stands_plain c.args.self.now.before y.0 y.3).0)
     (λ y. let z = c.in_ok-character.ensures.whole y.0 y.1 y.3 y.4 y.2 in
-    subst (λ q. Listing f u true q (rest c.wide.new.cursor)) (ap (λ n. AfterOne true n) (sym z.0) ∙ sym c.in_ok-add_escaped.ensures.before)
+    subst (λ q. Listing f u true q (rest c.wide.new.cursor))
+    (ap (λ n. AfterOne true n) (sym z.0) ∙ sym c.in_ok-add_escaped.ensures.before)
     (subst (Listing f u true (AfterOne true y.0)) (sym z.1) y.5))
 
 pub returns-then-not-stands-clause-whole : goal.returns-then-not-stands-clause-whole
@@ -102,6 +103,7 @@ returns-clause-whole c u h other =
     (λ y. let same : c.in-Some.next ≡ y.0 = heads c.in-Some.next y.0 (rest c.take.new.self) y.1 (sym read ∙ y.2) in
     subst (λ q. Listing f u true q (rest c.take.new.self))
     (ap (λ n. AfterOne false n) (sym same ∙ sym c.from-character.ensures) ∙ sym c.in_ok-add.ensures.before)
-    (subst (Listing f u true (AfterOne false y.0)) (sym (tails c.in-Some.next y.0 (rest c.take.new.self) y.1 (sym read ∙ y.2))) y.4))
+    (subst (Listing f u true (AfterOne false y.0))
+    (sym (tails c.in-Some.next y.0 (rest c.take.new.self) y.1 (sym read ∙ y.2))) y.4))
     (λ y. ascii_first y.0 y.4.0 y.1 r c.in-Some.next (sym c.peek.ensures ∙ c.in-Some.is) y.2
     (sym c.is_ascii.ensures ∙ c.if-not-is_ascii.false))

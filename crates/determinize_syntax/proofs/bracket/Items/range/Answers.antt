@@ -14,14 +14,17 @@ returns-clause-read c = λ e.
     let f = c.args.flags in
     let old = char_pairs c.args.self.now.ranges.items in
     let all = char_pairs c.add.new.self.ranges.items in
-    subst (λ q. Part (rest c.args.cursor.now) (rest c.bound.new.cursor) (λ t. Extends f (AfterOne e c.args.low) old q all (0x2D ∷ t)))
+    subst (λ q. Part (rest c.args.cursor.now) (rest c.bound.new.cursor)
+    (λ t. Extends f (AfterOne e c.args.low) old q all (0x2D ∷ t)))
     (sym c.in_ok-add.ensures.before)
-    (range_read f e c.args.low c.in_ok-high.high old all c.in_ok-high.ensures.read c.if-high-low.false c.in_ok-add.ensures.ranges)
+    (range_read f e c.args.low c.in_ok-high.high old all c.in_ok-high.ensures.read c.if-high-low.false
+    c.in_ok-add.ensures.ranges)
 
 pub returns-in_err-high-clause-whole : goal.returns-in_err-high-clause-whole
 returns-in_err-high-clause-whole c e u h =
     let x = hyphen_next c.args.flags u h.0 (AfterOne e c.args.low) _ h.1 (rest c.args.cursor.now) refl h.3 in
-    passed_on _ c.from_residual.result c.in_err-high.field-0.0 c.from_residual.ensures.1 (c.in_err-high.ensures.whole x.0 x.1 x.3)
+    passed_on _ c.from_residual.result c.in_err-high.field-0.0 c.from_residual.ensures.1
+    (c.in_err-high.ensures.whole x.0 x.1 x.3)
 
 pub returns-then-high-low-clause-whole : goal.returns-then-high-low-clause-whole
 returns-then-high-low-clause-whole c e u h =

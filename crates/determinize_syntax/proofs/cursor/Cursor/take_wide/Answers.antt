@@ -20,7 +20,8 @@ returns-in_err-peek-clause-other c =
     (sym c.from_residual.ensures) (λ d t is e.
     let s = encode_starts d is.0 in
     let never : s.0 ∷ (s.1 ++ t) ≡ [] =
-    ap (λ l. l ++ t) (sym s.2) ∙ sym e ∙ at_end (rest c.args.self.now) (sym c.peek.ensures ∙ c.in_err-peek.was) in absurd (cc))
+    ap (λ l. l ++ t) (sym s.2) ∙ sym e ∙ at_end (rest c.args.self.now) (sym c.peek.ensures ∙ c.in_err-peek.was) in
+    absurd (cc))
 
 pub returns-then-self-width-clause-other : goal.returns-then-self-width-clause-other
 returns-then-self-width-clause-other c d t is e =
@@ -28,7 +29,8 @@ returns-then-self-width-clause-other c d t is e =
     let first : c.in_ok-peek.field-0 ≡ s.0 =
     some_injective c.in_ok-peek.field-0 s.0 (sym c.in_ok-peek.was ∙ c.peek.ensures ∙ ap (λ l. slice_get l 0) e
     ∙ ap (λ l. slice_get (l ++ t) 0) s.2) in
-    let width : c.width-width.result ≡ len_utf8 d = c.width-width.ensures d s.1 is.0 (s.2 ∙ ap (λ b. b ∷ s.1) (sym first)) in
+    let width : c.width-width.result ≡ len_utf8 d =
+    c.width-width.ensures d s.1 is.0 (s.2 ∙ ap (λ b. b ∷ s.1) (sym first)) in
     let less : length (rest c.args.self.now) < c.width-width.result = c.if-self-width.true in
     let long : len_utf8 d ≤ length (rest c.args.self.now) = long_enough d (rest c.args.self.now) t e in
     absurd (omega (arith, less, long, width))
@@ -39,7 +41,8 @@ returns-in_default-clause-other c d t is e =
     let first : c.in_ok-peek.field-0 ≡ s.0 =
     some_injective c.in_ok-peek.field-0 s.0 (sym c.in_ok-peek.was ∙ c.peek.ensures ∙ ap (λ l. slice_get l 0) e
     ∙ ap (λ l. slice_get (l ++ t) 0) s.2) in
-    let width : c.width-width.result ≡ len_utf8 d = c.width-width.ensures d s.1 is.0 (s.2 ∙ ap (λ b. b ∷ s.1) (sym first)) in
+    let width : c.width-width.result ≡ len_utf8 d =
+    c.width-width.ensures d s.1 is.0 (s.2 ∙ ap (λ b. b ∷ s.1) (sym first)) in
     let front : c.split_at.result.0.now ≡ encode_utf8 d =
     c.split_at.ensures.front ∙ front_is d c.width-width.result (rest c.args.self.now) t e width in
     absurd (c.in_default.ensures.cases.0 (subst (λ l. IsUtf8 l) (sym front) (IsUtf8-encode d is.1)))
@@ -52,10 +55,12 @@ returns-in_err-character-clause-other c =
     let first : c.in_ok-peek.field-0 ≡ s.0 =
     some_injective c.in_ok-peek.field-0 s.0 (sym c.in_ok-peek.was ∙ c.peek.ensures ∙ ap (λ l. slice_get l 0) e
     ∙ ap (λ l. slice_get (l ++ t) 0) s.2) in
-    let width : c.width-width.result ≡ len_utf8 d = c.width-width.ensures d s.1 is.0 (s.2 ∙ ap (λ b. b ∷ s.1) (sym first)) in
+    let width : c.width-width.result ≡ len_utf8 d =
+    c.width-width.ensures d s.1 is.0 (s.2 ∙ ap (λ b. b ∷ s.1) (sym first)) in
     let front : c.split_at.result.0.now ≡ encode_utf8 d =
     c.split_at.ensures.front ∙ front_is d c.width-width.result (rest c.args.self.now) t e width in
-    let text : chars_rest c.chars-chars.result ≡ encode_utf8 d = c.chars-chars.ensures.rest ∙ c.in-Ok.ensures.cases.0 ∙ front in
+    let text : chars_rest c.chars-chars.result ≡ encode_utf8 d = c.chars-chars.ensures.rest ∙ c.in-Ok.ensures.cases.0
+    ∙ front in
     let none : length (encode_utf8 d) ≡ 0 = ap length (sym text) ∙ c.in_err-character.ensures.steps.0.0 in
     let one : 1 ≤ len_utf8 d = at_least_one d in
     let len : length (encode_utf8 d) ≡ len_utf8 d = length-encode d in
@@ -67,10 +72,12 @@ returns-then-character-lt128-clause-other c d t is e =
     let first : c.in_ok-peek.field-0 ≡ s.0 =
     some_injective c.in_ok-peek.field-0 s.0 (sym c.in_ok-peek.was ∙ c.peek.ensures ∙ ap (λ l. slice_get l 0) e
     ∙ ap (λ l. slice_get (l ++ t) 0) s.2) in
-    let width : c.width-width.result ≡ len_utf8 d = c.width-width.ensures d s.1 is.0 (s.2 ∙ ap (λ b. b ∷ s.1) (sym first)) in
+    let width : c.width-width.result ≡ len_utf8 d =
+    c.width-width.ensures d s.1 is.0 (s.2 ∙ ap (λ b. b ∷ s.1) (sym first)) in
     let front : c.split_at.result.0.now ≡ encode_utf8 d =
     c.split_at.ensures.front ∙ front_is d c.width-width.result (rest c.args.self.now) t e width in
-    let text : chars_rest c.chars-chars.result ≡ encode_utf8 d = c.chars-chars.ensures.rest ∙ c.in-Ok.ensures.cases.0 ∙ front in
+    let text : chars_rest c.chars-chars.result ≡ encode_utf8 d = c.chars-chars.ensures.rest ∙ c.in-Ok.ensures.cases.0
+    ∙ front in
     let both = encode_same c.in_ok-character.character d (chars_rest c.next.new.self) []
     (sym c.in_ok-character.ensures.steps.0 ∙ text ∙ sym (append-nil (encode_utf8 d))) in
     elim c.then-character-lt128.branch [
@@ -80,5 +87,6 @@ returns-then-character-lt128-clause-other c d t is e =
           let large : 128 ≤ d = is.0 in
           absurd (omega (arith, same, less, large)))
       | then-character-lt128-via-else-character-lt128+then-not-is_empty w ↦
-          absurd (filled w.as_str.result.now (sym w.is_empty.ensures ∙ w.if-not-is_empty.true) (w.as_str.ensures ∙ both.1))
+          absurd (filled w.as_str.result.now (sym w.is_empty.ensures ∙ w.if-not-is_empty.true)
+          (w.as_str.ensures ∙ both.1))
     ]

@@ -11,6 +11,7 @@ returns c =
     let f = c.args.flags in
     let n = c.args.negated in
     let s = set_of c.args.self in
-    ok_then (HasBytes (turned n (folded f (has c.deref.result.now)))) (HasBytes (turned n (folded f s))) c.class.result c.class.ensures
+    ok_then (HasBytes (turned n (folded f (has c.deref.result.now))))
+    (HasBytes (turned n (folded f s))) c.class.result c.class.ensures
     (λ k h. kind_class f n s c.in_ok-members.members.items k c.in_ok-members.ensures
     (subst (λ l. HasBytes (turned n (folded f (has l))) k) c.deref.ensures.value h))

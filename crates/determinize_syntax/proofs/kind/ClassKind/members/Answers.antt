@@ -10,10 +10,13 @@ loop-i-preserved c =
     let s = set_of c.args.self in
     elim c.if-contains.branch [
       | then-contains+in_ok-push w ↦
-          below_with s c.loop-i.i c.loop-i.members.items c.if-contains.members.items (record { start = c.loop-i.i; end = c.loop-i.i })
-          c.loop-i.invariant (ap (λ (v : Vec ClassBytesRange Global). v.items) w.members-is ∙ w.in_ok-push.ensures.items) refl
+          below_with s c.loop-i.i c.loop-i.members.items c.if-contains.members.items
+          (record { start = c.loop-i.i; end = c.loop-i.i })
+          c.loop-i.invariant (ap (λ (v : Vec ClassBytesRange Global). v.items) w.members-is
+          ∙ w.in_ok-push.ensures.items) refl
           (sym c.contains.ensures ∙ w.if-contains.true)
       | else-contains w ↦
           subst (λ (v : Vec ClassBytesRange Global). HasBelow s (c.loop-i.i + 1) v.items) (sym w.members-is)
-          (below_without s c.loop-i.i c.loop-i.members.items c.loop-i.invariant (sym c.contains.ensures ∙ w.if-contains.false))
+          (below_without s c.loop-i.i c.loop-i.members.items c.loop-i.invariant
+          (sym c.contains.ensures ∙ w.if-contains.false))
     ]
