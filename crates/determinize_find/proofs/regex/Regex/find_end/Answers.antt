@@ -12,7 +12,8 @@ returns-clause-end g c =
     let asked : Asked = asked_of c.args.haystack.now c.args.range.start c.args.range.end c.args.anchored in
     subst (λ (n : Nfa). IfOk c.search_input.result (λ found. IsEnding n asked found))
     (ap (λ (v : RegexValue). v.nfa) c.self.view_is)
-    (ended_in c.search_input.result (g.F.Engine.engine c.self.inside.forward).nfa asked c.input_of-input.result c.input_of-input.ensures.value
+    (ended_in c.search_input.result (g.F.Engine.engine c.self.inside.forward).nfa asked
+    c.input_of-input.result c.input_of-input.ensures.value
     c.self.invariant.reads_forward c.self.invariant.prefix c.requires.start c.requires.in_haystack
     c.input_of-input.ensures.bytes
     (c.search_input.ensures.preferred c.self.invariant.kind) c.search_input.ensures.none c.search_input.ensures.done)
