@@ -1,12 +1,14 @@
 -- A search of an input, in words of runs.
-use Rattle.determinize_core.proofs.Common.{ap, Asked, Bool, Decides, false, HalfMatch, is_some}
+-- Main statements: start_is, found-search, found-decides.
+-- Used by: the searches of `Dfa`.
+-- Idea: the start is that of the anchored mode, and what a table finds is the last match of the walk.
+use Rattle.determinize_core.proofs.Common.{Asked, Bool, Decides, false, HalfMatch, is_some}
 use Rattle.determinize_engine.specs.Searches.{HasMatch, IsSearch}
-use Rattle.determinize_core.proofs.Common.{last_match, Nfa, Option, refl, Text, ◌∙◌, ◌≡◌}
+use Rattle.determinize_core.proofs.Common.{Nfa, Option, refl, Text, ◌≡◌}
 use Rattle.determinize_engine.specs.Searches.{start_for, text_of}
 use Rattle.determinize_dense.proofs.Common.{DfaValue, is_anchored, IsFound, start_in}
 use Rattle.determinize_below.specs.declared.search.Anchored.{Anchored}
 use Rattle.determinize_below.specs.declared.search.Anchored.TheVariants.{No, Pattern, Yes}
-use Rattle.determinize_core.specs.Chain.{chain}
 use Rattle.determinize_engine.proofs.Ranges.{match-decides}
 use Rattle.determinize_engine.proofs.SearchMatches.{is-search}
 
@@ -21,13 +23,12 @@ module _ {d : DfaValue} where
   pub found-search : (a : Anchored) (text : Text) {found : Option HalfMatch}
       → IsFound d false (is_anchored a) text found
       → IsSearch d.nfa d.kind (start_for d.nfa a) text found
-  found-search a text {found} f = is-search d.nfa d.kind (start_for d.nfa a) text found f.accepted
-      (f.last refl ∙ ap (λ s. last_match (chain d.nfa d.kind s text)) (start_is d.nfa a))
+  found-search a text {found} f = rw (← start_is d.nfa a)
+      (is-search d.nfa d.kind (start_in d.nfa (is_anchored a)) text found f.accepted (f.last refl))
 
   -- some run accepts exactly where a match is found
   pub found-decides : (asked : Asked) {earliest : Bool} {found : Option HalfMatch}
       → IsFound d earliest (is_anchored asked.anchored) (text_of d.nfa.reverse asked) found
       → Decides (is_some found) (HasMatch d.nfa asked)
-  found-decides asked f = match-decides d.nfa d.kind asked f.accepted (f.some
-      ∙ ap (λ s. is_some (last_match (chain d.nfa d.kind s (text_of d.nfa.reverse asked))))
-      (start_is d.nfa asked.anchored))
+  found-decides asked f =
+      match-decides d.nfa d.kind asked f.accepted (rw (start_is d.nfa asked.anchored) at f.some)

@@ -6,7 +6,7 @@
 use Rattle.determinize_core.proofs.Common.{Accepts, after_at, All, ap, arith, chain, Contains, ended_at, false, future}
 use Rattle.determinize_core.proofs.Common.{HalfMatch, IfSome, IsAccepted, IsPreferredMatch, last_match, LeftmostFirst}
 use Rattle.determinize_core.proofs.Common.{length, length-map, List, map, MatchKind, Nfa, None, Option, option_or, refl}
-use Rattle.determinize_core.proofs.Common.{slice_get, Some, start_value, step, subst, suc, sym, Text, units, Value}
+use Rattle.determinize_core.proofs.Common.{slice_get, Some, start_value, step, suc, sym, Text, units, Value}
 use Rattle.determinize_core.proofs.Common.{value_after, ℕ, [], ◌<◌, ◌∙◌, ◌∷◌, ◌≡◌, ◌≤◌}
 use Rattle.determinize_core.proofs.step.StepLaws.{one_pattern}
 use Rattle.determinize_core.proofs.walk.AcceptedPatterns.{each_answer_is_one}
@@ -35,9 +35,8 @@ module _ (nfa : Nfa) (accepted : IsAccepted nfa) (start : ℕ) (text : Text) whe
   chain-last : (kind : MatchKind) → slice_get (chain nfa kind start text) (suc (length text.bytes))
       ≡ Some (last_value kind)
   unfolding chain
-  chain-last kind = ap (λ n. slice_get (future nfa kind (start_value nfa start text.behind) (units text)) n)
-      (sym (length-map-range_with_len (after_at text) 0 (suc (length text.bytes))))
-      ∙ future-last nfa kind (start_value nfa start text.behind) (units text)
+  chain-last kind = rw (length-map-range_with_len (after_at text) 0 (suc (length text.bytes)))
+      at (future-last nfa kind (start_value nfa start text.behind) (units text))
 
   -- under All it lists the patterns with a match that ends there
   all-listed : ListsAccepted nfa text start (length text.bytes) (last_value All).patterns
@@ -89,8 +88,7 @@ module _ (nfa : Nfa) (accepted : IsAccepted nfa) (start : ℕ) (text : Text) whe
     preferred = λ x. (
       λ c. absurd (omega (arith, c.1)),
       λ r.
-          let e = (each_answer_is_one nfa text start).1 _ _ _ _ _ _ r.1 p.1 in
-          absurd (let no : ⊥ = omega (arith, e.0, before) in no),
+          absurd (omega (arith, ((each_answer_is_one nfa text start).1 _ _ _ _ _ _ r.1 p.1).0)),
     );
     few = few;
   }
@@ -101,7 +99,7 @@ module _ (nfa : Nfa) (accepted : IsAccepted nfa) (start : ℕ) (text : Text) whe
     );
     few = few;
   }
-  preferred_of (y ∷ z ∷ ys) few m before p = absurd (let no : ⊥ = omega (arith, few) in no)
+  preferred_of (y ∷ z ∷ ys) few m before p = absurd (omega arith)
 
   preferred-listed : ListsPreferred nfa text start (length text.bytes)
       (last_value nfa accepted start text LeftmostFirst).patterns
@@ -111,33 +109,20 @@ module _ (nfa : Nfa) (accepted : IsAccepted nfa) (start : ℕ) (text : Text) whe
       (map Some text.bytes)))
       (rw last_match-ends at (leftmost_walk nfa accepted start text).found)
 
-module _ (nfa : Nfa) (kind : MatchKind) (s start : ℕ) (text : Text) {list : List ℕ} (accepted : IsAccepted nfa) where
+module _ {nfa : Nfa} (kind : MatchKind) {s start : ℕ} (text : Text) {list : List ℕ} (accepted : IsAccepted nfa)
+    (same : s ≡ start) (is : list ≡ (value_after nfa kind (start_value nfa s text.behind) (units text)).patterns) where
   -- the same of a list that is that of the value
-  pub list-all : kind ≡ All → s ≡ start
-      → list ≡ (value_after nfa kind (start_value nfa s text.behind) (units text)).patterns
-      → ListsAccepted nfa text start (length text.bytes) list
-  list-all all same is = subst (λ ps. ListsAccepted nfa text start (length text.bytes) ps)
-      (sym (is ∙ ap (λ k. (value_after nfa k (start_value nfa s text.behind) (units text)).patterns) all
-      ∙ ap (λ n. (last_value nfa accepted n text All).patterns) same)) (all-listed nfa accepted start text)
+  pub list-all : kind ≡ All → ListsAccepted nfa text start (length text.bytes) list
+  list-all all = rw (is, all, same) (all-listed nfa accepted start text)
 
-  pub list-preferred : kind ≡ LeftmostFirst → s ≡ start
-      → list ≡ (value_after nfa kind (start_value nfa s text.behind) (units text)).patterns
-      → ListsPreferred nfa text start (length text.bytes) list
-  list-preferred first same is = subst (λ ps. ListsPreferred nfa text start (length text.bytes) ps)
-      (sym (is ∙ ap (λ k. (value_after nfa k (start_value nfa s text.behind) (units text)).patterns) first
-      ∙ ap (λ n. (last_value nfa accepted n text LeftmostFirst).patterns) same))
-      (preferred-listed nfa accepted start text)
+  pub list-preferred : kind ≡ LeftmostFirst → ListsPreferred nfa text start (length text.bytes) list
+  list-preferred first = rw (is, first, same) (preferred-listed nfa accepted start text)
 
-  pub each-accepted : s ≡ start
-      → list ≡ (value_after nfa kind (start_value nfa s text.behind) (units text)).patterns
-      → (x : ℕ) → Contains list x → (cs : List ℕ) × Accepts nfa text start cs (length text.bytes) x
-  each-accepted same is x listed = listed-accepted nfa accepted start text kind x
-      (subst (λ ps. Contains ps x) (is ∙ ap (λ n. (last_value nfa accepted n text kind).patterns) same) listed)
+  pub each-accepted : (x : ℕ) → Contains list x → (cs : List ℕ) × Accepts nfa text start cs (length text.bytes) x
+  each-accepted x listed = listed-accepted nfa accepted start text kind x (rw (is, same) at listed)
 
 pub each_text_is_listed : EachTextIsListed
 each_text_is_listed nfa kind d accepted is anchored text behind bytes ahead =
     let same = is anchored text.behind (units text) behind
-    (text_units text.behind false text.bytes text.ahead bytes ahead) in (
-      λ all. list-all nfa kind _ _ text accepted all refl same,
-      λ first. list-preferred nfa kind _ _ text accepted first refl same,
-    )
+    (text_units text.behind false text.bytes text.ahead bytes ahead) in
+    (list-all kind text accepted refl same, list-preferred kind text accepted refl same)

@@ -2,7 +2,7 @@
 -- Main statement: pigeonhole.
 -- Used by: Least, Ordering, Splitting.
 -- Idea: a list of distinct numbers below m has at most m elements.
-use Rattle.std.proofs.Common.{◌<◌, ◌∙◌, ◌≡◌, ◌≤◌, arith, length, List, map, subst, sym, ℕ}
+use Rattle.std.proofs.Common.{◌<◌, ◌≡◌, ◌≤◌, arith, length, List, map, ℕ}
 use Rattle.std.proofs.lemmas.Bool.{eq-eqb, eqb-true}
 use Rattle.std.proofs.lemmas.List.FromFn.{get_or-map-range_with_len, length-map-range_with_len}
 use Rattle.std.proofs.lemmas.Map.Made.{IsDistinct-from_AllPairs}
@@ -28,12 +28,7 @@ module _ (n m : ℕ) (f : ℕ → ℕ) where
   value i d l = get_or-map-range_with_len f 0 n i i d l (omega arith)
 
   pub pigeonhole : Into f n m → IsOneToOne f n → n ≤ m
-  pigeonhole into one =
-      subst (λ k. k ≤ m) size (length-le_from_distinct_below values m
-      (IsDistinct-from_AllPairs (λ a b. (eqb-true a b, eq-eqb a b)) values (λ i j d l k e.
-      let b : j < n = subst (λ s. j < s) size k in let a : i < n = omega (arith, l, b) in
-      let same : i ≡ j = one i j a b (sym (value i d a) ∙ e ∙ value j d b) in
-      let no : ⊥ = omega (arith, l, same) in no))
-      (λ q t.
-      let c = Contains-from_any eqb-true q values t in let l : c.0 < n = subst (λ s. c.0 < s) size c.1 in
-      subst (λ v. v < m) (sym (value c.0 q l) ∙ c.2) (into c.0 l)))
+  pigeonhole into one = rw size at (length-le_from_distinct_below values m
+      (IsDistinct-from_AllPairs (λ a b. (eqb-true a b, eq-eqb a b)) values
+      (λ i j d l k e. grind (arith, size, value, one i j)))
+      (λ q t. let c = Contains-from_any eqb-true q values t in grind (arith, size, value c.0 q)))

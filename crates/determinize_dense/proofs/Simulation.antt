@@ -1,7 +1,10 @@
 -- The table that is built: each row follows the steps of its value.
-use Rattle.determinize_core.proofs.Common.{ap, arith, Bool, cond, Contains, dead, get_or, get_or_from_slice_get}
-use Rattle.determinize_core.proofs.Common.{length, List, map, MatchKind, nat_lt, Nfa, None, Option, option_map, refl}
-use Rattle.determinize_core.proofs.Common.{slice_get, slice_get_within, slice_index, Some, start_value, subst, sym}
+-- Main statements: is_dfa, has_states.
+-- Used by: `finish`.
+-- Idea: the unit for which a column is computed is alike to each unit of the column.
+use Rattle.determinize_core.proofs.Common.{arith, Bool, by_cases, Contains, dead, get_or, get_or_from_slice_get}
+use Rattle.determinize_core.proofs.Common.{length, List, map, MatchKind, nat_lt, Nfa, None, Option, refl}
+use Rattle.determinize_core.proofs.Common.{slice_get, slice_get_within, slice_index, Some, start_value, sym}
 use Rattle.determinize_core.proofs.Common.{true, Value, value_after, ℕ, [], length-map, slice_get-get_or}
 use Rattle.determinize_core.proofs.Common.{slice_get-map, ◌*◌, ◌+◌, ◌<◌, ◌∙◌, ◌∷◌, ◌≡◌}
 use Rattle.determinize_dense.proofs.Common.{All, AreClassesOf, AreStarts, Building, Classes, column_of, columns_of}
@@ -9,15 +12,16 @@ use Rattle.determinize_dense.proofs.Common.{first_of, HasStates}
 use Rattle.determinize_dense.proofs.Common.{IsBuilding, IsDfa, IsFilled, IsReachedValue, IsUnit, patterns_at}
 use Rattle.determinize_dense.proofs.Common.{row_after, row_over, slot_of, start_in, start_kind_of, start_row}
 use Rattle.determinize_dense.proofs.Common.{step, Table, unit_at}
-use Rattle.std.specs.Prelude.{◌%◌, ◌++◌, ◌≤◌, false, ◌/◌}
+use Rattle.std.specs.Prelude.{◌++◌, ◌≤◌, false}
 use Rattle.determinize_dense.specs.Least.{IsReachedRow}
-use Rattle.std.proofs.Math.Nat.{mul_comm}
+use Rattle.std.proofs.lemmas.Bool.{cases_lt}
+use Rattle.std.proofs.lemmas.List.Elements.{All-head, All-tail}
 use Rattle.std.proofs.lemmas.Nat.{div-mul-add, mod-mul-add, mul-add-lt}
 use Rattle.determinize_core.specs.Alike.{NeedsTested}
 use Rattle.determinize_core.proofs.step.AlikeBytes.{each_class_steps}
 use Rattle.determinize_core.proofs.step.StepLaws.{dead_stays}
 use Rattle.determinize_engine.proofs.Places.{of_some}
-use Rattle.determinize_dense.proofs.Reached.{head_unit, reached-tested, tail_units}
+use Rattle.determinize_dense.proofs.Reached.{reached-tested}
 use Rattle.determinize_start.proofs.kinds.StartSlots.{slot_number-below}
 use Rattle.determinize_engine.specs.declared.state_table.TheConstants.{MAX_STATES}
 
@@ -30,15 +34,13 @@ after-more nfa kind (u ∷ us) rest v = after-more nfa kind us rest (step nfa ki
 -- the dead value stays along units
 dead-stays : (nfa : Nfa) (kind : MatchKind) (us : List (Option ℕ)) → value_after nfa kind dead us ≡ dead
 dead-stays nfa kind [] = refl
-dead-stays nfa kind (u ∷ us) = ap (λ v. value_after nfa kind v us) (dead_stays nfa kind u).0 ∙ dead-stays nfa kind us
+dead-stays nfa kind (u ∷ us) = rw (dead_stays nfa kind u).0 (dead-stays nfa kind us)
 
 -- other classes of the same bytes
 classes-as : {nfa : Nfa} {p q : Classes} → q.of_bytes ≡ p.of_bytes → AreClassesOf nfa p → AreClassesOf nfa q
 classes-as e are = record {
-  alike = λ b c h l same. are.alike b c h l
-      (ap (λ bs. slice_index bs b) (sym e) ∙ same ∙ ap (λ bs. slice_index bs c) e);
-  coarsest = λ b c h l alike. ap (λ bs. slice_index bs b) e ∙ are.coarsest b c h l alike
-      ∙ ap (λ bs. slice_index bs c) (sym e);
+  alike = λ b c h l same. are.alike b c h l (rw e at same);
+  coarsest = λ b c h l alike. rw e (are.coarsest b c h l alike);
 }
 
 module _ (b : Building) (is : IsBuilding b) (whole : length b.next ≡ length b.values * columns_of b.classes)
@@ -54,63 +56,42 @@ module _ (b : Building) (is : IsBuilding b) (whole : length b.next ≡ length b.
 
   column-below : (u : Option ℕ) → IsUnit u → column_of table u < columns_of b.classes
   column-below None h = omega arith
-  column-below (Some byte) h =
-      let k : slice_index b.classes.of_bytes byte < length b.classes.firsts = is.sound.within byte h in omega (arith, k)
+  column-below (Some byte) h = omega (arith, is.sound.within byte h)
 
   -- the unit for which a column is computed is alike to each unit of the column
   same-step : (v : Value) (u : Option ℕ) → NeedsTested b.nfa v → IsUnit u
       → step b.nfa b.kind v (unit_at b.classes (column_of table u)) ≡ step b.nfa b.kind v u
   same-step v None tested h =
-      let e : nat_lt (length b.classes.firsts) (length b.classes.firsts) ≡ false = grind arith in
-      ap (λ t. step b.nfa b.kind v (cond t (Some (first_of b.classes (length b.classes.firsts))) None)) e
+      let past : nat_lt (length b.classes.firsts) (length b.classes.firsts) ≡ false = grind arith in rw past
   same-step v (Some byte) tested h =
       let c : ℕ = slice_index b.classes.of_bytes byte in
       let k : c < length b.classes.firsts = is.sound.within byte h in
-      let e : nat_lt c (length b.classes.firsts) ≡ true = grind (arith, k) in
-      ap (λ t. step b.nfa b.kind v (cond t (Some (first_of b.classes c)) None)) e
-      ∙ each_class_steps b.nfa is.accepted b.kind v tested (first_of b.classes c) byte
-      (is.classes.alike (first_of b.classes c) byte (is.sound.bytes c k) h (is.sound.own c k))
+      let inside : nat_lt c (length b.classes.firsts) ≡ true = grind (arith, k) in
+      rw inside (each_class_steps b.nfa is.accepted b.kind v tested (first_of b.classes c) byte
+      (is.classes.alike (first_of b.classes c) byte (is.sound.bytes c k) h (is.sound.own c k)))
 
   -- the entry of a row is the row of the next value
   row_over-step : (r : ℕ) (v : Value) (u : Option ℕ) → slice_get b.values r ≡ Some v → IsUnit u
       → slice_get b.values (row_over table r u) ≡ Some (step b.nfa b.kind v u)
   row_over-step r v u at h =
-      entry.2
-      ∙ ap (λ x. Some (step b.nfa b.kind x (unit_at b.classes (place % columns)))) same
-      ∙ ap (λ n. Some (step b.nfa b.kind v (unit_at b.classes n))) (mod-mul-add r columns c below)
-      ∙ ap Some (same-step v u (reached-tested b.nfa b.kind v (is.reached r v at)) h)
-    where
-      columns : ℕ
-      columns = columns_of b.classes
-
-      c : ℕ
-      c = column_of table u
-
-      below : c < columns
-      below = column-below u h
-
-      place : ℕ
-      place = r * columns + c
-
-      inside : place < length b.next
-      inside = subst (λ n. place < n) (mul_comm columns (length b.values) ∙ sym whole)
-          (mul-add-lt r columns c (length b.values) (slice_get_within b.values r v at) below)
-
-      entry : (x : Value) × (slice_get b.values (place / columns) ≡ Some x)
-          × (slice_get b.values (slice_index b.next place)
-          ≡ Some (step b.nfa b.kind x (unit_at b.classes (place % columns))))
-      entry = is.entries place (slice_index b.next place) (slice_get-get_or b.next place 0 inside)
-
-      same : entry.0 ≡ v
-      same = of_some (sym entry.1 ∙ ap (λ n. slice_get b.values n) (div-mul-add r columns c below) ∙ at)
+      let columns : ℕ = columns_of b.classes in
+      let c : ℕ = column_of table u in
+      let below : c < columns = column-below u h in
+      let place = mul-add-lt r columns c (length b.values) (slice_get_within b.values r v at) below in
+      let inside : r * columns + c < length b.next = omega (arith, whole) in
+      let entry = is.entries (r * columns + c) (slice_index b.next (r * columns + c))
+      (slice_get-get_or b.next (r * columns + c) 0 inside) in
+      let same : entry.0 ≡ v = of_some (sym (rw (div-mul-add r columns c below) at entry.1) ∙ at) in
+      rw (← same-step v u (reached-tested b.nfa b.kind v (is.reached r v at)) h)
+      (rw (same, mod-mul-add r columns c below) at entry.2)
 
   -- and so along units
   row_after-steps : (us : List (Option ℕ)) (r : ℕ) (v : Value) → slice_get b.values r ≡ Some v → All IsUnit us
       → slice_get b.values (row_after table r us) ≡ Some (value_after b.nfa b.kind v us)
   row_after-steps [] r v at h = at
   row_after-steps (u ∷ us) r v at h =
-      row_after-steps us (row_over table r u) (step b.nfa b.kind v u) (row_over-step r v u at (head_unit u us h))
-      (tail_units u us h)
+      row_after-steps us (row_over table r u) (step b.nfa b.kind v u) (row_over-step r v u at (All-head IsUnit u us h))
+      (All-tail IsUnit u us h)
 
   -- the row of a start
   start-at : (anchored : Bool) (p : Option ℕ) → IsUnit p
@@ -120,53 +101,39 @@ module _ (b : Building) (is : IsBuilding b) (whole : length b.next ≡ length b.
 
   lists-at : (r : ℕ) (v : Value) → slice_get b.values r ≡ Some v → patterns_at table r ≡ v.patterns
   lists-at r v at = get_or_from_slice_get (map (λ (x : Value). x.patterns) b.values) r v.patterns []
-      (slice_get-map (λ (x : Value). x.patterns) b.values r ∙ ap (option_map (λ (x : Value). x.patterns)) at)
+      (rw (slice_get-map, at))
 
   count : length table.patterns ≡ length b.values
   count = length-map b.values (λ (x : Value). x.patterns)
 
   -- each column has a unit
   unit-there : (c : ℕ) → c < columns_of b.classes → (u : Option ℕ) × IsUnit u × (column_of table u ≡ c)
-  unit-there c h = elim (nat_lt c (length b.classes.firsts)) as (λ t. nat_lt c (length b.classes.firsts) ≡ t
-      → (u : Option ℕ) × IsUnit u × (column_of table u ≡ c)) [
-        | true ↦ λ e. let k : c < length b.classes.firsts = grind (arith, e) in
-            (Some (first_of b.classes c), is.sound.bytes c k, is.sound.own c k)
-        | false ↦ λ e. (None, tt, let k : length b.classes.firsts ≡ c = grind (arith, e, h) in k)
-      ] refl
+  unit-there c h = by_cases (cases_lt c (length b.classes.firsts))
+      (λ k. (Some (first_of b.classes c), is.sound.bytes c k, is.sound.own c k)) (λ k. (None, tt, omega arith))
 
   few : length table.patterns ≤ MAX_STATES
-  few = let n : length b.values ≤ b.limit = is.few in
-      let m : b.limit ≤ MAX_STATES = is.limit in omega (arith, n, m, count)
+  few = omega (arith, count)
 
   -- each row is reached
   row-reached : (r : ℕ) → r < length table.patterns → IsReachedRow b.nfa table r
   row-reached r h =
       let v : Value = get_or b.values r dead in
-      let at : slice_get b.values r ≡ Some v =
-      slice_get-get_or b.values r dead (subst (λ n. r < n) count h) in
-      let k : IsReachedValue b.nfa b.kind v = is.reached r v at in (
-        k.0,
-        k.1,
-        k.2,
-        k.3,
-        k.4,
-        is.apart r (row_after table (start_row b.nfa table k.0 k.1) k.2) v at
-            (row_after-steps k.2 _ _ (start-at k.0 k.1 k.3) k.4 ∙ ap Some (sym k.5)),
-      )
+      let at : slice_get b.values r ≡ Some v = slice_get-get_or b.values r dead (omega (arith, count)) in
+      let k : IsReachedValue b.nfa b.kind v = is.reached r v at in
+      let again = rw (← k.5) at (row_after-steps k.2 _ _ (start-at k.0 k.1 k.3) k.4) in
+      (k.0, k.1, k.2, k.3, k.4, is.apart r (row_after table (start_row b.nfa table k.0 k.1) k.2) v at again)
 
   is_table : IsFilled table
   is_table = record {
-    size = whole ∙ ap (λ n. n * columns_of b.classes) (sym count);
+    size = rw count whole;
     starts = are.count;
-    first = λ i h. subst (λ n. slice_index starts i < n) (sym count) (are.within i h);
+    first = λ i h. rw count (are.within i h);
     column = column-below;
     units = unit-there;
     few = few;
-    narrow = let classes = is.sound.few in omega (arith, classes);
-    within = λ r u h unit. subst (λ n. row_over table r u < n) (sym count)
-        (slice_get_within b.values (row_over table r u) _
-        (row_over-step r (get_or b.values r dead) u
-        (slice_get-get_or b.values r dead (subst (λ n. r < n) count h)) unit));
+    narrow = omega (arith, is.sound.few);
+    within = λ r u h unit. rw count (slice_get_within b.values (row_over table r u) _
+        (row_over-step r (get_or b.values r dead) u (slice_get-get_or b.values r dead (omega (arith, count))) unit));
   }
 
   pub is_dfa : IsDfa record { nfa = b.nfa; kind = b.kind; table = table }
@@ -179,11 +146,9 @@ module _ (b : Building) (is : IsBuilding b) (whole : length b.next ≡ length b.
     reached = row-reached;
     over = λ anchored p us rest h all _ end.
         let first : Value = start_value b.nfa (start_in b.nfa anchored) p in
-        let here : value_after b.nfa b.kind first us ≡ dead =
-        of_some (sym (row_after-steps us _ _ (start-at anchored p h) all) ∙ ap (λ n. slice_get b.values n) end
-        ∙ is.first) in
-        ap (λ (v : Value). v.patterns) (after-more b.nfa b.kind us rest first
-        ∙ ap (λ v. value_after b.nfa b.kind v rest) here ∙ dead-stays b.nfa b.kind rest);
+        let at = rw end at (row_after-steps us _ _ (start-at anchored p h) all) in
+        let here : value_after b.nfa b.kind first us ≡ dead = of_some (sym at ∙ is.first) in
+        rw (after-more b.nfa b.kind us rest first, here, dead-stays b.nfa b.kind rest);
   }
 
   -- the values are those that are reached
@@ -193,10 +158,10 @@ module _ (b : Building) (is : IsBuilding b) (whole : length b.next ≡ length b.
     is.apart,
     refl,
     λ v. (
-      λ (h : Contains b.values v). is.reached h.0 v (slice_get-get_or b.values h.0 v h.1 ∙ ap Some h.2),
+      λ (h : Contains b.values v). is.reached h.0 v (rw h.2 at (slice_get-get_or b.values h.0 v h.1)),
       λ (r : IsReachedValue b.nfa b.kind v).
           let at : slice_get b.values (row_after table (start_row b.nfa table r.0 r.1) r.2) ≡ Some v =
-          row_after-steps r.2 _ _ (start-at r.0 r.1 r.3) r.4 ∙ ap Some (sym r.5) in
+          rw r.5 (row_after-steps r.2 _ _ (start-at r.0 r.1 r.3) r.4) in
           let i : ℕ = row_after table (start_row b.nfa table r.0 r.1) r.2 in
           (i, slice_get_within b.values i v at, get_or_from_slice_get b.values i v v at),
     ),

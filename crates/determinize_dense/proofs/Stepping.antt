@@ -2,15 +2,14 @@
 -- Main statements: row_after-byte, listed_at_end.
 -- Used by: `determinize_uses`.
 -- Idea: the row after all bytes and the unit ahead is the row after the units of a text.
-use Rattle.determinize_core.proofs.Common.{[], ap, Bool, get_or, IsAccepted, length, List, map, Nfa, Option, refl}
-use Rattle.determinize_core.proofs.Common.{Some, sym, take, take_more, Text, ℕ, ◌++◌, ◌+◌, ◌<◌, ◌∙◌}
-use Rattle.determinize_core.proofs.Common.{◌∷◌, ◌≡◌}
+use Rattle.determinize_core.proofs.Common.{[], Bool, get_or, IsAccepted, length, List, map, Nfa, refl}
+use Rattle.determinize_core.proofs.Common.{Some, take, take_more, Text, ℕ, ◌+◌, ◌<◌, ◌∷◌, ◌≡◌}
 use Rattle.determinize_below.specs.declared.search.MatchKind.TheVariants as kinds
 use Rattle.determinize_core.specs.Walk.{ListsAccepted}
 use Rattle.determinize_dense.proofs.Common.{All, IsUnit, patterns_at, row_after, row_over, start_in, start_row, Table}
 use Rattle.determinize_dense.proofs.Least.{row_after-more}
 use Rattle.determinize_dense.proofs.Listing.{each_text_is_listed}
-use Rattle.determinize_dense.proofs.Lists.{map-push}
+use Rattle.std.proofs.lemmas.List.{map_push}
 use Rattle.determinize_dense.specs.Dfa.{IsDfaOf}
 use Rattle.determinize_dense.specs.Meaning.{list_after}
 use Rattle.determinize_engine.proofs.Texts.{units_listed}
@@ -20,11 +19,8 @@ pub row_after-byte : (d : Table) (r : ℕ) (bytes : List ℕ) (i : ℕ) → i < 
     → row ≡ row_after d r (map Some (take i bytes)) → next ≡ row_over d row (Some (get_or bytes i 0))
     → next ≡ row_after d r (map Some (take (i + 1) bytes))
 row_after-byte d r bytes i inside so_far goes =
-    let b : Option ℕ = Some (get_or bytes i 0) in
-    let more : map Some (take (i + 1) bytes) ≡ map Some (take i bytes) ++ b ∷ [] =
-    ap (λ bs. map Some bs) (take_more bytes i 0 inside) ∙ map-push Some (take i bytes) (get_or bytes i 0) in
-    goes ∙ ap (λ n. row_over d n b) so_far ∙ sym (row_after-more d (map Some (take i bytes)) (b ∷ []) r)
-    ∙ ap (λ us. row_after d r us) (sym more)
+    let push = row_after-more d (map Some (take i bytes)) (Some (get_or bytes i 0) ∷ []) r in
+    rw (take_more bytes i 0 inside, map_push, push, ← so_far) goes
 
 -- the row over the unit ahead, after all bytes
 module _ (nfa : Nfa) (d : Table) (anchored : Bool) (text : Text) where
@@ -32,9 +28,7 @@ module _ (nfa : Nfa) (d : Table) (anchored : Bool) (text : Text) where
       → patterns_at d (row_over d row text.ahead) ≡ list_after nfa d anchored text
   row_at_end is =
       let start : ℕ = start_row nfa d anchored text.behind in
-      ap (λ n. patterns_at d (row_over d n text.ahead)) is
-      ∙ ap (λ n. patterns_at d n) (sym (row_after-more d (map Some text.bytes) (text.ahead ∷ []) start))
-      ∙ ap (λ us. patterns_at d (row_after d start us)) (sym (units_listed text))
+      rw (is, units_listed text, row_after-more d (map Some text.bytes) (text.ahead ∷ []) start)
 
   pub listed_at_end : IsAccepted nfa → IsDfaOf nfa kinds.All d → IsUnit text.behind → All (λ b. b < 256) text.bytes
       → IsUnit text.ahead → {row : ℕ}

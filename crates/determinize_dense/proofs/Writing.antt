@@ -2,13 +2,13 @@
 -- Main statements: write_more, end_more, list_more, whole_of.
 -- Used by: `bytes`.
 -- Idea: what is written, and then the numbers that are left, are all numbers.
-use Rattle.determinize_core.proofs.Common.{[], ap, arith, get_or, length, List, slice_index, subst, suc, sym, ℕ}
-use Rattle.determinize_core.proofs.Common.{◌++◌, ◌+◌, ◌<◌, ◌∙◌, ◌∷◌, ◌≡◌, ◌≤◌}
+use Rattle.determinize_core.proofs.Common.{[], arith, get_or, length, List, slice_index, ℕ}
+use Rattle.determinize_core.proofs.Common.{◌++◌, ◌+◌, ◌<◌, ◌≡◌, ◌≤◌}
 use Rattle.std.specs.Prelude.{All, drop, take, ◌^◌}
 use Rattle.std.specs.Int.{to_le_bytes, w32}
 use Rattle.std.specs.List.{concat}
-use Rattle.std.proofs.Common.{append_assoc, drop-cons}
-use Rattle.std.proofs.lemmas.List.{append-nil, length-append, take_more}
+use Rattle.std.proofs.Common.{append_assoc}
+use Rattle.std.proofs.lemmas.List.{append-nil, drop_more, length-append, take_more}
 use Rattle.std.proofs.lemmas.List.Concat.{flat_map-append}
 use Rattle.std.proofs.lemmas.List.Elements.{All-append, All-from_get_or}
 use Rattle.std.proofs.lemmas.List.Folds.{concat-append}
@@ -20,75 +20,53 @@ use Rattle.determinize_dense.specs.Bytes.{bytes_of_words, ends_from, IsWhole, st
 pub words-append : (xs ys : List ℕ) → bytes_of_words (xs ++ ys) ≡ bytes_of_words xs ++ bytes_of_words ys
 words-append xs ys = flat_map-append (to_le_bytes w32) xs ys
 
-drop_next : {A : Type 0} (xs : List A) (i : ℕ) (x : A) → i < length xs → drop i xs ≡ get_or xs i x ∷ drop (i + 1) xs
-drop_next xs i x h = let e : i + 1 ≡ suc i = omega arith in rw e (drop-cons xs i x h)
-
 -- one number more
 pub write_more : (before total xs : List ℕ) (i x : ℕ) → i < length xs → x ≡ slice_index xs i
     → before ++ bytes_of_words (drop i xs) ≡ total
     → (before ++ to_le_bytes w32 x) ++ bytes_of_words (drop (i + 1) xs) ≡ total
-write_more before total xs i x h at so_far =
-    append_assoc before (to_le_bytes w32 x) (bytes_of_words (drop (i + 1) xs))
-    ∙ ap (λ n. before ++ bytes_of_words (n ∷ drop (i + 1) xs)) at
-    ∙ ap (λ l. before ++ bytes_of_words l) (sym (drop_next xs i 0 h)) ∙ so_far
+write_more before total xs i x h at so_far = rw (append_assoc, at) (rw (drop_more xs i 0 h) at so_far)
 
 -- where one list more ends
 pub end_more : (before total : List ℕ) (ps : List (List ℕ)) (i start end : ℕ) → i < length ps
     → end ≡ start + length (get_or ps i []) → before ++ bytes_of_words (ends_from start (drop i ps)) ≡ total
     → (before ++ to_le_bytes w32 end) ++ bytes_of_words (ends_from end (drop (i + 1) ps)) ≡ total
-end_more before total ps i start end h at so_far =
-    append_assoc before (to_le_bytes w32 end) (bytes_of_words (ends_from end (drop (i + 1) ps)))
-    ∙ ap (λ n. before ++ bytes_of_words (n ∷ ends_from n (drop (i + 1) ps))) at
-    ∙ ap (λ l. before ++ bytes_of_words (ends_from start l)) (sym (drop_next ps i [] h)) ∙ so_far
+end_more before total ps i start end h at so_far = rw (append_assoc, at) (rw (drop_more ps i [] h) at so_far)
 
 -- one list more
 pub list_more : (before total : List ℕ) (ps : List (List ℕ)) (i : ℕ) (list : List ℕ) → i < length ps
     → list ≡ get_or ps i [] → before ++ bytes_of_words (concat (drop i ps)) ≡ total
     → (before ++ bytes_of_words list) ++ bytes_of_words (concat (drop (i + 1) ps)) ≡ total
 list_more before total ps i list h at so_far =
-    append_assoc before (bytes_of_words list) (bytes_of_words (concat (drop (i + 1) ps)))
-    ∙ ap (λ l. before ++ l) (sym (words-append list (concat (drop (i + 1) ps))))
-    ∙ ap (λ l. before ++ bytes_of_words (l ++ concat (drop (i + 1) ps))) at
-    ∙ ap (λ l. before ++ bytes_of_words (concat l)) (sym (drop_next ps i [] h)) ∙ so_far
+    rw (append_assoc, at, ← words-append (get_or ps i []) (concat (drop (i + 1) ps)))
+    (rw (drop_more ps i [] h) at so_far)
 
 -- the numbers before where a list ends, and those left
 pub sum_more : (ps : List (List ℕ)) (i start end : ℕ) → i < length ps → end ≡ start + length (get_or ps i [])
     → start + length (concat (drop i ps)) ≡ length (concat ps)
     → end + length (concat (drop (i + 1) ps)) ≡ length (concat ps)
-sum_more ps i start end h at so_far =
-    let split = ap (λ l. length (concat l)) (drop_next ps i [] h) in
-    let count = length-append (get_or ps i []) (concat (drop (i + 1) ps)) in
-    omega (arith, at, so_far, split, count)
+sum_more ps i start end h at so_far = omega (arith, rw (drop_more ps i [] h, length-append) at so_far)
 
 pub ids_more : (P : ℕ → Type 0) (ps : List (List ℕ)) (i : ℕ) → i < length ps → All P (concat (take i ps))
     → All P (get_or ps i []) → All P (concat (take (i + 1) ps))
-ids_more P ps i h before here =
-    let more : concat (take (i + 1) ps) ≡ concat (take i ps) ++ get_or ps i [] =
-    ap concat (take_more ps i [] h) ∙ concat-append (take i ps) (get_or ps i [] ∷ [])
-    ∙ ap (λ l. concat (take i ps) ++ l) (append-nil (get_or ps i [])) in
-    subst (λ l. All P l) (sym more) (All-append P (concat (take i ps)) (get_or ps i []) before here)
+ids_more P ps i h before here = rw (take_more ps i [] h, concat-append, append-nil)
+    (All-append P (concat (take i ps)) (get_or ps i []) before here)
 
 -- a whole table is stored
 pub whole_of : (v : DfaValue) (p : Classes) → IsDfa v → AreClasses p → p.of_bytes ≡ v.table.classes
     → length p.firsts ≡ v.table.class_count → v.nfa.terminator < 256 → length (concat v.table.patterns) < 2 ^ 32
     → All (λ id. id ≤ MAX_ID) (concat v.table.patterns) → IsWhole (stored_of v)
-whole_of v p is sound bytes count terminator listed ids =
-    let t = v.table in
-    let some = sound.few in
-    let few = is.table.few in
-    record {
-      terminator = terminator;
-      few_classes = omega (arith, some, count);
-      few_rows = omega (arith, few);
-      few_listed = listed;
-      bytes = sym (ap length bytes) ∙ sound.count;
-      starts = is.table.starts;
-      entries = is.table.size;
-      class_within = subst (λ l. All (λ k. k < t.class_count) l) bytes (subst (λ n. All (λ k. k < n) p.of_bytes) count
-          (All-from_get_or (λ k. k < length p.firsts) p.of_bytes 0
-          (λ i h. sound.within i (let n = sound.count in omega (arith, h, n)))));
-      start_within = All-from_get_or (λ r. r < length t.patterns) t.starts 0
-          (λ i h. is.table.first i (let n = is.table.starts in omega (arith, h, n)));
-      entry_within = entries_within t is.table;
-      ids = ids;
-    }
+whole_of v p is sound bytes count terminator listed ids = record {
+  terminator = terminator;
+  few_classes = omega arith;
+  few_rows = omega arith;
+  few_listed = listed;
+  bytes = rw (← bytes) sound.count;
+  starts = is.table.starts;
+  entries = is.table.size;
+  class_within = rw (← bytes, ← count) (All-from_get_or (λ k. k < length p.firsts) p.of_bytes 0
+      (λ i h. sound.within i (omega arith)));
+  start_within = All-from_get_or (λ r. r < length v.table.patterns) v.table.starts 0
+      (λ i h. is.table.first i (omega arith));
+  entry_within = entries_within v.table is.table;
+  ids = ids;
+}

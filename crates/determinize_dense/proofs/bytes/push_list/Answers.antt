@@ -1,5 +1,4 @@
-use Rattle.determinize_core.proofs.Common.{subst, take_all, ◌∙◌, ◌≤◌}
-use Rattle.std.specs.Prelude.{All}
+use Rattle.determinize_core.proofs.Common.{take_all, ◌∙◌, ◌≤◌}
 use Rattle.std.proofs.lemmas.Grind.{get_or_default_zero}
 use Rattle.std.proofs.lemmas.List.Elements.{All-more}
 use Rattle.determinize_below.specs.declared.primitives.TheConstants.{MAX_ID}
@@ -15,9 +14,9 @@ loop-pattern-preserved g c =
           ∙ get_or_default_zero c.args.list.now c.loop-pattern.pattern-index c.pattern-item.result test)
           c.loop-pattern.invariant.rest);
       ids = All-more (λ id. id ≤ MAX_ID) c.args.list.now c.loop-pattern.pattern-index c.pattern-item.result test
-          c.loop-pattern.invariant.ids (subst (λ id. id ≤ MAX_ID) c.pattern-item.is c.as_u32.ensures.small);
+          c.loop-pattern.invariant.ids (rw (← c.pattern-item.is) c.as_u32.ensures.small);
     }
 
 pub returns-clause-ids : goal.returns-clause-ids
-returns-clause-ids g c = subst (λ l. All (λ id. id ≤ MAX_ID) l)
-    (take_all c.loop-pattern.pattern-index c.args.list.now c.loop-pattern-test.false) c.loop-pattern.invariant.ids
+returns-clause-ids g c = rw (take_all c.loop-pattern.pattern-index c.args.list.now c.loop-pattern-test.false)
+    at c.loop-pattern.invariant.ids

@@ -1,4 +1,4 @@
-use Rattle.determinize_core.proofs.Common.{ap, map, rules, take_all, ◌∙◌}
+use Rattle.determinize_core.proofs.Common.{rules, take_all}
 use Rattle.std.specs.Prelude.{◌/◌}
 use Rattle.determinize_dense.proofs.Lists.{mapped-push}
 use Rattle.determinize_dense.proofs.dfa.numbers_of.Goals as goal
@@ -11,6 +11,4 @@ loop-offset-preserved g c = record {
 }
 
 pub returns : goal.returns
-returns g c = c.loop-offset.invariant.rows
-    ∙ ap (λ os. map (λ offset. offset / c.args.columns) os)
-    (take_all c.loop-offset.offset-index c.args.offsets.now (search rules))
+returns g c = rw (take_all c.loop-offset.offset-index c.args.offsets.now (search rules)) at c.loop-offset.invariant.rows

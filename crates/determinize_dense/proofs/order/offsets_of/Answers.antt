@@ -1,4 +1,4 @@
-use Rattle.determinize_core.proofs.Common.{ap, map, rules, take_all, ◌*◌, ◌∙◌}
+use Rattle.determinize_core.proofs.Common.{rules, take_all, ◌*◌}
 use Rattle.determinize_dense.proofs.Lists.{mapped-push}
 use Rattle.determinize_dense.proofs.order.offsets_of.Goals as goal
 
@@ -9,5 +9,4 @@ loop-row-preserved g c = record {
 }
 
 pub returns : goal.returns
-returns g c = c.loop-row.invariant.offsets
-    ∙ ap (λ rs. map (λ row. row * c.args.columns) rs) (take_all c.loop-row.row-index c.args.rows.now (search rules))
+returns g c = rw (take_all c.loop-row.row-index c.args.rows.now (search rules)) at c.loop-row.invariant.offsets

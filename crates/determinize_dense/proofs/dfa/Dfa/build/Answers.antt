@@ -1,5 +1,4 @@
-use Rattle.determinize_core.proofs.Common.{ap, arith, Err, length, min, rules, subst, sym, ◌<◌, ◌∙◌, ◌≡◌, ◌≤◌}
-use Rattle.determinize_dense.proofs.Common.{HasStates}
+use Rattle.determinize_core.proofs.Common.{ap, arith, Err, length, min, rules, sym, ◌<◌, ◌∙◌, ◌≡◌}
 use Rattle.determinize_dense.proofs.Building.{same_err, more-as, states-as}
 use Rattle.determinize_dense.proofs.Counting.{each_count_is_one}
 use Rattle.determinize_engine.specs.declared.state_table.TheConstants.{MAX_STATES}
@@ -12,8 +11,7 @@ returns-in_err-rows-clause-many g c = λ same.
     (c.in_err-rows.ensures.many (ap Err (same_err (sym e ∙ same))))
 
 pub returns-clause-states : goal.returns-clause-states
-returns-clause-states g c =
-    subst (λ n. HasStates c.args.nfa.now c.args.match_kind n) (sym c.in_ok-arranged.ensures.rows)
+returns-clause-states g c = rw c.in_ok-arranged.ensures.rows
     (states-as c.in_ok-builder.ensures.nfa c.in_ok-builder.ensures.kind c.in_ok-rows.ensures.states)
 
 pub returns-clause-more : goal.returns-clause-more
@@ -21,9 +19,7 @@ returns-clause-more g c = λ more.
     let states = states-as c.in_ok-builder.ensures.nfa c.in_ok-builder.ensures.kind c.in_ok-rows.ensures.states in
     let fewer : min c.args.limit MAX_STATES < length c.in_ok-rows.rows.table.patterns =
     (each_count_is_one c.args.nfa.now c.args.match_kind _ _ states).1 more in
-    let few = c.in_ok-rows.ensures.few in
-    let begun = c.in_ok-builder.ensures.limit in
-    absurd (let no : ⊥ = omega (arith, fewer, few, begun) in no)
+    absurd (omega (arith, c.in_ok-rows.ensures.few, c.in_ok-builder.ensures.limit))
 
 pub returns-clause-nfa : goal.returns-clause-nfa
 returns-clause-nfa g c = c.in_ok-arranged.ensures.nfa ∙ c.in_ok-rows.ensures.nfa ∙ c.in_ok-builder.ensures.nfa
@@ -36,5 +32,4 @@ returns-clause-means g c = c.in_ok-arranged.ensures.means
 
 pub returns-clause-few : goal.returns-clause-few
 returns-clause-few g c =
-    subst (λ n. n ≤ min c.args.limit MAX_STATES) (sym c.in_ok-arranged.ensures.rows)
-    (subst (λ n. length c.in_ok-rows.rows.table.patterns ≤ n) c.in_ok-builder.ensures.limit c.in_ok-rows.ensures.few)
+    omega (arith, c.in_ok-arranged.ensures.rows, c.in_ok-rows.ensures.few, c.in_ok-builder.ensures.limit)

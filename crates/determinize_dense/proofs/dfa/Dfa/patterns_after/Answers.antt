@@ -1,5 +1,4 @@
-use Rattle.determinize_core.proofs.Common.{ap, between, map, refl, rules, Some, sym, take_all, units, [], ◌++◌, ◌∙◌}
-use Rattle.determinize_core.proofs.Common.{◌∷◌, ◌≡◌}
+use Rattle.determinize_core.proofs.Common.{between, refl, rules, take_all, units, ◌≡◌}
 use Rattle.determinize_dense.proofs.Common.{is_anchored, value_from}
 use Rattle.determinize_core.proofs.walk.UnitLists.{units_are}
 use Rattle.determinize_dense.proofs.Inputs.{start_is}
@@ -41,31 +40,23 @@ listed : (g : Over) (c : After-patterns g) → c.patterns.result.now
     ≡ (value_from c.args.self.now.nfa c.args.self.now.kind (is_anchored c.args.anchored) c.args.look_behind
     (units (between c.args.look_behind c.args.text.now c.args.look_ahead))).patterns
 listed g c =
-    c.patterns.ensures
-    ∙ patterns-are (row-push c.loop-byte.invariant.at c.args.look_ahead c.row_over-last.ensures.unit
-    c.row_over-last.ensures.value) c.start_row-row.ensures.sound c.row_number.ensures.row
-    ∙ ap (λ us. (value_from c.args.self.now.nfa c.args.self.now.kind (is_anchored c.args.anchored)
-    c.args.look_behind us).patterns)
-    (ap (λ bytes. map Some bytes ++ c.args.look_ahead ∷ []) (take_all c.loop-byte.byte-index c.args.text.now
-    (search rules)) ∙ sym (units_are c.args.look_behind c.args.look_ahead c.args.text.now))
+    let all = rw (take_all c.loop-byte.byte-index c.args.text.now (search rules)) at
+    (row-push c.loop-byte.invariant.at c.args.look_ahead c.row_over-last.ensures.unit c.row_over-last.ensures.value) in
+    rw c.patterns.ensures (rw (← units_are c.args.look_behind c.args.look_ahead c.args.text.now) at
+    (patterns-are all c.start_row-row.ensures.sound c.row_number.ensures.row))
 
 pub returns-clause-patterns : goal.returns-clause-patterns
 returns-clause-patterns g c = listed g (goal.at.returns-clause-patterns g c).After-patterns
 
 pub returns-clause-all : goal.returns-clause-all
-returns-clause-all g c = λ all. list-all c.args.self.now.nfa c.args.self.now.kind _ _
-    (between c.args.look_behind c.args.text.now c.args.look_ahead)
-    c.start_row-row.ensures.sound.accepted all
+returns-clause-all g c = list-all c.args.self.now.kind _ c.start_row-row.ensures.sound.accepted
     (start_is c.args.self.now.nfa c.args.anchored) (listed g (goal.at.returns-clause-all g c).After-patterns)
 
 pub returns-clause-preferred : goal.returns-clause-preferred
-returns-clause-preferred g c = λ first. list-preferred c.args.self.now.nfa c.args.self.now.kind _ _
-    (between c.args.look_behind c.args.text.now c.args.look_ahead)
-    c.start_row-row.ensures.sound.accepted first
+returns-clause-preferred g c = list-preferred c.args.self.now.kind _ c.start_row-row.ensures.sound.accepted
     (start_is c.args.self.now.nfa c.args.anchored) (listed g (goal.at.returns-clause-preferred g c).After-patterns)
 
 pub returns-clause-accepted : goal.returns-clause-accepted
-returns-clause-accepted g c = each-accepted c.args.self.now.nfa c.args.self.now.kind _ _
-    (between c.args.look_behind c.args.text.now c.args.look_ahead)
-    c.start_row-row.ensures.sound.accepted
+returns-clause-accepted g c = each-accepted c.args.self.now.kind
+    (between c.args.look_behind c.args.text.now c.args.look_ahead) c.start_row-row.ensures.sound.accepted
     (start_is c.args.self.now.nfa c.args.anchored) (listed g (goal.at.returns-clause-accepted g c).After-patterns)

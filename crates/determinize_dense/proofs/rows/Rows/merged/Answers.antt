@@ -1,39 +1,32 @@
-use Rattle.determinize_core.proofs.Common.{ap, map, rules, subst, sym, ◌∙◌, ◌≡◌}
-use Rattle.determinize_dense.proofs.Common.{DfaValue, IsDfa}
-use Rattle.determinize_below.specs.ByteClasses.{Classes}
+use Rattle.determinize_core.proofs.Common.{map, rules, ◌≡◌}
+use Rattle.determinize_dense.proofs.Common.{IsDfa}
 use Rattle.determinize_dense.proofs.Merging.{merged-dfa, merged-is, with_rows}
-use Rattle.determinize_dense.specs.Private.Minimizing.{IsMerged}
 use Rattle.determinize_dense.specs.Private.Rows.{dfa_value}
 use Rattle.determinize_dense.proofs.rows.Rows.merged.Given.{Over}
 use Rattle.determinize_dense.proofs.rows.Rows.merged.Goals.{In_ok-merged_lists}
 use Rattle.determinize_dense.proofs.rows.Rows.merged.Goals as goal
 
--- the value of the result
-value-is : (g : Over) (c : In_ok-merged_lists g)
-    → dfa_value c.self.inside.nfa.now c.self.inside.match_kind c.in_ok-clone.field-0 c.in_ok-merged_rows.field-0.items
-    c.merged_starts.result (map (λ list. list.items) c.in_ok-merged_lists.field-0.items)
-    ≡ with_rows c.args.self.now c.in_ok-merged_rows.field-0.items c.merged_starts.result
-    (map (λ list. list.items) c.in_ok-merged_lists.field-0.items)
-value-is g c =
-    let same : c.in_ok-clone.field-0 ≡ c.self.inside.classes = search rules in
-    ap (λ (p : Classes). dfa_value c.self.inside.nfa.now c.self.inside.match_kind p
-    c.in_ok-merged_rows.field-0.items c.merged_starts.result
-    (map (λ list. list.items) c.in_ok-merged_lists.field-0.items)) same
-    ∙ ap (λ (x : DfaValue). with_rows x c.in_ok-merged_rows.field-0.items c.merged_starts.result
-    (map (λ list. list.items) c.in_ok-merged_lists.field-0.items)) c.self.view_is
+module _ (g : Over) (c : In_ok-merged_lists g) where
+  -- the value of the result
+  value-is : dfa_value c.self.inside.nfa.now c.self.inside.match_kind c.in_ok-clone.field-0
+      c.in_ok-merged_rows.field-0.items c.merged_starts.result
+      (map (λ list. list.items) c.in_ok-merged_lists.field-0.items)
+      ≡ with_rows c.args.self.now c.in_ok-merged_rows.field-0.items c.merged_starts.result
+      (map (λ list. list.items) c.in_ok-merged_lists.field-0.items)
+  value-is =
+      let same : c.in_ok-clone.field-0 ≡ c.self.inside.classes = search rules in rw (same, ← c.self.view_is)
+
+  sound : IsDfa c.args.self.now
+  sound = rw (← c.self.view_is) c.self.invariant
 
 pub invariant_of-result : goal.invariant_of-result
-invariant_of-result g c = subst (λ (x : DfaValue). IsDfa x)
-    (sym (value-is g (goal.at.invariant_of-result g c).In_ok-merged_lists))
-    (merged-dfa c.args.self.now (subst (λ (x : DfaValue). IsDfa x) c.self.view_is c.self.invariant)
-    c.args.parts.now c.requires c.in_ok-merged_rows.field-0.items c.merged_starts.result
-    (map (λ list. list.items) c.in_ok-merged_lists.field-0.items) c.in_ok-merged_rows.ensures c.merged_starts.ensures
+invariant_of-result g c =
+    let at = (goal.at.invariant_of-result g c).In_ok-merged_lists in
+    rw (value-is g at) (merged-dfa (sound g at) c.requires c.in_ok-merged_rows.ensures c.merged_starts.ensures
     c.in_ok-merged_lists.ensures)
 
 pub returns : goal.returns
-returns g c = subst (λ (x : DfaValue). IsMerged c.args.self.now c.args.parts.now x)
-    (sym (value-is g (goal.at.returns g c).In_ok-merged_lists))
-    (merged-is c.args.self.now (subst (λ (x : DfaValue). IsDfa x) c.self.view_is c.self.invariant)
-    c.args.parts.now c.requires c.in_ok-merged_rows.field-0.items c.merged_starts.result
-    (map (λ list. list.items) c.in_ok-merged_lists.field-0.items) c.in_ok-merged_rows.ensures c.merged_starts.ensures
+returns g c =
+    let at = (goal.at.returns g c).In_ok-merged_lists in
+    rw (value-is g at) (merged-is (sound g at) c.requires c.in_ok-merged_rows.ensures c.merged_starts.ensures
     c.in_ok-merged_lists.ensures)

@@ -1,5 +1,4 @@
-use Rattle.determinize_core.proofs.Common.{ap, arith, rules, ◌+◌, ◌∙◌, ◌≡◌, ◌≤◌}
-use Rattle.determinize_dense.proofs.Common.{DfaValue}
+use Rattle.determinize_core.proofs.Common.{arith, ◌+◌, ◌≡◌}
 use Rattle.determinize_dense.proofs.Refining.{refined-fewer, refined-first, refined-more}
 use Rattle.determinize_dense.proofs.rows.Rows.refine.Goals as goal
 
@@ -14,6 +13,5 @@ loop-column-preserved g c = record {
 pub returns : goal.returns
 returns g c =
     let columns : c.alphabet_len-column-end.result ≡ c.args.self.now.table.class_count + 1 =
-    c.alphabet_len-column-end.ensures.count ∙ ap (λ (x : DfaValue). x.table.class_count + 1) c.self.view_is in
-    let all : c.alphabet_len-column-end.result ≤ c.loop-column.column = search rules in
-    refined-fewer (omega (arith, columns, all)) c.loop-column.invariant.refined
+    rw (← c.self.view_is) c.alphabet_len-column-end.ensures.count in
+    refined-fewer (omega arith) c.loop-column.invariant.refined
