@@ -25,7 +25,7 @@ pub use Rattle.std.specs.Option.{is_none, option_map, option_or, option_to_list}
 pub use Rattle.std.specs.Prelude.{nat_lt, slice_get}
 pub use mathlib.Core.Bool.{◌&&◌, and-false, and-true, or-false}
 pub use mathlib.Core.Path.{fun_ext}
-pub use Rattle.determinize_below.specs.ByteClasses.{AreAlike, AreTestedAlike}
+pub use Rattle.determinize_below.specs.ByteClasses.{AreAlike, AreTestedAlike, is_marked, MarksChanges}
 pub use Rattle.determinize_below.specs.Edges.{assertion_in, assertion_of, edges, is_capture, is_match, IsTested}
 pub use Rattle.determinize_below.specs.Edges.{pattern_in, pattern_of, patterns_of, target}
 pub use Rattle.determinize_below.specs.Look.{bit_of, each_look, has, reversed}
@@ -34,7 +34,6 @@ pub use Rattle.determinize_below.specs.Nfa.{failure_of, is_dense_sound, is_match
 pub use Rattle.determinize_below.specs.Nfa.{IsAccepted, looks_of, repeats, resolves, state_failure, states_failure}
 pub use Rattle.determinize_below.specs.Nfa.{with_look, with_looks_of}
 pub use Rattle.determinize_below.specs.Node.{node_of}
-pub use Rattle.determinize_below.specs.Private.Boundaries.{is_marked, MarksChanges}
 pub use Rattle.determinize_below.specs.Private.Clearing.{IsCleared}
 pub use Rattle.determinize_below.specs.Private.Sorting.{AreSorted}
 pub use Rattle.determinize_below.specs.Private.Sparse.{has_bit, IsSparse}

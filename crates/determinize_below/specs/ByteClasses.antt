@@ -1,5 +1,6 @@
 -- Classes of bytes that an NFA does not distinguish.
-use Rattle.std.specs.Prelude.{◌≡◌, ℕ, ◌<◌, ◌≤◌, true, Some, List, length, nat_eq, slice_index}
+use Rattle.std.specs.Prelude.{◌≡◌, ℕ, ◌+◌, ◌<◌, ◌≤◌, Bool, false, true, Some, List, length, nat_eq, slice_index}
+use Rattle.std.specs.Prelude.{slice_index_or}
 use Rattle.determinize_below.specs.Semantics.{state_at, target_of, Nfa, is_word_byte}
 use Rattle.determinize_below.specs.Look.{has_crlf, has_line, has_word}
 
@@ -44,3 +45,12 @@ pub record AreClasses (p : Classes) : Type 0 where
 pub record AreClassesOf (nfa : Nfa) (p : Classes) : Type 0 where
   pub alike : (b c : ℕ) → b < 256 → c < 256 → class_of p b ≡ class_of p c → AreAlike nfa b c
   pub coarsest : (b c : ℕ) → b < 256 → c < 256 → AreAlike nfa b c → class_of p b ≡ class_of p c
+
+-- whether the byte has a mark
+abbrev pub is_marked : List Bool → ℕ → Bool
+is_marked marks b = slice_index_or marks b false
+
+-- a byte without a mark had none before, and the function has the same value on the byte before it
+pub record MarksChanges {A : Type 0} (f : ℕ → A) (old new : List Bool) : Type 0 where
+  pub was : (b : ℕ) → is_marked new b ≡ false → is_marked old b ≡ false
+  pub same : (b : ℕ) → b < 255 → is_marked new (b + 1) ≡ false → f b ≡ f (b + 1)

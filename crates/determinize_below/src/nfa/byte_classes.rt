@@ -10,10 +10,11 @@
 ghost use Rattle.std.specs.Prelude.{◌≡◌, ℕ, ◌<◌, ◌≤◌, Some, length, slice_index, true};
 ghost use Rattle.std.specs.Bool.{Decides};
 ghost use Rattle.determinize_below.specs.ByteClasses.{AreAlike, AreClassesOf, AreTestedAlike};
-ghost use Rattle.determinize_below.specs.Semantics.{target_of};
+ghost use Rattle.determinize_below.specs.ByteClasses.{MarksChanges};
+ghost use Rattle.determinize_below.specs.Semantics.{state_at, target_of};
 ghost use Rattle.determinize_below.specs.Nfa.{IsAccepted, is_dense_sound, is_sparse_sound};
 ghost use Rattle.determinize_below.specs.Node.{node_of};
-ghost use Rattle.determinize_below.specs.Private.Boundaries.{AreBoundaries, MarksChanges};
+ghost use Rattle.determinize_below.specs.Private.Boundaries.{AreBoundaries};
 ghost use Rattle.determinize_below.specs.Transition.{dense_target, matches, sparse_target};
 
 use crate::alphabet::{ByteClasses, is_word_byte};
@@ -132,7 +133,7 @@ fn boundaries_of<A: Allocator>(nfa: &NFA<A>) -> [bool; 256]
         marks[usize::from(byte) + 1] = !are_tested_alike(nfa, byte, byte + 1);
     }
     for index in 0..nfa.len() {
-        mark_state(nfa.state(StateID::must(index)), &mut marks);
+        nfa.mark_changes(StateID::must(index), &mut marks);
     }
     marks
 }
@@ -154,6 +155,16 @@ fn first_alike<A: Allocator>(nfa: &NFA<A>, firsts: &[u8], byte: u8) -> usize
 }
 
 impl<A: Allocator> NFA<A> {
+    /// Marks each byte on which the state with this id has another target than on the byte before,
+    /// and maybe others. The id must be below the number of states.
+    pub fn mark_changes(&self, id: StateID, marks: &mut [bool; 256])
+        requires { id < length self.now.states }
+        ensures { MarksChanges (λ b. target_of (Some b) (state_at self.now id))
+            marks.old marks.new }
+    {
+        mark_state(self.state(id), marks);
+    }
+
     /// Returns the classes of bytes that the NFA does not distinguish. Two bytes have one class
     /// exactly if every state has the same target on both, and no assertion of the NFA
     /// distinguishes them: one on words by whether they are word bytes, one on lines or CRLF by
