@@ -3,6 +3,7 @@ pub mod FirstReading
 pub mod ReopenedClosure
 pub mod Reopening
 pub mod Resolving
+pub mod SharedSteps
 pub mod StepBound
 pub mod StepLaws
 pub mod StepParts

@@ -1,9 +1,9 @@
--- Laws of steps over bytes that an NFA does not distinguish.
-use Rattle.std.specs.Prelude.{◌≡◌, ℕ, true, Option, Some}
-use Rattle.determinize_below.specs.ByteClasses.{AreAlike}
+-- Laws of steps over bytes that an NFA does not distinguish, and marks where targets change.
+use Rattle.std.specs.Prelude.{◌≡◌, ℕ, ◌+◌, ◌<◌, All, Bool, false, true, List, Option, Some}
+use Rattle.determinize_below.specs.ByteClasses.{AreAlike, is_marked}
 use Rattle.determinize_below.specs.Edges.{IsTested}
 use Rattle.determinize_below.specs.Look.{has}
-use Rattle.determinize_below.specs.Semantics.{Nfa}
+use Rattle.determinize_below.specs.Semantics.{Nfa, state_at, target_of}
 use Rattle.determinize_below.specs.Nfa.{IsAccepted}
 use Rattle.determinize_below.specs.declared.look.Look.{Look as Assertion}
 use Rattle.determinize_below.specs.declared.search.MatchKind.{MatchKind}
@@ -25,3 +25,8 @@ abbrev pub EachNeedIsTested : Type 0
 EachNeedIsTested = (nfa : Nfa)
     → ((s : ℕ) (p : Option ℕ) → NeedsTested nfa (start_value nfa s p))
     × ((kind : MatchKind) (v : Value) (u : Option ℕ) → NeedsTested nfa (step nfa kind v u))
+
+-- on a byte without a mark each of the states has the same target as on the byte before it
+abbrev pub AreChanges : Nfa → List ℕ → List Bool → Type 0
+AreChanges nfa ids marks = (b : ℕ) → b < 255 → is_marked marks (b + 1) ≡ false
+    → All (λ s. target_of (Some b) (state_at nfa s) ≡ target_of (Some (b + 1)) (state_at nfa s)) ids

@@ -2,3 +2,4 @@
 pub mod Changes
 pub mod Reading
 pub mod Search
+pub mod Sharing

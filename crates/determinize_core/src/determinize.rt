@@ -25,6 +25,7 @@
 //! listed by the state after it, once the unit after the position is known. So a walk
 //! makes one more transition after the last byte: over EOI, or over the byte ahead of the text.
 
+pub mod changes;
 pub mod closure;
 pub mod lookbehind;
 mod reading;
