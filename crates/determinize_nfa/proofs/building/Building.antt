@@ -3,6 +3,8 @@
 -- Used by: `add`, `add_match`, `patch`, `close`, `build` and `build_with_prefix` of `Builder`.
 -- Idea: no state before the prefix has a transition to it, so only the skip has one to its start.
 use Rattle.determinize_nfa.proofs.Common.{BinaryUnion, Bool, BuildError, BuilderValue, ByteRange, Fail, HasPrefix, HasPrefixApart, ID_LIMIT, IsApart, IsUnfit, List, MAX_ID, Match, Nfa, Node, None, Option, OutOfMemory, Some, TooManyStates, [], ap, append_assoc, arith, built, by_cases, by_test, cases_lt, cond, failure, false, false≢true, get_or, get_or-map, inl, inr, leads_to, length, length-append, length-map, length-set, looks_of, map, map-append, map-set, nat_eq, nat_lt, nat_tests, prefixed, refl, set, subst, suc, sym, true, zero, ℕ, ◌++◌, ◌+◌, ◌-◌, ◌<◌, ◌||◌, ◌∙◌, ◌∷◌, ◌≡◌, ◌≤◌, ◌⊎◌}
+use Rattle.std.proofs.lemmas.Bool.{or_cases}
+use Rattle.ordered_reach.proofs.Cases.{or_false_left, or_false_right}
 use Rattle.std.specs.List.{position, position_or_len}
 use Rattle.std.proofs.Math.Seq.{map-set_same}
 use Rattle.std.proofs.lemmas.Bool.{lt-ltb}
@@ -29,7 +31,7 @@ module _ {V : Type 0} (f : V → Node) (xs : List V) (i : ℕ) where
     set_none old e n = rw (map-set_same f xs i new old (n ∙ ap f e)) refl
 
 -- the states that a builder is seen as, of which the program looks at one
-module _ {V : Type 0} (f : V → Node) (xs : List V) (patterns terminator : ℕ) (b : BuilderValue)
+module _ {V : Type 0} (f : V → Node) (xs : List V) {patterns terminator : ℕ} {b : BuilderValue}
     (is : ◌≡◌ {A = BuilderValue} record { states = map f xs; patterns = patterns; terminator = terminator } b) where
   pub length_is : length xs ≡ length b.states
   length_is = sym (length-map xs f) ∙ ap (λ (c : BuilderValue). length c.states) is
@@ -47,7 +49,7 @@ module _ {V : Type 0} (f : V → Node) (xs : List V) (patterns terminator : ℕ)
       (with_match b)
   matched_is ys x e m = rw (e, map-append f xs (x ∷ []), m) (ap with_match is)
 
-  module _ (i s : ℕ) (e : i ≡ s) (l : s < length b.states) where
+  module _ {i s : ℕ} (e : i ≡ s) (l : s < length b.states) where
     pub index_within : i < length xs
     index_within = omega (arith, length_is, e, l)
 
@@ -147,19 +149,6 @@ module _ (b : BuilderValue) (start : ℕ) where
       last s (suc zero) e h = absurd (false≢true (sym (other (length b.states)) ∙ h))
       last s (suc (suc k)) e h = absurd (false≢true h)
 
--- neither of two tests
-neither_first : (x y : Bool) → (x || y) ≡ false → x ≡ false
-neither_first false y h = refl
-neither_first true y h = h
-
-neither_second : (x y : Bool) → (x || y) ≡ false → y ≡ false
-neither_second false y h = h
-neither_second true y h = absurd (false≢true (sym h))
-
-one_of : (x y : Bool) → (x || y) ≡ true → (x ≡ true) ⊎ (y ≡ true)
-one_of true y h = inl refl
-one_of false y h = inr h
-
 -- as the program finds a state with a transition to the prefix, if any
 module _ {V : Type 0} (f : V → Node) (xs ys : List V) (b : BuilderValue) (union skip : ℕ) (found : Option ℕ)
     (is : map f xs ≡ b.states) (e : union ≡ length b.states) (k : skip ≡ suc (length b.states)) (same : ys ≡ xs)
@@ -169,7 +158,7 @@ module _ {V : Type 0} (f : V → Node) (xs ys : List V) (b : BuilderValue) (unio
 
   pub is_ahead : (start i : ℕ) → found ≡ Some i → IsUnfit b start (UnresolvedId i)
   is_ahead start i p = by_cases
-      (one_of (leads_to union (get_or b.states i Fail)) (leads_to skip (get_or b.states i Fail))
+      (or_cases (leads_to union (get_or b.states i Fail)) (leads_to skip (get_or b.states i Fail))
       (rw is at (first_passes f (has_transition_to union skip) xs i (at_first ∙ p))))
       (λ h. inr (inl (inr (i, union, refl, omega (arith, e), h))))
       (λ h. inr (inl (inr (i, skip, refl, omega (arith, k), h))))
@@ -180,9 +169,9 @@ module _ {V : Type 0} (f : V → Node) (xs ys : List V) (b : BuilderValue) (unio
 
   pub none_ahead : found ≡ None → IsApart b
   none_ahead p = record {
-    union = λ s l. rw e at (neither_first
+    union = λ s l. rw e at (or_false_left
         (leads_to union (get_or b.states s Fail)) (leads_to skip (get_or b.states s Fail)) (none_to p s l));
-    skip = λ s l. rw k at (neither_second
+    skip = λ s l. rw k at (or_false_right
         (leads_to union (get_or b.states s Fail)) (leads_to skip (get_or b.states s Fail)) (none_to p s l));
   }
 
@@ -198,14 +187,7 @@ pub built_is : (b : BuilderValue) (states : List Node) (terminator anchored u un
       look_set_any = looks_of states;
     }
     → nfa ≡ built b anchored unanchored
-built_is b states terminator anchored u unanchored all same start nfa e = e ∙ (λ i. record {
-  states = all i;
-  start_anchored = anchored;
-  start_unanchored = start i;
-  reverse = false;
-  terminator = same i;
-  look_set_any = looks_of (all i);
-})
+built_is b states terminator anchored u unanchored all same start nfa e = rw (all, start, same) at e
 
 pub unfit_too_many : (b : BuilderValue) (start n : ℕ) → n ≤ suc (length b.states) → (n ≤ MAX_ID → ⊥) → (e : BuildError)
     → e ≡ TooManyStates → IsUnfit b start e
@@ -230,12 +212,14 @@ made_of b start items states union skip patterns terminator e u k w =
     let n : union ≡ length b.states = u ∙ ap length i in
     let m : skip ≡ suc (length b.states) = k ∙ ap (λ xs. suc (length xs)) i in
     record {
-      all = w ∙ append_assoc items (BinaryUnion start skip ∷ [])
-          (ByteRange record { start = 0; end = 255; next = union } ∷ [])
-          ∙ ap (λ xs. xs ++ BinaryUnion start skip ∷ ByteRange record { start = 0; end = 255; next = union } ∷ []) i
-          ∙ ap (λ x. b.states ++ BinaryUnion start x ∷ ByteRange record { start = 0; end = 255; next = union } ∷ []) m
-          ∙ ap (λ x. b.states ++ BinaryUnion start (suc (length b.states))
-          ∷ ByteRange record { start = 0; end = 255; next = x } ∷ []) n;
+      all = rw (
+        w,
+        append_assoc items (BinaryUnion start skip ∷ [])
+            (ByteRange record { start = 0; end = 255; next = union } ∷ []),
+        m,
+        n,
+        i,
+      ) refl;
       first = n;
       same = ap (λ (c : BuilderValue). c.terminator) e;
     }

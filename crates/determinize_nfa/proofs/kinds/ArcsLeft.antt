@@ -1,5 +1,5 @@
 -- The transitions of a state that are left at an index, as the iterator finds them.
--- Main statements: left_at, list_behind, item_at.
+-- Main statements: left_at, list_behind.
 -- Used by: the functions of `arcs`.
 -- Idea: the first element of the rest of a list is that at the index.
 use Rattle.determinize_nfa.proofs.Common.{Arc, Bool, List, [], arith, drop, get_or, is_first, length, map, refl, suc, take, zero, ℕ, ◌+◌, ◌-◌, ◌<◌, ◌∷◌, ◌≡◌}

@@ -115,7 +115,8 @@ edge_arc {P} holds node t k f g =
         (λ e. In_none t (rw e at j))
     one (Free next) i j = In_cases t next [] j (λ z. f (rw z i)) (λ l. In_none t l)
 
-pub free_edge : (holds : Assertion → Bool) (node : Node) (t : ℕ) → In (Free t) (arcs_of node) → In t (edges_of holds node)
+pub free_edge : (holds : Assertion → Bool) (node : Node) (t : ℕ) → In (Free t) (arcs_of node)
+    → In t (edges_of holds node)
 free_edge holds node t k = rw (edges_are holds node)
     (In_flat_map (free_of holds) (arcs_of node) (Free t) t k (In_head t []))
 

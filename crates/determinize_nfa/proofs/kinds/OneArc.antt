@@ -1,8 +1,8 @@
 -- The transitions of the single states of which a reversed NFA is made.
 -- Main statements: look_edge_is, range_target_is, no_end.
--- Used by: BothWays and RecordedStates.
+-- Used by: ArcsOfStates, Choices and BothWays.
 -- Idea: each is the definition of `edges_of` or of `target_of` at one kind of state.
-use Rattle.determinize_nfa.proofs.Common.{Assertion, Bool, ByteRange, In, In_cases, In_none, Look, Node, None, Option, Some, Transition, [], by_test, cond, edges_of, matches, refl, some_injective, subst, sym, target_of, true, ℕ, ◌∷◌, ◌≡◌}
+use Rattle.determinize_nfa.proofs.Common.{Assertion, Bool, ByteRange, In, In_cases, In_none, Look, Node, None, Option, Some, Transition, [], by_test, edges_of, matches, refl, some_injective, sym, target_of, true, ℕ, ◌≡◌}
 
 pub no_end : {P : Type 0} (s : Node) (t : ℕ) → target_of None s ≡ Some t → P
 no_end (ByteRange r) t e = absurd (let k : None ≡ Some t = e in cc)

@@ -1,6 +1,6 @@
 -- The ranges of a table: each has bytes with one target, and each byte with a target is in one.
--- Main statements: run_target, byte_run, run_end, runs_end, length-runs.
--- Used by: RecordedStates, Counts.
+-- Main statements: run_target, byte_run, runs_on, runs_end, length-runs.
+-- Used by: ArcsOfStates, Counts, and `run_from` of `arcs`.
 -- Idea: induction on the rest of the table; the first run has begun at an earlier byte, with the same target since.
 use Rattle.determinize_nfa.proofs.Common.{In, In_cases, In_head, In_none, In_tail, List, None, Some, Transition, [], ap, arith, by_cases, by_test, cases_lt, drop, drop-cons, eqb-true, false, false≢true, get_or, get_or_past, is_first, length, matches, nat_eq, nat_tests, refl, runs, some_injective, suc, sym, true, ℕ, ◌+◌, ◌<◌, ◌∙◌, ◌∷◌, ◌≡◌, ◌≤◌}
 use Rattle.determinize_below.specs.Transition.{dense_target}
@@ -101,12 +101,6 @@ run_target ids r k b m =
     let l = within r b m in
     let e : get_or ids b 0 ≡ r.next = d.2 b l.0 l.1 in
     rw (e, d.0) refl
-
--- the last byte of a range is in it
-pub run_end : (ids : List ℕ) (r : Transition) → In r (runs 0 0 ids) → matches r r.end ≡ true
-run_end ids r k =
-    let d = run_of (λ c. get_or ids c 0) ids 0 0 (whole ids) r k in
-    let l : r.start ≤ r.end = d.1 in grind (arith, nat_tests)
 
 -- each byte with a target is in a range with this target
 pub byte_run : (ids : List ℕ) (b t : ℕ) → dense_target ids b ≡ Some t

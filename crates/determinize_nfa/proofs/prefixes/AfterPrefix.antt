@@ -4,10 +4,9 @@
 -- Used by: PreferredRun and the laws of idle scans.
 -- Idea: only the skip has a transition to the start, and it reads a byte, so of the pairs that a run has visited only
 -- those of the prefix lie in the way (VisitedNodes).
-use Rattle.determinize_nfa.proofs.Common.{All, All_at, Assertion, BinaryUnion, Bool, ByteRange, HasPrefix, In, In_cases, IsPath, List, Nfa, None, Some, Text, [], ap, arith, by_cases, by_option, eq-eqb, eqb-true, get_or, get_or_from_slice_get, inl, inr, leads_to, length, matches, nat_eq, or_left, path_stays, pattern_of, refl, same_pairs, slice_get, slice_get-get_or, slice_get_within, some_injective, state_at, subst, suc, sym, target_of, true, zero, ℕ, ◌+◌, ◌<◌, ◌∙◌, ◌∷◌, ◌≡◌, ◌≤◌, ◌⊎◌}
+use Rattle.determinize_nfa.proofs.Common.{All, All_at, Assertion, BinaryUnion, Bool, ByteRange, HasPrefix, In, In_cases, IsPath, List, Nfa, None, Some, Text, [], ap, arith, by_cases, by_option, eq-eqb, eqb-true, get_or, inl, inr, leads_to, length, matches, nat_eq, or_left, path_stays, pattern_of, refl, same_pairs, slice_get, slice_get-get_or, slice_get_within, some_injective, state_at, suc, sym, true, zero, ℕ, ◌+◌, ◌<◌, ◌∙◌, ◌∷◌, ◌≡◌, ◌≤◌, ◌⊎◌}
 use Rattle.std.specs.Prelude.{Contains}
 use Rattle.std.proofs.lemmas.Bool.{or_cases}
-use Rattle.std.proofs.lemmas.List.Elements.{All-get_or}
 use Rattle.ordered_reach.proofs.lists.Elements.{Contains_In}
 use Rattle.determinize_nfa.proofs.runs.Choices.{choices_under, under_later, under_leads}
 use Rattle.ordered_reach.proofs.graph.VisitedNodes.{path_forget, path_remember}

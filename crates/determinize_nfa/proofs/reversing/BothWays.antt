@@ -111,7 +111,8 @@ module _ (nfa backward : Nfa) (met : List ℕ) (h : Turned) (made : IsMadeOf nfa
       let b : w.0.0 ≤ q.0 = walk_later cs w.0 q w.2 in omega arith
 
   -- a walk of the NFA to position j, from its end to its beginning
-  forth : (cs : List ℕ) (p q : ℕ × ℕ) (r : ℕ) → r + p.0 ≡ j → q.0 ≡ j → In p.1 met → IsGraphWalk (choices nfa text) p cs q
+  forth : (cs : List ℕ) (p q : ℕ × ℕ) (r : ℕ) → r + p.0 ≡ j → q.0 ≡ j → In p.1 met
+      → IsGraphWalk (choices nfa text) p cs q
       → Leads (choices backward back) (0, q.1) (r, p.1)
   forth [] p q r e l m w =
       let a : q.0 ≡ p.0 = ap (λ y. y.0) w in
@@ -120,9 +121,9 @@ module _ (nfa backward : Nfa) (met : List ℕ) (h : Turned) (made : IsMadeOf nfa
       let k : w.0.0 ≤ q.0 = walk_later cs w.0 q w.2 in
       let m' : In w.0.1 met = met_step p w.0 c m w.1 in
       choice_cases nfa text p w.0 c w.1
-      (λ z t. over r e (omega arith) (λ r' e'. leads_then (choices backward back) (0, q.1) (r', w.0.1) (suc r', p.1)
+      (λ z t. over r e (omega arith) (λ r' e'. leads_then _ _ _ _
       (forth cs w.0 q r' (omega arith) l m' w.2) (forth_byte p.0 r' p.1 w.0.1 e' m t)))
-      (λ z t. leads_then (choices backward back) (0, q.1) (r, w.0.1) (r, p.1)
+      (λ z t. leads_then _ _ _ _
       (forth cs w.0 q r (omega arith) l m' w.2) (forth_free p.0 r p.1 w.0.1 e m t))
     where
       over : (r : ℕ) → r + p.0 ≡ j → suc p.0 ≤ j
@@ -147,8 +148,7 @@ module _ (nfa backward : Nfa) (met : List ℕ) (h : Turned) (made : IsMadeOf nfa
       = by_one (j - k, nfa.start_anchored) (j - k, n) (to_source (j - k) nfa.start_anchored n recorded.begins) in
       let whole : Leads (choices backward back) (0, backward.start_anchored) (j - k, n)
       = rw made.start
-      (leads_by (choices backward back) (0, suc n) (0, acc.0) (j - k, n) first
-      (leads_then (choices backward back) (0, acc.0) (j - k, nfa.start_anchored) (j - k, n) middle last)) in
+      (leads_by _ _ _ _ first (leads_then _ _ _ _ middle last)) in
       let p = path_of_walk same_pairs (choices backward back) (0, backward.start_anchored) (j - k, n) whole in
       (p.0, 0, (n, p.1, laid.match))
 

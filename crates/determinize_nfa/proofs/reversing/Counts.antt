@@ -137,7 +137,8 @@ length-states_most nfa met h d e n =
 total_arcs : (s : ℕ) (arcs : List Arc) (h : Turned) → total h ≤ total (with_arcs h s arcs)
 total_arcs s arcs h =
     let a = count-arcs s arcs h in
-    let b : length (with_arcs h s arcs).rest ≡ length (h.rest ++ flat_map (back s) arcs) = ap length (rest_arcs s arcs h) in
+    let b : length (with_arcs h s arcs).rest ≡ length (h.rest ++ flat_map (back s) arcs)
+    = ap length (rest_arcs s arcs h) in
     let c = length-append h.rest (flat_map (back s) arcs) in omega (arith, a, b, c)
 
 total_end : (s : ℕ) (node : Node) (h : Turned) → total (with_end h s node) ≡ total h
@@ -171,7 +172,8 @@ room_node nfa met h k s node d o l e n =
     = o.rest ∙ ap (λ ss. with_nodes nfa h ss) items
     ∙ ap (λ x. with_nodes nfa (with_node h s x) (drop (suc k) met)) (state_is nfa s node n) in
     let a = total_nodes nfa (drop (suc k) met) (with_node h s node) in
-    let b : total (turned_over nfa met) ≡ total (with_nodes nfa (with_node h s node) (drop (suc k) met)) = ap total all in
+    let b : total (turned_over nfa met) ≡ total (with_nodes nfa (with_node h s node) (drop (suc k) met))
+    = ap total all in
     let c : length (turned_over nfa met).into ≡ length (with_nodes nfa h (drop k met)).into
     = ap (λ (t : Turned). length t.into) o.rest in
     let count = count-nodes nfa (drop k met) h in

@@ -62,9 +62,9 @@ module _ (count : ℕ) where
   longer_all (y ∷ ys) ids d b f =
       let one = longer_one ids y d b (f y (In_head y ys)) in
       let all = longer_all ys (visited ids y) one.0.distinct one.0.below (λ x k. f x (In_tail x y ys k)) in (
-        longer_then ids (visited ids y) (all_visited (visited ids y) ys) one.0 all.0,
+        longer_then _ _ _ one.0 all.0,
         λ x k. In_cases x y ys k
-            (λ e. rw e (stays (visited ids y) (all_visited (visited ids y) ys) y all.0 one.1))
+            (λ e. rw e (stays _ _ y all.0 one.1))
             (λ i. all.1 x i),
       )
 
@@ -109,14 +109,11 @@ found_more nfa accepted ids k s node f e n =
     record {
       distinct = all.0.distinct;
       below = all.0.below;
-      start = stays (length nfa.states) ids (all_visited ids (targets_in node)) nfa.start_anchored all.0 f.start;
+      start = stays _ _ _ nfa.start_anchored all.0 f.start;
       followed = λ i x t l z m. by_cases (cases_lt i k)
-          (λ j. stays (length nfa.states) ids (all_visited ids (targets_in node)) t all.0
-          (f.followed i x t j (earlier (length nfa.states) ids (all_visited ids (targets_in node)) i x all.0 z
-          (omega (arith, within))) m))
+          (λ j. stays _ _ _ t all.0 (f.followed i x t j (earlier _ _ _ i x all.0 z (omega (arith, within))) m))
           (λ j. let y : i ≡ k = omega arith in
-          let old : slice_get ids k ≡ Some x
-          = earlier (length nfa.states) ids (all_visited ids (targets_in node)) k x all.0 (rw y at z) within in
+          let old : slice_get ids k ≡ Some x = earlier _ _ _ k x all.0 (rw y at z) within in
           let w : x ≡ s = some_injective x s (sym old ∙ e) in
           let leads : leads_to t node ≡ true = rw (w, is) at m in
           all.1 t (leads_arc t node leads));

@@ -29,7 +29,8 @@ pub made_match : (nfa backward : Nfa) (met : List ℕ) (h : Turned) → All (λ 
     → turned_over nfa met ≡ h → IsMadeOf nfa backward h → filter is_match_node backward.states ≡ Match 0 ∷ []
 made_match nfa backward met h below is made = ap (λ ns. filter is_match_node ns) made.states
     ∙ one_match h (λ x k.
-    (plain_rest nfa (length nfa.states) met h (λ s j. All_at (λ id. id < length nfa.states) met below s j) is x k).pattern)
+    (plain_rest nfa (length nfa.states) met h (λ s j. All_at (λ id. id < length nfa.states) met below s j) is x
+    k).pattern)
 
 -- what is wrong with the NFA, if anything, is that it is too large
 pub made_error : (nfa : Nfa) (met : List ℕ) (h : Turned) → IsAccepted nfa → IsClosed nfa met

@@ -37,7 +37,8 @@ module _ (nfa : Nfa) where
 
     is_true : (arc : Arc) → is_sparse_sound (state_at nfa s) ≡ true → In arc (arcs_of (state_at nfa s)) → IsTrue arc
     is_true (Range r) h k = λ b m. arc_reads (state_at nfa s) r b h k m
-    is_true (Test look next) h k = λ holds e. test_edge holds (state_at nfa s) look next k (rw (reversed_twice look) at e)
+    is_true (Test look next) h k = λ holds e.
+        test_edge holds (state_at nfa s) look next k (rw (reversed_twice look) at e)
     is_true (Free next) h k = λ holds. free_edge holds (state_at nfa s) next k
 
     -- one transition
@@ -56,9 +57,9 @@ module _ (nfa : Nfa) where
         let d = f x (In_head x arcs) in
         let one = arc_more x h sound d.0 d.1 in
         let all = arcs_more arcs (with_arc h s x) one.0.sound (λ arc k. f arc (In_tail arc x arcs k)) in (
-          more_then h (with_arc h s x) (with_arcs (with_arc h s x) s arcs) one.0 all.0,
+          more_then _ _ _ one.0 all.0,
           λ arc k. In_cases arc x arcs k
-              (λ e. rw e (arc_stays nfa (with_arc h s x) (with_arcs (with_arc h s x) s arcs) s x all.0.grown one.1))
+              (λ e. rw e (arc_stays nfa _ _ s x all.0.grown one.1))
               (λ i. all.1 arc i),
         )
 
@@ -98,11 +99,10 @@ module _ (nfa : Nfa) (accepted : IsAccepted nfa) where
         is_true nfa s l arc passed.ascends k,
       )) in
       let end = end_more nfa s l (state_at nfa s) (with_arcs h s (arcs_of (state_at nfa s))) refl arcs.0.sound in (
-        more_then nfa h (with_arcs h s (arcs_of (state_at nfa s))) (with_node h s (state_at nfa s)) arcs.0 end.0,
+        more_then nfa _ _ _ arcs.0 end.0,
         record {
           ends = end.1;
-          arcs = λ arc k. arc_stays nfa (with_arcs h s (arcs_of (state_at nfa s))) (with_node h s (state_at nfa s)) s arc
-              end.0.grown (arcs.1 arc k);
+          arcs = λ arc k. arc_stays nfa _ _ s arc end.0.grown (arcs.1 arc k);
         },
       )
 
@@ -113,11 +113,9 @@ module _ (nfa : Nfa) (accepted : IsAccepted nfa) where
   nodes_more (x ∷ ss) h sound f =
       let one = node_more x h (f x (In_head x ss)) sound in
       let all = nodes_more ss (with_node h x (state_at nfa x)) one.0.sound (λ s k. f s (In_tail s x ss k)) in (
-        more_then nfa h (with_node h x (state_at nfa x))
-            (with_nodes nfa (with_node h x (state_at nfa x)) ss) one.0 all.0,
+        more_then nfa _ _ _ one.0 all.0,
         λ s k. In_cases s x ss k
-            (λ e. rw e (node_stays nfa (with_node h x (state_at nfa x))
-            (with_nodes nfa (with_node h x (state_at nfa x)) ss) x (state_at nfa x) all.0.grown one.1))
+            (λ e. rw e (node_stays nfa _ _ x (state_at nfa x) all.0.grown one.1))
             (λ i. all.1 s i),
       )
 
@@ -142,7 +140,8 @@ module _ (nfa : Nfa) (accepted : IsAccepted nfa) where
       let l : nfa.start_anchored < length nfa.states = f nfa.start_anchored closed.start in
       let one = more_added nfa (none_turned (length nfa.states)) nfa.start_anchored (length nfa.states) none_sound l
       (inr (inl (refl, refl))) in
-      let all = nodes_more met (added (none_turned (length nfa.states)) nfa.start_anchored (length nfa.states)) one.sound
+      let all = nodes_more met (added (none_turned (length nfa.states)) nfa.start_anchored (length nfa.states))
+      one.sound
       f in record {
         closed = closed;
         sound = all.0.sound;

@@ -2,7 +2,9 @@
 -- Main statements: laid_out, edges-gathered, target-gathered, sources_within.
 -- Used by: BothWays and Validation.
 -- Idea: a state that gathers has the same edges whichever kind it is, and ids are places in a list of four parts.
-use Rattle.determinize_nfa.proofs.Common.{Assertion, Bool, Fail, In, In_none, List, Match, Nfa, Node, None, Option, Some, Turned, Union, [], ap, arith, by_cases, cases_lt, edges_of, gathered, get_or, get_or_from_slice_get, length, map, pattern_in, pattern_of, refl, slice_get, sources, state_at, states_of, subst, suc, sym, target_of, zero, ℕ, ◌++◌, ◌+◌, ◌<◌, ◌∙◌, ◌∷◌, ◌≡◌}
+use Rattle.determinize_nfa.proofs.Common.{Assertion, Bool, Fail, In, In_none, List, Match, Nfa, Node, None, Option, Some, Turned, Union, [], ap, arith, by_cases, cases_lt, edges_of, gathered, get_or, get_or_from_slice_get, length, map, pattern_in, pattern_of, refl, slice_get, sources, state_at, states_of, suc, sym, target_of, zero, ℕ, ◌+◌, ◌<◌, ◌∙◌, ◌∷◌, ◌≡◌, length-map}
+use Rattle.std.proofs.Math.ListN.{get_or-map}
+use Rattle.std.proofs.lemmas.List.{get_or-append-add, get_or_append_left}
 use Rattle.determinize_below.proofs.nfas.Edges.{state_past}
 
 -- a gathering state has its list of transitions, none over a byte, and no pattern
@@ -21,19 +23,6 @@ pattern-gathered [] = refl
 pattern-gathered (x ∷ []) = refl
 pattern-gathered (x ∷ y ∷ zs) = refl
 
-get_or-gathered : (into : List (List ℕ)) (more : List Node) (x : ℕ) → x < length into
-    → get_or (map gathered into ++ more) x Fail ≡ gathered (get_or into x [])
-get_or-gathered [] more x l = absurd (omega arith)
-get_or-gathered (ids ∷ into) more zero l = refl
-get_or-gathered (ids ∷ into) more (suc x) l = get_or-gathered into more x (omega arith)
-
-get_or-after : (into : List (List ℕ)) (more : List Node) (x : ℕ)
-    → get_or (map gathered into ++ more) (length into + x) Fail ≡ get_or more x Fail
-get_or-after [] more x = let z : 0 + x ≡ x = omega arith in ap (λ w. get_or more w Fail) z
-get_or-after (ids ∷ into) more x =
-    let z : suc (length into) + x ≡ suc (length into + x) = omega arith in
-    ap (λ w. get_or (gathered ids ∷ (map gathered into ++ more)) w Fail) z ∙ get_or-after into more x
-
 -- which state is where
 pub record IsLaid (backward : Nfa) (h : Turned) (n : ℕ) : Type 0 where
   pub gathers : (x : ℕ) → x < n → state_at backward x ≡ gathered (sources h x)
@@ -44,20 +33,26 @@ pub record IsLaid (backward : Nfa) (h : Turned) (n : ℕ) : Type 0 where
 pub laid_out : (backward : Nfa) (h : Turned) (n : ℕ) → backward.states ≡ states_of h → length h.into ≡ n
     → IsLaid backward h n
 laid_out backward h n e l = record {
-  gathers = λ x k. at x ∙ get_or-gathered h.into (Match 0 ∷ Union h.ends ∷ h.rest) x (omega arith);
-  match = at n ∙ after n 0 (omega arith);
-  starts = at (suc n) ∙ after (suc n) 1 (omega arith);
-  others = λ i node k. at (n + 2 + i) ∙ after (n + 2 + i) (suc (suc i)) (omega arith)
-      ∙ get_or_from_slice_get h.rest i node Fail k;
+  gathers = λ x k. at x ∙ get_or_append_left (map gathered h.into) more Fail x (omega (arith, count))
+      ∙ get_or-map gathered h.into x [];
+  match = after n 0 (omega arith);
+  starts = after (suc n) 1 (omega arith);
+  others = λ i node k. after (n + 2 + i) (suc (suc i)) (omega arith) ∙ get_or_from_slice_get h.rest i node Fail k;
 }
   where
+    more : List Node
+    more = Match 0 ∷ Union h.ends ∷ h.rest
+
+    count : length (map gathered h.into) ≡ n
+    count = length-map h.into gathered ∙ l
+
     at : (x : ℕ) → state_at backward x ≡ get_or (states_of h) x Fail
     at x = ap (λ s. get_or s x Fail) e
 
-    after : (x y : ℕ) → length h.into + y ≡ x
-        → get_or (states_of h) x Fail ≡ get_or (Match 0 ∷ Union h.ends ∷ h.rest) y Fail
+    after : (x y : ℕ) → n + y ≡ x → state_at backward x ≡ get_or more y Fail
     after x y k =
-        ap (λ z. get_or (states_of h) z Fail) (sym k) ∙ get_or-after h.into (Match 0 ∷ Union h.ends ∷ h.rest) y
+        let z : length (map gathered h.into) + y ≡ x = omega (arith, count) in
+        at x ∙ rw (← z) (get_or-append-add (map gathered h.into) more y Fail)
 
 -- an id in the list of a state is in one of the lists
 pub sources_within : (h : Turned) (t y : ℕ) → In y (sources h t) → t < length h.into

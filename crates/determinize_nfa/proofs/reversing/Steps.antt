@@ -2,7 +2,8 @@
 -- Main statements: added_is, ended, count-arc, count-arcs, over_start, over_more, over_all.
 -- Used by: `add`, `add_nodes` and `end_states` of the reversal.
 -- Idea: a push to one list of a list of lists is the definition of `added`.
-use Rattle.determinize_nfa.proofs.Common.{Arc, Free, List, Match, Nfa, Node, Range, Some, Test, Turned, [], added, ap, append_assoc, arcs_of, arith, drop, drop-cons, get_or, get_or-map, length, length-replicate, length-set, map, map-append, map-set, none_turned, refl, replicate, set, slice_get, sources, state_at, suc, sym, turned_over, with_arc, with_arcs, with_end, with_node, with_nodes, zero, ℕ, ◌++◌, ◌+◌, ◌<◌, ◌∙◌, ◌∷◌, ◌≡◌, ◌≤◌}
+use Rattle.determinize_nfa.proofs.Common.{Arc, Free, List, Match, Nfa, Node, Range, Some, Test, Turned, [], added, ap, append_assoc, arcs_of, arith, drop, drop-cons, get_or, get_or-map, length, length-replicate, length-set, map, map-append, map-set, none_turned, refl, replicate, set, slice_get, sources, state_at, suc, sym, turned_over, with_arc, with_arcs, with_end, with_node, with_nodes, ℕ, ◌++◌, ◌+◌, ◌<◌, ◌∙◌, ◌∷◌, ◌≡◌, ◌≤◌}
+use Rattle.std.proofs.Math.ListN.{drop_of_length-le}
 use Rattle.std.specs.Prelude.{OnOk, if◌then◌else◌, is_ok}
 use Rattle.std.proofs.Common.{Err, Ok, Result}
 use Rattle.determinize_nfa.proofs.prefixes.Parts.{state_is}
@@ -90,10 +91,4 @@ over_more nfa whole h new met k s node o l e n w =
 
 pub over_all : (nfa : Nfa) (whole h : Turned) (met : List ℕ) (k : ℕ) → IsOver nfa whole h met k → length met ≤ k
     → whole ≡ h
-over_all nfa whole h met k o l = o.rest ∙ ap (λ x. with_nodes nfa h x) (none_left met k l)
-  where
-    none_left : (xs : List ℕ) (k : ℕ) → length xs ≤ k → ◌≡◌ {A = List ℕ} (drop k xs) []
-    none_left [] zero l = refl
-    none_left [] (suc k) l = refl
-    none_left (x ∷ xs) zero l = absurd (omega arith)
-    none_left (x ∷ xs) (suc k) l = none_left xs k (omega arith)
+over_all nfa whole h met k o l = o.rest ∙ ap (λ x. with_nodes nfa h x) (drop_of_length-le met l)

@@ -2,10 +2,10 @@
 -- Main statements: each_plain, plain_before, over the record IsPlain.
 -- Used by: MadeNfa.
 -- Idea: all ids are below the count, no state is sparse or dense, and only one is a match.
-use Rattle.determinize_nfa.proofs.Common.{Arc, Bool, BuildError, ByteRange, Free, ID_LIMIT, In, In_append_cases, In_cases, In_flat_map_from, In_head, In_map_from, In_none, In_tail, List, Look, Match, Nfa, Node, None, Option, Range, Some, Test, TooManyStates, Turned, Union, [], ap, arcs_of, arith, by_cases, by_test, cond, failure, false, gathered, get_or_from_slice_get, is_sparse_sound, length, list_all, list_any, map, nat_lt, nat_tests, not, option_or, pattern_in, range_to, refl, resolves, reversed, slice_get_within, some_injective, sources, state_at, states_of, suc, sym, true, ℕ, ◌&&◌, ◌++◌, ◌+◌, ◌<◌, ◌||◌, ◌∙◌, ◌∷◌, ◌≡◌}
+use Rattle.determinize_nfa.proofs.Common.{Arc, Bool, BuildError, Free, ID_LIMIT, In, In_append_cases, In_cases, In_flat_map_from, In_head, In_map_from, In_none, In_tail, List, Look, Match, Nfa, Node, None, Option, Range, Some, Test, TooManyStates, Turned, Union, [], ap, arcs_of, arith, by_cases, by_test, cond, failure, false, gathered, get_or_from_slice_get, length, list_all, list_any, map, nat_lt, nat_tests, not, option_or, pattern_in, range_to, refl, reversed, slice_get_within, some_injective, sources, state_at, states_of, suc, sym, true, ℕ, ◌&&◌, ◌++◌, ◌+◌, ◌<◌, ◌||◌, ◌∙◌, ◌∷◌, ◌≡◌}
 use Rattle.std.proofs.lemmas.Bool.{and_from}
 use Rattle.std.proofs.lemmas.List.Folds.{list_any-append}
-use Rattle.determinize_below.specs.Nfa.{is_dense_sound, is_match_of, is_repeated, state_failure, states_failure}
+use Rattle.determinize_below.specs.Nfa.{failure_of, is_match_of, is_repeated, state_failure, states_failure}
 use Rattle.determinize_below.specs.declared.nfa.BuildError.TheVariants.{UnresolvedStart}
 use Rattle.determinize_nfa.proofs.reversing.StatesById.{pattern_within}
 use Rattle.determinize_nfa.proofs.reversing.Recorded.{IsSound}
@@ -13,25 +13,19 @@ use Rattle.determinize_nfa.proofs.reversing.Counts.{back, length-states, made_by
 
 -- a state without a pattern that passes validation
 pub record IsPlain (count : ℕ) (node : Node) : Type 0 where
-  pub resolves : resolves count node ≡ true
-  pub ascends : is_sparse_sound node ≡ true
-  pub whole : is_dense_sound node ≡ true
+  pub passes : (i : ℕ) → failure_of count false i node ≡ None
   pub pattern : pattern_in node ≡ None
 
 below : (a b : ℕ) → a < b → nat_lt a b ≡ true
 below a b l = grind (arith, nat_tests)
 
 -- the states for a state
-range_plain : (count s start end : ℕ) → s < count
-    → IsPlain count (ByteRange record { start = start; end = end; next = s })
-range_plain count s start end l = record { resolves = below s count l; ascends = refl; whole = refl; pattern = refl }
-
 back_plain : (count s : ℕ) → s < count → (arc : Arc) (x : Node) → In x (back s arc) → IsPlain count x
 back_plain count s l (Range r) x k = In_cases x (range_to s r) [] k
-    (λ z. rw z (range_plain count s r.start r.end l))
+    (λ z. rw z (record { passes = λ i. rw (below s count l) refl; pattern = refl }))
     (λ i. In_none x i)
 back_plain count s l (Test look next) x k = In_cases x (Look (reversed look) s) [] k
-    (λ z. rw z (record { resolves = below s count l; ascends = refl; whole = refl; pattern = refl }))
+    (λ z. rw z (record { passes = λ i. rw (below s count l) refl; pattern = refl }))
     (λ i. In_none x i)
 back_plain count s l (Free next) x k = In_none x k
 
@@ -52,19 +46,9 @@ all_pass count (y ∷ ys) f = and_from (nat_lt y count) (list_all (λ id. nat_lt
     (below y count (f y (In_head y ys))) (all_pass count ys (λ z i. f z (In_tail z y ys i)))
 
 gathered_plain : (count : ℕ) (ids : List ℕ) → ((y : ℕ) → In y ids → y < count) → IsPlain count (gathered ids)
-gathered_plain count [] f = record { resolves = refl; ascends = refl; whole = refl; pattern = refl }
-gathered_plain count (y ∷ []) f = record {
-  resolves = below y count (f y (In_head y []));
-  ascends = refl;
-  whole = refl;
-  pattern = refl;
-}
-gathered_plain count (y ∷ z ∷ zs) f = record {
-  resolves = all_pass count (y ∷ z ∷ zs) f;
-  ascends = refl;
-  whole = refl;
-  pattern = refl;
-}
+gathered_plain count [] f = record { passes = λ i. refl; pattern = refl }
+gathered_plain count (y ∷ []) f = record { passes = λ i. rw (below y count (f y (In_head y []))) refl; pattern = refl }
+gathered_plain count (y ∷ z ∷ zs) f = record { passes = λ i. rw (all_pass count (y ∷ z ∷ zs) f) refl; pattern = refl }
 
 -- validation of such states
 not_repeated : (earlier : List Node) (node : Node) → pattern_in node ≡ None → is_repeated earlier node ≡ false
@@ -77,12 +61,7 @@ not_match q s e = refl
 
 plain_passes : (count i : ℕ) (earlier : List Node) (node : Node) → IsPlain count node
     → state_failure count earlier i node ≡ None
-plain_passes count i earlier node p =
-    let r : is_repeated earlier node ≡ false = not_repeated earlier node p.pattern in
-    let a : resolves count node ≡ true = p.resolves in
-    let b : is_sparse_sound node ≡ true = p.ascends in
-    let d : is_dense_sound node ≡ true = p.whole in
-    rw (a, b, d, r) refl
+plain_passes count i earlier node p = rw (not_repeated earlier node p.pattern) (p.passes i)
 
 -- plain states before others
 pub plain_before : (count : ℕ) (others : List Node)
@@ -133,13 +112,10 @@ module _ (nfa : Nfa) (h : Turned) (sound : IsSound nfa h)
       rw e (gathered_plain (length (states_of h)) ids (λ y j. source_below i.0 y (rw is j))))
 
   ends_plain : IsPlain (length (states_of h)) (Union h.ends)
-  ends_plain = record {
-    resolves = all_pass (length (states_of h)) h.ends (λ y k. let d = sound.ends y k in
-        let l : y < length nfa.states = pattern_within nfa y d.0 d.1 in let c = count_is in omega (arith, c));
-    ascends = refl;
-    whole = refl;
-    pattern = refl;
-  }
+  ends_plain =
+      let all = all_pass (length (states_of h)) h.ends (λ y k. let d = sound.ends y k in
+      let l : y < length nfa.states = pattern_within nfa y d.0 d.1 in let c = count_is in omega (arith, c)) in
+      record { passes = λ i. rw all refl; pattern = refl }
 
   passes : states_failure (length (states_of h)) [] 0 (states_of h) ≡ None
   passes = plain_before (length (states_of h)) (Match 0 ∷ Union h.ends ∷ h.rest)

@@ -9,7 +9,8 @@ loop-state-preserved g c =
     c.loop-state-test.true c.state-item.is in
     one_more node_of c.loop-state.made.items (map node_of c.args.states.now) c.push_state.new.states.items
     c.in_ok-copy.field-0 (node_of c.state-item.result)
-    (map node_of (drop (c.loop-state.state-index + 1) c.args.states.now)) c.in_ok-push_state.ensures.items c.in_ok-copy.ensures (rw next at c.loop-state.invariant)
+    (map node_of (drop (c.loop-state.state-index + 1) c.args.states.now)) c.in_ok-push_state.ensures.items
+    c.in_ok-copy.ensures (rw next at c.loop-state.invariant)
 
 pub returns : goal.returns
 returns g c =

@@ -1,4 +1,4 @@
-use Rattle.determinize_nfa.proofs.Common.{BinaryUnion, Decides, false, false≢true, leads_to, node_of, rules, state_at, subst, true, ℕ, ◌∙◌, ◌≡◌}
+use Rattle.determinize_nfa.proofs.Common.{BinaryUnion, false, false≢true, node_of, rules, state_at, true, ◌∙◌, ◌≡◌}
 use Rattle.determinize_nfa.proofs.prefixes.Parts.{Decides-alone, any_read, not_any, skip_within, start_is}
 use Rattle.determinize_nfa.proofs.prefix.has_prefix.Goals as goal
 

@@ -14,5 +14,6 @@ pub loop-arc-preserved : goal.loop-arc-preserved
 loop-arc-preserved g c = record {
   capacity = grind arith;
   rest = grind arith;
-  below = All-rest (λ a. next_of a < c.args.found.now.capacity) _ _ _ c.in-Some.ensures.steps c.loop-arc.invariant.below;
+  below = All-rest (λ a. next_of a < c.args.found.now.capacity) _ _ _ c.in-Some.ensures.steps
+      c.loop-arc.invariant.below;
 }

@@ -4,6 +4,7 @@ use Rattle.determinize_nfa.proofs.reached.visit_targets.Given as goal
 abbrev pub invariant-loop-arc : goal.invariant-loop-arc
 invariant-loop-arc g l = record {
   capacity : l.found.capacity ≡ l.fn.found.capacity;
-  rest : all_visited l.fn.found.ids (targets_in (node_of l.state)) ≡ all_visited l.found.ids (map next_of l.arc-iterator);
+  rest : all_visited l.fn.found.ids (targets_in (node_of l.state)) ≡ all_visited l.found.ids (map next_of
+      l.arc-iterator);
   below : All (λ a. next_of a < l.fn.found.capacity) l.arc-iterator;
 }

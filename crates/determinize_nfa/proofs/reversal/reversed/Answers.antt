@@ -1,4 +1,4 @@
-use Rattle.determinize_nfa.proofs.Common.{BuildError, IfErr-weaker, IfOk-weaker, IsReverseOf, IsTooLarge, List, Match, Nfa, Node, OutOfMemory, Some, TooManyStates, [], ap, arith, failure, filter, if_err_and, inl, is_match_node, length, looks_of, map, most_states, node_of, not, states_of, subst, suc, sym, ◌+◌, ◌<◌, ◌∙◌, ◌∷◌, ◌≡◌, ◌≤◌, ◌⊎◌}
+use Rattle.determinize_nfa.proofs.Common.{IfErr-weaker, IfOk-weaker, Nfa, ap, arith, if_err_and, inl, length, looks_of, map, most_states, node_of, not, states_of, suc, sym, ◌+◌, ◌<◌, ◌∙◌, ◌≡◌}
 use Rattle.determinize_nfa.proofs.Limits.{too_many}
 use Rattle.determinize_nfa.proofs.reversing.MadeNfa.{made_error, made_match, made_of_all}
 use Rattle.determinize_nfa.proofs.reversing.BothWays.{IsMadeOf}

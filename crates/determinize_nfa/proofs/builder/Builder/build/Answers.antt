@@ -1,4 +1,4 @@
-use Rattle.determinize_nfa.proofs.Common.{BuildError, BuilderValue, IfOk-weaker, List, Nfa, Node, OutOfMemory, Some, ap, built, failure, false, if_err_and, inr, looks_of, map, node_of, on_ok_weaker, refl, sym, ◌∙◌, ◌≡◌, ◌⊎◌}
+use Rattle.determinize_nfa.proofs.Common.{BuilderValue, IfOk-weaker, List, Node, ap, failure, if_err_and, inr, map, node_of, on_ok_weaker, refl, sym, ◌∙◌, ◌≡◌}
 use Rattle.determinize_nfa.proofs.building.Building.{built_is}
 use Rattle.determinize_nfa.proofs.builder.Builder.build.Goals as goal
 

@@ -1,12 +1,11 @@
-use Rattle.determinize_nfa.proofs.Common.{BinaryUnion, BuildError, BuilderValue, ByteRange, HasPrefix, HasPrefixApart, IfErr-weaker, IfOk-weaker, IsApart, IsUnfit, Nfa, None, OutOfMemory, Some, TooManyStates, [], ap, arith, built, by_option, failure, false, if_err_and, inl, inr, length, length-map, looks_of, map, node_of, prefixed, refl, subst, suc, sym, ◌++◌, ◌+◌, ◌<◌, ◌∙◌, ◌∷◌, ◌≡◌, ◌⊎◌}
+use Rattle.determinize_nfa.proofs.Common.{BinaryUnion, BuilderValue, ByteRange, IfErr-weaker, IfOk-weaker, IsApart, Nfa, None, [], ap, arith, by_option, if_err_and, inl, inr, length, length-map, map, node_of, refl, suc, sym, ◌++◌, ◌+◌, ◌<◌, ◌∙◌, ◌∷◌, ◌≡◌}
 use Rattle.determinize_nfa.proofs.building.Building.{IsMade, has_prefix_apart, is_ahead, length_is, made_is, made_of, made_unfit, none_ahead, unfit_too_many}
 use Rattle.determinize_nfa.proofs.builder.Builder.build_with_prefix.Goals as goal
 
 pub returns-in_err-union-clause-err : goal.returns-in_err-union-clause-err
 returns-in_err-union-clause-err g c =
-    let count : length c.self.inside.states.items ≡ length c.args.self.now.states
-    = length_is _ _ _ _ _ c.self.view_is in
-    let same : c.len-count.result ≡ length c.args.self.now.states = omega (arith, c.len-count.ensures, count) in
+    let same : c.len-count.result ≡ length c.args.self.now.states
+    = omega (arith, c.len-count.ensures, length_is node_of c.self.inside.states.items c.self.view_is) in
     if_err_and c.from_residual.result _ _
     (unfit_too_many c.args.self.now c.args.start_anchored c.len-count.result (omega (arith, same))
     c.in_err-union.ensures.ok)
@@ -14,9 +13,8 @@ returns-in_err-union-clause-err g c =
 
 pub returns-in_err-skip-clause-err : goal.returns-in_err-skip-clause-err
 returns-in_err-skip-clause-err g c =
-    let count : length c.self.inside.states.items ≡ length c.args.self.now.states
-    = length_is _ _ _ _ _ c.self.view_is in
-    let same : c.len-count.result ≡ length c.args.self.now.states = omega (arith, c.len-count.ensures, count) in
+    let same : c.len-count.result ≡ length c.args.self.now.states
+    = omega (arith, c.len-count.ensures, length_is node_of c.self.inside.states.items c.self.view_is) in
     if_err_and c.from_residual-in_err-skip.result _ _
     (unfit_too_many c.args.self.now c.args.start_anchored (c.len-count.result + 1) (omega (arith, same))
     c.in_err-skip.ensures.ok)
@@ -24,20 +22,36 @@ returns-in_err-skip-clause-err g c =
 
 pub returns-then-as_usize-count-clause-err : goal.returns-then-as_usize-count-clause-err
 returns-then-as_usize-count-clause-err g c =
-    let count : length c.self.inside.states.items ≡ length c.args.self.now.states
-    = length_is _ _ _ _ _ c.self.view_is in
-    inr (inl (inl (refl, omega (arith, c.len-count.ensures, count, c.if-as_usize-count.true, c.as_usize.ensures.value))))
+    inr (inl (inl (
+      refl,
+      omega (
+        arith,
+        c.len-count.ensures,
+        length_is node_of c.self.inside.states.items
+            c.self.view_is,
+        c.if-as_usize-count.true,
+        c.as_usize.ensures.value,
+      ),
+    )))
 
 pub returns-in-Some-clause-err : goal.returns-in-Some-clause-err
 returns-in-Some-clause-err g c =
     let states : map node_of c.self.inside.states.items ≡ c.args.self.now.states
     = ap (λ (b : BuilderValue). b.states) c.self.view_is in
-    let count : length c.self.inside.states.items ≡ length c.args.self.now.states
-    = length_is _ _ _ _ _ c.self.view_is in
     let union : c.in_ok-union.union ≡ length c.args.self.now.states
-    = omega (arith, c.in_ok-union.ensures.ok.1, c.len-count.ensures, count) in
+    = omega (
+      arith,
+      c.in_ok-union.ensures.ok.1,
+      c.len-count.ensures,
+      length_is node_of c.self.inside.states.items c.self.view_is,
+    ) in
     let skip : c.in_ok-skip.skip ≡ suc (length c.args.self.now.states)
-    = omega (arith, c.in_ok-skip.ensures.ok.1, c.len-count.ensures, count) in
+    = omega (
+      arith,
+      c.in_ok-skip.ensures.ok.1,
+      c.len-count.ensures,
+      length_is node_of c.self.inside.states.items c.self.view_is,
+    ) in
     is_ahead node_of c.self.inside.states.items c.as_slice.result.now c.args.self.now c.in_ok-union.union
     c.in_ok-skip.skip c.first_to.result states union skip c.as_slice.ensures.value c.first_to.ensures
     c.args.start_anchored c.in-Some.index c.in-Some.is

@@ -1,4 +1,4 @@
-use Rattle.determinize_nfa.proofs.Common.{BuildError, BuilderValue, Fail, IfErr-weaker, IsNotSet, NotPatchable, OutOfMemory, ap, arith, get_or, inl, inr, length, node_of, on_ok_weaker, sym, ℕ, ◌<◌, ◌∙◌, ◌≡◌}
+use Rattle.determinize_nfa.proofs.Common.{BuilderValue, IfErr-weaker, NotPatchable, ap, arith, inl, inr, node_of, on_ok_weaker, sym, ℕ, ◌∙◌, ◌≡◌}
 use Rattle.std.proofs.lemmas.Result.{on_err_weaker}
 use Rattle.determinize_nfa.specs.Builder.{is_patchable, patched, redirected}
 use Rattle.determinize_nfa.proofs.building.Building.{count_is, index_within, node_is, node_there, set_is, set_none}
@@ -6,19 +6,23 @@ use Rattle.determinize_nfa.proofs.builder.Builder.patch.Goals as goal
 
 pub index-requires : goal.index-requires
 index-requires g c =
-    let within : c.as_usize-index.result < length c.self.inside.states.items
-    = index_within _ _ _ _ _ c.self.view_is c.as_usize-index.result c.args.from c.as_usize-index.ensures.value c.requires in
-    omega (arith, within)
+    omega (
+      arith,
+      index_within node_of c.self.inside.states.items c.self.view_is c.as_usize-index.ensures.value
+          c.requires,
+    )
 
 pub index_mut-requires : goal.index_mut-requires
 index_mut-requires g c =
-    let within : c.as_usize-index.result < length c.self.inside.states.items
-    = index_within _ _ _ _ _ c.self.view_is c.as_usize-index.result c.args.from c.as_usize-index.ensures.value c.requires in
-    omega (arith, within)
+    omega (
+      arith,
+      index_within node_of c.self.inside.states.items c.self.view_is c.as_usize-index.ensures.value
+          c.requires,
+    )
 
 pub returns-then-not-has_target-clause-err : goal.returns-then-not-has_target-clause-err
 returns-then-not-has_target-clause-err g c =
-    let node = node_is _ _ _ _ _ c.self.view_is c.as_usize-index.result c.args.from c.as_usize-index.ensures.value c.requires
+    let node = node_is _ _ c.self.view_is c.as_usize-index.ensures.value c.requires
     c.index.result.now c.index.ensures in
     inl (
       ap is_patchable (sym node) ∙ sym c.has_target.ensures ∙ c.if-not-has_target.true,
@@ -27,7 +31,7 @@ returns-then-not-has_target-clause-err g c =
 
 pub returns-clause-patchable : goal.returns-clause-patchable
 returns-clause-patchable g c =
-    let node = node_is _ _ _ _ _ c.self.view_is c.as_usize-index.result c.args.from c.as_usize-index.ensures.value c.requires
+    let node = node_is _ _ c.self.view_is c.as_usize-index.ensures.value c.requires
     c.index.result.now c.index.ensures in
     on_ok_weaker c.redirect.result
     (λ n. ap is_patchable (sym node) ∙ sym c.has_target.ensures ∙ c.if-not-has_target.false)
@@ -35,7 +39,7 @@ returns-clause-patchable g c =
 
 pub returns-clause-count : goal.returns-clause-count
 returns-clause-count g c =
-    count_is _ _ _ _ _ c.self.view_is c.as_usize-index.result c.redirect.new.state
+    count_is _ _ c.self.view_is c.as_usize-index.result c.redirect.new.state
 
 pub returns-clause-err : goal.returns-clause-err
 returns-clause-err g c = IfErr-weaker c.redirect.result _ _
@@ -44,7 +48,7 @@ returns-clause-err g c = IfErr-weaker c.redirect.result _ _
 pub returns-clause-patched : goal.returns-clause-patched
 returns-clause-patched g c =
     let value : c.as_usize-index.result ≡ c.args.from = c.as_usize-index.ensures.value in
-    let within = index_within _ _ _ _ _ c.self.view_is c.as_usize-index.result c.args.from value c.requires in
+    let within = index_within node_of c.self.inside.states.items c.self.view_is value c.requires in
     let there = node_there node_of c.self.inside.states.items c.as_usize-index.result c.index_mut.result.now within
     c.index_mut.ensures.value in
     on_ok_weaker c.redirect.result

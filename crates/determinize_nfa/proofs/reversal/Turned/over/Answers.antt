@@ -1,4 +1,4 @@
-use Rattle.determinize_nfa.proofs.Common.{BuildError, IsTooLarge, List, OutOfMemory, ap, if_err_and, inl, most_states, subst, sym, turned_over, ℕ, ◌∙◌, ◌≡◌}
+use Rattle.determinize_nfa.proofs.Common.{List, ap, if_err_and, inl, sym, turned_over, ℕ, ◌∙◌}
 use Rattle.determinize_nfa.proofs.reversal.Turned.over.Goals as goal
 
 pub returns-clause-ok : goal.returns-clause-ok
