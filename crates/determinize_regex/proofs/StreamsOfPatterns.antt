@@ -89,7 +89,7 @@ module _ (regex : RegexValue) (search : Searched) (is : IsSearchOf regex.pattern
 -- the value of the fields of a stream
 abbrev pub value_of : List Pattern → ℕ → Searched → Streamed → StreamValue
 value_of patterns terminator search pieces = record {
-  regex = record { patterns = patterns; terminator = terminator; limit = search.limit };
+  regex = record { patterns = patterns; terminator = terminator; nfa = search.nfa; limit = search.limit };
   pieces = pieces;
 }
 
@@ -196,9 +196,18 @@ module _ (patterns : List Pattern) (terminator : ℕ) (search : Searched) (old :
 -- a stream that has read nothing, over the NFA of another search
 pub streaming_new : (patterns : List Pattern) (terminator limit : ℕ) (old : Searched) (pieces : Streamed)
     → IsSearchOf patterns terminator old → IsAccepted old.nfa → ((nfa : Nfa) → IsSearching nfa pieces)
-    → IsStreaming patterns terminator record { nfa = old.nfa; limit = limit; limit_backward = limit } pieces
+    → IsStreaming patterns terminator
+    record { nfa = old.nfa; backward = old.backward; limit = limit; limit_backward = limit } pieces
 streaming_new patterns terminator limit old pieces is accepted none = record {
-  regex = record { means = is.means; prefix = is.prefix; apart = is.apart; ends = is.ends; limits = refl };
+  regex = record {
+    means = is.means;
+    prefix = is.prefix;
+    apart = is.apart;
+    ends = is.ends;
+    limits = refl;
+    size = is.size;
+    pattern = is.pattern;
+  };
   accepted = accepted;
   under_way = none old.nfa;
 }

@@ -3,6 +3,7 @@ pub mod Parts
 pub mod PatternMatches
 pub mod PatternsAt
 pub mod Private
+pub mod RegexBytes
 pub mod Regexes
 pub mod Spelled
 pub mod Streams

@@ -1,6 +1,7 @@
 -- What a regex is seen as, and what it finds.
 use Rattle.std.specs.Prelude.{ℕ, List, None, Option, Some, map}
 use Rattle.determinize_below.specs.Search.{Asked}
+use Rattle.determinize_below.specs.Semantics.{Nfa}
 use Rattle.determinize_below.specs.declared.search.Match.{Match}
 use Rattle.determinize_find.specs.Streams.{whole}
 use Rattle.determinize_pattern.specs.Meaning.{Re}
@@ -8,11 +9,12 @@ use Rattle.determinize_pattern.specs.Patterns.{meaning}
 use Rattle.determinize_pattern.specs.declared.pattern.Pattern.{Pattern}
 use Rattle.determinize_regex.specs.PatternMatches.{AreMatchesOf, IsLeftmostOfIn}
 
--- the patterns, the line terminator of their assertions, and the greatest number of states of each
--- of the two caches
+-- the patterns, the line terminator of their assertions, their NFA, and the greatest number of
+-- states of each of the two caches
 pub record RegexValue : Type 0 where
   pub patterns : List Pattern
   pub terminator : ℕ
+  pub nfa : Nfa
   pub limit : ℕ
 
 -- the meanings of the patterns

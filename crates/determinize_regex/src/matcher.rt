@@ -35,6 +35,7 @@ impl<'r, A: Allocator + Copy> Model for Matcher<'r, A> {
     ghost view = { λ m. record {
       patterns = m.regex.now.patterns;
       terminator = m.regex.now.terminator;
+      nfa = m.search.nfa;
       limit = m.search.limit;
     } };
 
@@ -53,6 +54,7 @@ impl<'r, A: Allocator + Copy> Matcher<'r, A> {
         ensures { result ≡ record {
           patterns = regex.now.patterns;
           terminator = regex.now.terminator;
+          nfa = search.now.nfa;
           limit = limit;
         } }
     {

@@ -1,6 +1,6 @@
 //! Patterns that are compiled once, and searched for.
 
-ghost use Rattle.std.specs.Prelude.{◌≡◌, ◌≤◌, ◌∷◌, [], IfErr, IfOk, map, false, true};
+ghost use Rattle.std.specs.Prelude.{◌≡◌, ◌+◌, ◌≤◌, ◌∷◌, [], IfErr, IfOk, length, map, false, true};
 ghost use Rattle.std.specs.Bool.{Decides};
 ghost use Rattle.std.specs.Option.{IfSome};
 ghost use Rattle.determinize_engine.specs.Searches.{has_start};
@@ -8,6 +8,7 @@ ghost use Rattle.determinize_nfa.specs.Prefix.{HasPrefix, HasPrefixApart};
 ghost use Rattle.determinize_pattern.specs.Compiled.{IsNfaOf};
 ghost use Rattle.determinize_pattern.specs.Patterns.{meaning};
 ghost use Rattle.determinize_regex.specs.Parts.{AreParts, AreUtf8Parts, IsReplaced, IsReplacedUtf8};
+ghost use Rattle.determinize_regex.specs.RegexBytes.{regex_bytes};
 ghost use Rattle.determinize_regex.specs.Regexes.{AreAll, HasFirst, IsFirst};
 ghost use Rattle.determinize_regex.specs.Spelled.{AreSpelled, IsRejected};
 ghost use Rattle.determinize_regex.specs.Streams.{IsStreamOf};
@@ -86,6 +87,7 @@ impl Model for Regex {
     ghost view = { λ r. record {
       patterns = r.patterns.items;
       terminator = r.search.nfa.terminator;
+      nfa = r.search.nfa;
       limit = r.search.limit;
     } };
 
@@ -103,6 +105,7 @@ impl Regex {
         ensures rejected { IfErr result (λ e. IsRejected no_flags (pattern.now ∷ []) e) }
         ensures terminator { IfOk result (λ regex. regex.terminator ≡ 10) }
         ensures limit { IfOk result (λ regex. regex.limit ≡ 10000) }
+        ensures few { IfOk result (λ regex. length regex.nfa.states ≤ 100002) }
     {
         Regex::new_many(alloc, &[pattern], RegexConfig::new())
     }
@@ -119,6 +122,8 @@ impl Regex {
         ensures terminator { IfOk result
             (λ regex. regex.terminator ≡ config.compile.look_matcher) }
         ensures limit { IfOk result (λ regex. regex.limit ≡ config.cache_limit) }
+        ensures few { IfOk result
+            (λ regex. length regex.nfa.states ≤ config.compile.state_limit + 2) }
     {
         let parsed = parse_all(alloc, patterns, config.flags)?;
         Ok(Regex::from_patterns(alloc, parsed, config)?)
@@ -136,6 +141,8 @@ impl Regex {
         ensures terminator { IfOk result
             (λ regex. regex.terminator ≡ config.compile.look_matcher) }
         ensures limit { IfOk result (λ regex. regex.limit ≡ config.cache_limit) }
+        ensures few { IfOk result
+            (λ regex. length regex.nfa.states ≤ config.compile.state_limit + 2) }
     {
         let nfa = compile(alloc, &patterns, config.compile)?;
         let search = OwnedRegex::from_nfa(alloc, nfa, config.cache_limit)?;
@@ -151,6 +158,7 @@ impl Regex {
 
     /// Returns the NFA of the patterns.
     pub fn nfa(&self) -> &NFA
+        ensures value { result.now ≡ self.now.nfa }
         ensures means { IsNfaOf (map meaning self.now.patterns) result.now }
         ensures forward { result.now.reverse ≡ false }
         ensures prefix { HasPrefix result.now }
@@ -165,6 +173,7 @@ impl Regex {
     pub fn matcher<A: Allocator + Copy>(&self, alloc: A, limit: usize) -> Matcher<'_, A>
         ensures patterns { result.patterns ≡ self.now.patterns }
         ensures terminator { result.terminator ≡ self.now.terminator }
+        ensures nfa { result.nfa ≡ self.now.nfa }
         ensures limit { result.limit ≡ limit }
     {
         Matcher::new(alloc, self, &self.search, limit)
@@ -176,6 +185,7 @@ impl Regex {
     pub fn stream<A: Allocator + Copy>(&self, alloc: A, limit: usize) -> Stream<'_, A>
         ensures patterns { result.regex.patterns ≡ self.now.patterns }
         ensures terminator { result.regex.terminator ≡ self.now.terminator }
+        ensures nfa { result.regex.nfa ≡ self.now.nfa }
         ensures limit { result.regex.limit ≡ limit }
         ensures stream { IsStreamOf result [] [] }
     {
@@ -280,6 +290,14 @@ impl Regex {
     {
         let found = whole_matches_in(alloc, &mut self.search, haystack)?;
         replace(alloc, haystack, &found, replacement)
+    }
+
+    /// Returns the heap memory that both caches use now, in bytes, as `memory_usage` of
+    /// `OwnedLazy` counts it.
+    pub fn memory_usage(&self) -> usize
+        ensures { result ≤ regex_bytes self.now.limit self.now.nfa }
+    {
+        self.search.memory_usage()
     }
 
     /// Clears both caches.

@@ -45,6 +45,7 @@ impl<'r, A: Allocator + Copy> Model for Stream<'r, A> {
       regex = record {
         patterns = s.regex.now.patterns;
         terminator = s.regex.now.terminator;
+        nfa = s.search.nfa;
         limit = s.search.limit;
       };
       pieces = s.pieces;
@@ -66,6 +67,7 @@ impl<'r, A: Allocator + Copy> Stream<'r, A> {
         ensures regex { result.regex ≡ record {
           patterns = regex.now.patterns;
           terminator = regex.now.terminator;
+          nfa = search.now.nfa;
           limit = limit;
         } }
         ensures stream { IsStreamOf result [] [] }
