@@ -11,7 +11,7 @@ use std::{error, fmt};
 /// An error from the patterns of a regex.
 #[derive(Clone, Copy, Debug, PartialEq, Eq)]
 pub enum Error {
-    /// The text of the pattern with this index is not understood.
+    /// The text of the pattern with this index is rejected by `parse_with`.
     Parse { index: usize, error: ParseError },
     /// The patterns were not compiled.
     Compile(CompileError),

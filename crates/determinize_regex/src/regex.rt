@@ -97,8 +97,8 @@ impl Model for Regex {
 impl Regex {
     /// Returns the regex of a pattern string, with the usual options.
     ///
-    /// Returns `Parse` with index 0 if the text is not understood, and else an error where
-    /// `from_patterns` does.
+    /// Returns `Parse` with index 0 if the text is rejected by `parse_with`, and else an error
+    /// where `from_patterns` does.
     pub fn new(alloc: Global, pattern: &str) -> Result<Regex, Error>
         ensures spelled { IfOk result
             (λ regex. AreSpelled no_flags (map meaning regex.patterns) (pattern.now ∷ [])) }
@@ -112,8 +112,8 @@ impl Regex {
 
     /// Returns the regex of pattern strings. The first is pattern 0, and is preferred.
     ///
-    /// Returns `Parse` with the index of the first text that is not understood, and else an error
-    /// where `from_patterns` does.
+    /// Returns `Parse` with the index of the first text that is rejected by `parse_with`, and else
+    /// an error where `from_patterns` does.
     pub fn new_many(alloc: Global, patterns: &[&str], config: RegexConfig) -> Result<Regex, Error>
         ensures spelled { IfOk result (λ regex.
             AreSpelled config.flags (map meaning regex.patterns) (map (λ t. t.now) patterns.now)) }
