@@ -10,7 +10,7 @@ use std::{fmt, io};
 pub enum Error {
     /// The arguments are not as the usage says.
     Usage(UsageError),
-    /// The text of a pattern is not understood.
+    /// The text of a pattern is rejected by `parse_with`.
     Parse { text: String, error: ParseError },
     /// The patterns were not compiled.
     Compile(CompileError),

@@ -1,4 +1,8 @@
 //! Prints the lines of files, or of standard input, in which a pattern matches.
+//!
+//! As in grep, the first operand is a pattern unless `-e` gives one. Unlike there, another operand
+//! is one more pattern if it has one of the signs ``[(*+?|^${\`` and no file of this name can be
+//! opened, and a file otherwise; so a glob that no file matches, as `src/*.rs`, is a pattern.
 #![tactic(auto)]
 
 mod error;
@@ -16,11 +20,11 @@ use std::{env, fs};
 /// The most states in a cache of a search.
 const LIMIT: usize = 10_000;
 
-const USAGE: &str = "usage: finder [-bcilnoqv] PATTERN [FILE]..
-       finder [-bcilnoqv] -e PATTERN [-e PATTERN].. [FILE]..
-Prints the lines in which a pattern matches. As in grep, the first operand is the pattern unless
--e gives one, and all others are files; several patterns each need -e. Without files, and for the
-file -, reads standard input.
+const USAGE: &str = "usage: finder [-bcilnoqv] [-e PATTERN].. [PATTERN].. [FILE]..
+Prints the lines in which a pattern matches. As in grep, the first operand is a pattern unless -e
+gives one. Another operand is one more pattern if it has one of the signs [(*+?|^${\\ and no file of
+this name can be opened, and a file otherwise. Without files, and for the file -, reads standard
+input.
   -e PATTERN  a pattern; if there are several, the first is preferred
   -i          letters of the patterns match in both cases
   -v          select the lines without a match
@@ -151,7 +155,7 @@ fn search_and_flush<W: Write>(
 fn read_options(rt: &HostRuntime) -> Result<Options, Error> {
     let mut args = env::args(rt)?;
     let _program = args.next();
-    Ok(Options::read(rt.alloc(), args)?)
+    Ok(Options::read(rt, args)?)
 }
 
 /// Prints the usage, or searches as the options say, and returns the exit status.

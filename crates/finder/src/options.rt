@@ -4,7 +4,7 @@ use crate::error::Error;
 use determinize_regex::{Error as RegexError, Regex, RegexConfig};
 use std::alloc::{AllocError, AllocFailed, Global};
 use std::env::Args;
-use std::{fmt, io};
+use std::{fmt, fs, io};
 
 /// The options and operands of the program.
 #[derive(Drop)]
@@ -111,23 +111,24 @@ impl Options {
     }
 
     /// Returns the options of the arguments, without the name of the program. The first operand is
-    /// the pattern, unless `-e` gives one, and the others are files.
-    pub fn read(alloc: Global, args: Args) -> Result<Options, UsageError> {
-        let mut options = Options::new(alloc);
-        match options.take_all(alloc, args) {
+    /// a pattern, unless `-e` gives one. Another one is a pattern if it has one of the signs
+    /// ``[(*+?|^${\`` and no file of this name can be opened, and a file otherwise.
+    pub fn read(rt: &HostRuntime, args: Args) -> Result<Options, UsageError> {
+        let mut options = Options::new(rt.alloc());
+        match options.take_all(rt, args) {
             Ok(()) => Ok(options),
             Err(error) => Err(error),
         }
     }
 
     /// Takes all arguments.
-    fn take_all(&mut self, alloc: Global, args: Args) -> Result<(), UsageError> {
-        let mut operands = Vec::new(alloc);
-        let next = self.take_each(alloc, args, &mut operands)?;
+    fn take_all(&mut self, rt: &HostRuntime, args: Args) -> Result<(), UsageError> {
+        let mut operands = Vec::new(rt.alloc());
+        let next = self.take_each(rt.alloc(), args, &mut operands)?;
         if next == Next::Pattern {
             return Err(UsageError::MissingPattern);
         }
-        self.take_operands(operands)
+        self.take_operands(rt, operands)
     }
 
     /// Takes each argument, and returns what one after the last would be.
@@ -265,9 +266,9 @@ impl Options {
     }
 
     /// Takes the operands, once all options are known.
-    fn take_operands(&mut self, operands: Vec<String>) -> Result<(), UsageError> {
+    fn take_operands(&mut self, rt: &HostRuntime, operands: Vec<String>) -> Result<(), UsageError> {
         for operand in operands {
-            if self.patterns.is_empty() {
+            if self.patterns.is_empty() || is_pattern(rt, operand.as_str()) {
                 self.patterns.push(operand)?;
             } else {
                 self.files.push(operand)?;
@@ -283,4 +284,17 @@ impl Options {
 /// Returns whether an argument is an operand, and no option.
 fn is_operand(arg: &str) -> bool {
     !arg.starts_with('-') || arg.len() == 1
+}
+
+/// Returns whether an operand behind the first pattern is one more pattern, and no file.
+fn is_pattern(rt: &HostRuntime, operand: &str) -> bool {
+    operand.bytes().any(is_sign) && fs::open(rt, operand).is_err()
+}
+
+/// Returns whether the byte is a sign that patterns have, and names of files seldom.
+fn is_sign(byte: u8) -> bool {
+    matches!(
+        byte,
+        b'[' | b'(' | b'*' | b'+' | b'?' | b'|' | b'^' | b'$' | b'{' | b'\\'
+    )
 }
