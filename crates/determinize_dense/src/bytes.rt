@@ -5,8 +5,10 @@
 ghost use Rattle.std.specs.Prelude.{All, ◌≡◌, ◌<◌, ◌≤◌, ◌++◌, ◌^◌, IfOk, OnOk, length, map};
 ghost use Rattle.std.specs.Int.{to_le_bytes, w32};
 ghost use Rattle.std.specs.List.{concat};
+ghost use Rattle.determinize_below.specs.Nfa.{IsAccepted};
 ghost use Rattle.determinize_below.specs.declared.primitives.TheConstants.{MAX_ID};
 ghost use Rattle.determinize_dense.specs.Bytes.{IsWhole, bytes_of_words, ends_from, file_of, head_of, stored_of};
+ghost use Rattle.determinize_dense.specs.Dfa.{IsDfaOf};
 ghost use Rattle.determinize_dense.specs.Private.Rows.{rows_at};
 
 use crate::dfa::Dfa;
@@ -147,6 +149,8 @@ impl<'n, N: Allocator, A: Allocator + Copy> Dfa<'n, N, A> {
     pub fn to_bytes(&self, alloc: A) -> Result<Vec<u8, A>, AllocError>
         ensures file { IfOk result (λ bytes. bytes.items ≡ file_of (stored_of self.now)) }
         ensures whole { IfOk result (λ _. IsWhole (stored_of self.now)) }
+        ensures means { IsDfaOf self.now.nfa self.now.kind self.now.table }
+        ensures accepted { IsAccepted self.now.nfa }
     {
         let columns = self.classes.alphabet_len();
         let mut bytes = Vec::new(alloc);

@@ -13,8 +13,8 @@ use Rattle.determinize_dense.specs.Least.{IsReachedRow}
 use Rattle.determinize_dense.specs.Table.{DfaValue, Table, column_of, row_after}
 use Rattle.determinize_dense.specs.Table.{row_over, start_row}
 
--- each entry is in place and is the number of a row, and each column is that of a unit; there are at
--- most MAX_STATES rows, of at most 257 entries
+-- each entry is in place and is the number of a row, and each column is that of a unit; there are
+-- at most MAX_STATES rows, of at most 257 entries
 pub record IsFilled (d : Table) : Type 0 where
   pub size : length d.next ≡ length d.patterns * (d.class_count + 1)
   pub starts : length d.starts ≡ COUNT
@@ -40,8 +40,8 @@ dfa_value nfa kind classes next starts patterns = record {
   };
 }
 
--- a table of this NFA, which is valid, and of this match kind; the classes of bytes are those of the
--- NFA, each row is reached, and no match follows row 0
+-- a table of this NFA, which is valid, and of this match kind; the classes of bytes are those of
+-- the NFA, each row is reached, and no match follows row 0
 pub record IsDfa (v : DfaValue) : Type 0 where
   pub accepted : IsAccepted v.nfa
   pub classes : (p : Classes) → p.of_bytes ≡ v.table.classes → AreClassesOf v.nfa p
