@@ -1,4 +1,4 @@
-//! The transitions of a state, whatever its kind.
+//! The transitions of a state of any kind, in one list.
 
 ghost use Rattle.std.specs.Prelude.{◌≡◌, ◌∷◌, [], drop, length, map, true};
 ghost use Rattle.std.specs.Iterator.{YieldsFirst, item_count};

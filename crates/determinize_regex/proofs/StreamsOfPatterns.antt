@@ -4,7 +4,8 @@
 -- Idea: the matches of the runs are those of the patterns, so what keeps the list of the one keeps that of the other.
 use Rattle.std.specs.Prelude.{IfOk, OnErr, OnOk, Option, Result, option_to_list}
 use Rattle.std.specs.Option.{IfNone, IfSome}
-use Rattle.std.proofs.Common.{◌≡◌, ◌≤◌, ◌++◌, ◌∷◌, ◌⊎◌, ℕ, [], Bool, List, None, Some, arith, cond, false, inl, inr, length}
+use Rattle.std.proofs.Common.{◌≡◌, ◌≤◌, ◌++◌, ◌∷◌, ◌⊎◌, ℕ, [], Bool, List, None, Some, arith, cond, false, inl, inr}
+use Rattle.std.proofs.Common.{length}
 use Rattle.std.proofs.Common.{refl, subst, sym, take, true}
 use Rattle.std.proofs.lemmas.Option.{IfSome_then}
 use Rattle.std.proofs.lemmas.Result.{IfOk-weaker, on_err_weaker, on_ok_weaker}
@@ -14,13 +15,16 @@ use Rattle.determinize_below.specs.declared.search.Match.{Match}
 use Rattle.determinize_find.proofs.matches.InputMatches.{each_input_has_matches}
 use Rattle.determinize_find.specs.Matches.{from}
 use Rattle.determinize_find.specs.Regexes.{RegexValue as Searched}
-use Rattle.determinize_find.specs.Streams.{IsAdvance, IsFed, IsFeeding, IsFinished, IsFoundInBlock, IsFrontFed, IsPartFed}
-use Rattle.determinize_find.specs.Streams.{IsSearching, IsStream, KeepsFew, KeptFewInBlocks, Streamed, before, place, whole}
+use Rattle.determinize_find.specs.Streams.{IsAdvance, IsFed, IsFeeding, IsFinished, IsFoundInBlock, IsFrontFed}
+use Rattle.determinize_find.specs.Streams.{IsPartFed}
+use Rattle.determinize_find.specs.Streams.{IsSearching, IsStream, KeepsFew, KeptFewInBlocks, Streamed, before, place}
+use Rattle.determinize_find.specs.Streams.{whole}
 use Rattle.determinize_pattern.specs.declared.pattern.Pattern.{Pattern}
 use Rattle.determinize_regex.proofs.FoundByRegex.{all_of, matches_by_runs, matches_of}
 use Rattle.determinize_regex.specs.Private.Searched.{IsSearchOf, IsStreaming}
 use Rattle.determinize_regex.specs.Regexes.{RegexValue}
-use Rattle.determinize_regex.specs.Streams.{BeginAll, IsFedOf, IsFinishedOf, IsFoundInBlockOf, IsFrontFedOf, IsPartFedOf}
+use Rattle.determinize_regex.specs.Streams.{BeginAll, IsFedOf, IsFinishedOf, IsFoundInBlockOf, IsFrontFedOf}
+use Rattle.determinize_regex.specs.Streams.{IsPartFedOf}
 use Rattle.determinize_regex.specs.Streams.{IsStreamOf, KeepsFewOf, KeptFewOf, StreamValue}
 use Rattle.ordered_reach.proofs.Cases.{by_cases, some_injective}
 

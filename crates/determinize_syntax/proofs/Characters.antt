@@ -2,7 +2,8 @@
 -- Main statements: one_of_listed, folded_ascii, class_added, all_added.
 -- Used by: the proofs of `class`, of brackets and of atoms.
 -- Idea: sets with the same numbers below that of the last character have the same patterns.
-use Rattle.std.proofs.Common.{◌≡◌, ◌<◌, ◌≤◌, ◌∷◌, ◌++◌, ◌∙◌, ◌&&◌, ◌||◌, [], arith, Bool, List, Some, ap, cond, false, ltb-false, ltb-true, nat_lt, not, refl, sym, true, ℕ}
+use Rattle.std.proofs.Common.{◌≡◌, ◌<◌, ◌≤◌, ◌∷◌, ◌++◌, ◌∙◌, ◌&&◌, ◌||◌, [], arith, Bool, List, Some, ap, cond, false}
+use Rattle.std.proofs.Common.{ltb-false, ltb-true, nat_lt, not, refl, sym, true, ℕ}
 use Rattle.std.specs.Char.{IsScalar, to_ascii_lowercase, to_ascii_uppercase}
 use Rattle.std.proofs.lemmas.Bool.Decides.{nat_tests}
 use Rattle.std.proofs.lemmas.List.Folds.{list_any-append}
@@ -18,7 +19,9 @@ use Rattle.determinize_syntax.specs.Spells.{IsOneOf}
 use Rattle.determinize_syntax.specs.Words.{Set, folded, only}
 use Rattle.determinize_syntax.specs.declared.flags.Flags.{Flags}
 use Rattle.determinize_syntax.specs.declared.kind.ClassKind.{ClassKind}
-use Rattle.determinize_syntax.specs.declared.kind.ClassKind.TheVariants.{Alnum, Alpha, Ascii, Blank, Cntrl, Digit, Graph, Lower, Print, Punct, Space, Upper, Word, Xdigit}
+use Rattle.determinize_syntax.specs.declared.kind.ClassKind.TheVariants.{Alnum, Alpha, Ascii, Blank, Cntrl, Digit}
+use Rattle.determinize_syntax.specs.declared.kind.ClassKind.TheVariants.{Graph, Lower, Print, Punct, Space, Upper}
+use Rattle.determinize_syntax.specs.declared.kind.ClassKind.TheVariants.{Word, Xdigit}
 use Rattle.determinize_syntax.proofs.Classes.{class_of, folded_same}
 
 scalar_small : (c : ℕ) → IsScalar c → c < 0x11_0000

@@ -2,7 +2,8 @@
 -- Main statements: class_of, in_some, has_more, kind_class.
 -- Used by: the proofs of classes and of brackets.
 -- Idea: one more range adds its bytes.
-use Rattle.std.proofs.Common.{◌≡◌, ◌<◌, ◌≤◌, ◌∷◌, ◌++◌, ◌∙◌, ◌&&◌, ◌||◌, ◌⊎◌, inl, inr, nat_eq, [], arith, Bool, List, Some, ap, false, nat_lt, refl, ◌+◌, true, ℕ}
+use Rattle.std.proofs.Common.{◌≡◌, ◌<◌, ◌≤◌, ◌∷◌, ◌++◌, ◌∙◌, ◌&&◌, ◌||◌, ◌⊎◌, inl, inr, nat_eq, [], arith, Bool, List}
+use Rattle.std.proofs.Common.{Some, ap, false, nat_lt, refl, ◌+◌, true, ℕ}
 use Rattle.std.specs.Prelude.{◌==◌}
 use Rattle.std.specs.Prelude.{cond, not}
 use Rattle.std.specs.Char.{to_ascii_lowercase, to_ascii_uppercase}

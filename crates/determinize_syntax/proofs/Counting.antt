@@ -2,7 +2,8 @@
 -- Main statements: count_begun, count_more, count_over, count_ended, first_count, second_count.
 -- Used by: the proofs that `counts` rejects no operator.
 -- Idea: a digit that is next is one of the number, since none follows after the number.
-use Rattle.std.proofs.Common.{◌≡◌, ◌≤◌, ◌*◌, ◌+◌, ◌∷◌, ◌++◌, ◌∙◌, ◌⊎◌, [], ap, arith, inl, inr, Option, Some, false, refl, slice_get, subst, sym, true, ℕ}
+use Rattle.std.proofs.Common.{◌≡◌, ◌≤◌, ◌*◌, ◌+◌, ◌∷◌, ◌++◌, ◌∙◌, ◌⊎◌, [], ap, arith, inl, inr, Option, Some, false}
+use Rattle.std.proofs.Common.{refl, slice_get, subst, sym, true, ℕ}
 use Rattle.std.specs.Prelude.{codes}
 use Rattle.std.specs.Char.{digit_value, is_ascii_digit, is_digit}
 use Rattle.std.specs.List.{list_all}

@@ -2,13 +2,15 @@
 -- Main statements: single_escape, past_boundary, perl_kinds.
 -- Used by: the proofs that the parser rejects no escape.
 -- Idea: only escapes begin with a backslash, and each has the text of one value.
-use Rattle.std.proofs.Common.{◌≡◌, ◌≤◌, ◌∷◌, ◌++◌, ◌∙◌, ◌&&◌, ◌||◌, ◌==◌, ◌⊎◌, [], ap, arith, inl, inr, Bool, List, None, Some, false, not, refl, slice_get, subst, sym, true, ℕ}
+use Rattle.std.proofs.Common.{◌≡◌, ◌≤◌, ◌∷◌, ◌++◌, ◌∙◌, ◌&&◌, ◌||◌, ◌==◌, ◌⊎◌, [], ap, arith, inl, inr, Bool, List}
+use Rattle.std.proofs.Common.{None, Some, false, not, refl, slice_get, subst, sym, true, ℕ}
 use Rattle.std.specs.Prelude.{codes}
 use Rattle.std.specs.Char.{encode_utf8, is_ascii}
 use Rattle.std.proofs.lemmas.Bool.{eqb-true}
 use Rattle.ordered_reach.proofs.Cases.{by_test, or_false, some_injective}
 use Rattle.determinize_syntax.specs.Private.Following as to
-use Rattle.determinize_syntax.specs.Private.Following.{CountsTo, FromAtom, FromOperator, IsPastBoundary, IsSame, MayPrecede, Single}
+use Rattle.determinize_syntax.specs.Private.Following.{CountsTo, FromAtom, FromOperator, IsPastBoundary, IsSame}
+use Rattle.determinize_syntax.specs.Private.Following.{MayPrecede, Single}
 use Rattle.determinize_syntax.specs.Private.Reading.{IsEscape, Part, is_available}
 use Rattle.determinize_syntax.specs.Private.Sets.{set_of, turned}
 use Rattle.determinize_syntax.specs.Spells as s
@@ -20,7 +22,8 @@ use Rattle.determinize_syntax.specs.declared.flags.Flags.{Flags}
 use Rattle.determinize_syntax.specs.declared.kind.ClassKind.{ClassKind}
 use Rattle.determinize_syntax.specs.declared.kind.ClassKind.TheVariants.{Digit, Space, Word}
 use Rattle.determinize_syntax.proofs.Counting.{decimal, first_count, number_begins}
-use Rattle.determinize_syntax.proofs.Stepping.{both_true, counts_begin, differ, encode_starts, escaped_starts, heads, single_starts, unlisted, within}
+use Rattle.determinize_syntax.proofs.Stepping.{both_true, counts_begin, differ, encode_starts, escaped_starts, heads}
+use Rattle.determinize_syntax.proofs.Stepping.{single_starts, unlisted, within}
 
 only_is : (c d : ℕ) → ((d == c) || false) ≡ true → c ≡ d
 only_is c d e = sym (eqb-true d c (or_false (d == c) e))

@@ -2,7 +2,8 @@
 -- Main statements: letters_next, letters_end, next_setting, no_setting, opening_next.
 -- Used by: the proofs that the parser rejects no flags and no opening of a group.
 -- Idea: the letters of flags are none of the signs that may be in their place.
-use Rattle.std.proofs.Common.{◌≡◌, ◌∷◌, ◌++◌, ◌∙◌, ◌||◌, ◌==◌, ◌⊎◌, [], ap, inl, inr, Bool, List, None, Some, false, refl, slice_get, subst, sym, true, ℕ}
+use Rattle.std.proofs.Common.{◌≡◌, ◌∷◌, ◌++◌, ◌∙◌, ◌||◌, ◌==◌, ◌⊎◌, [], ap, inl, inr, Bool, List, None, Some, false}
+use Rattle.std.proofs.Common.{refl, slice_get, subst, sym, true, ℕ}
 use Rattle.std.specs.Prelude.{codes}
 use Rattle.std.specs.List.{list_any}
 use Rattle.std.proofs.lemmas.List.{append_assoc}
@@ -15,7 +16,8 @@ use Rattle.determinize_syntax.specs.Private.Letters.{Letters}
 use Rattle.determinize_syntax.specs.Spells.{Bytes, Sets}
 use Rattle.determinize_syntax.specs.Words.{◌∈◌, is_name, set_flag}
 use Rattle.determinize_syntax.specs.declared.flags.Flags.{Flags}
-use Rattle.determinize_syntax.proofs.Stepping.{apart, differ, unlisted, within, Opened, heads, no_operator, opened, tails}
+use Rattle.determinize_syntax.proofs.Stepping.{apart, differ, unlisted, within, Opened, heads, no_operator, opened}
+use Rattle.determinize_syntax.proofs.Stepping.{tails}
 use Rattle.determinize_syntax.proofs.Inner.{letters_follow}
 
 -- the letter of a flag is one of six

@@ -2,7 +2,8 @@
 -- Main statements: hex_escape, braces_escape, escape_begins, looks_begin, same_letter.
 -- Used by: the proofs that the parser rejects no escape.
 -- Idea: the byte after the backslash decides which escape it is.
-use Rattle.std.proofs.Common.{◌≡◌, ◌<◌, ◌≤◌, ◌*◌, ◌+◌, ◌∷◌, ◌++◌, ◌∙◌, ◌⊎◌, [], ap, arith, inl, inr, Bool, None, Some, false, refl, slice_get, subst, sym, true, ℕ}
+use Rattle.std.proofs.Common.{◌≡◌, ◌<◌, ◌≤◌, ◌*◌, ◌+◌, ◌∷◌, ◌++◌, ◌∙◌, ◌⊎◌, [], ap, arith, inl, inr, Bool, None, Some}
+use Rattle.std.proofs.Common.{false, refl, slice_get, subst, sym, true, ℕ}
 use Rattle.std.specs.Prelude.{codes, is_none}
 use Rattle.std.specs.Char.{IsScalar, digit_value, is_digit}
 use Rattle.std.specs.List.{list_all}

@@ -11,7 +11,8 @@ use Rattle.determinize_syntax.specs.Words.{Set}
 use Rattle.determinize_syntax.specs.Private.Letters as to
 use Rattle.determinize_syntax.specs.Private.Letters.{Letters, Listing}
 use Rattle.determinize_syntax.specs.declared.bracket.Before.{Before}
-use Rattle.determinize_syntax.specs.declared.bracket.Before.TheVariants.{AfterClass, AfterHyphen, AfterOne, AfterRange, First}
+use Rattle.determinize_syntax.specs.declared.bracket.Before.TheVariants.{AfterClass, AfterHyphen, AfterOne}
+use Rattle.determinize_syntax.specs.declared.bracket.Before.TheVariants.{AfterRange, First}
 use Rattle.determinize_syntax.specs.declared.flags.Flags.{Flags}
 
 pub sets_follow : (f : Flags) (on : Bool) (g : Flags) (t : Bytes) → Sets f on g t → (i : Flags) (after w : Bytes)

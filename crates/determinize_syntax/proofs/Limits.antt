@@ -2,7 +2,8 @@
 -- Main statements: openings_after, operator_opens, names_moved, name_added, name_twice.
 -- Used by: the proofs that the errors at a limit are right.
 -- Idea: openings are counted, so those of two parts are added; a name that was read is in the part before the place.
-use Rattle.std.proofs.Common.{◌≡◌, ◌<◌, ◌≤◌, ◌+◌, ◌∷◌, ◌++◌, ◌∙◌, [], arith, All, Bool, List, Option, ap, cond, false, refl, subst, sym, true, ℕ}
+use Rattle.std.proofs.Common.{◌≡◌, ◌<◌, ◌≤◌, ◌+◌, ◌∷◌, ◌++◌, ◌∙◌, [], arith, All, Bool, List, Option, ap, cond, false}
+use Rattle.std.proofs.Common.{refl, subst, sym, true, ℕ}
 use Rattle.std.specs.Prelude.{Err, IfErr, IfOk, IsErrAnd, MatchResult, Ok, OnOk, Result, codes, max, not}
 use Rattle.std.specs.Bool.{⊤}
 use Rattle.std.specs.Cmp.Lexicographic.{slice_cmp}

@@ -2,7 +2,8 @@
 -- Main statements: a lemma for each rule, and inside_read, bracketed.
 -- Used by: the proofs of `bracket`.
 -- Idea: a part extends what is listed, and ranges that are added have the bytes that it lists.
-use Rattle.std.proofs.Common.{◌≡◌, ◌<◌, ◌≤◌, ◌+◌, ◌∷◌, ◌++◌, ◌∙◌, ◌||◌, [], arith, Bool, List, Some, ap, false, length, not, refl, subst, sym, true, ℕ}
+use Rattle.std.proofs.Common.{◌≡◌, ◌<◌, ◌≤◌, ◌+◌, ◌∷◌, ◌++◌, ◌∙◌, ◌||◌, [], arith, Bool, List, Some, ap, false}
+use Rattle.std.proofs.Common.{length, not, refl, subst, sym, true, ℕ}
 use Rattle.std.specs.Prelude.{Err, Ok, OnOk, Result, codes, slice_get}
 use Rattle.std.specs.Int.{is_in_range}
 use Rattle.std.proofs.lemmas.List.{append_assoc, length-append}
@@ -16,7 +17,8 @@ use Rattle.determinize_syntax.specs.Spells as s
 use Rattle.determinize_syntax.specs.Spells.{Atom, Bound, Escaped, Inside, IsOneOf, Lists, Wide}
 use Rattle.determinize_syntax.specs.Words.{Set, ◌∈◌, complement, folded, joined, knows_cases, named_class, only}
 use Rattle.determinize_syntax.specs.declared.bracket.Before.{Before}
-use Rattle.determinize_syntax.specs.declared.bracket.Before.TheVariants.{AfterClass, AfterHyphen, AfterOne, AfterRange, First}
+use Rattle.determinize_syntax.specs.declared.bracket.Before.TheVariants.{AfterClass, AfterHyphen, AfterOne}
+use Rattle.determinize_syntax.specs.declared.bracket.Before.TheVariants.{AfterRange, First}
 use Rattle.determinize_syntax.specs.declared.escape.Escape.TheVariants.{Class}
 use Rattle.determinize_syntax.specs.declared.flags.Flags.{Flags}
 use Rattle.determinize_syntax.specs.declared.kind.ClassKind.{ClassKind}

@@ -2,7 +2,8 @@
 -- Main statements: munch, names_same, boundary_looks, named_letters.
 -- Used by: the proofs that the parser rejects no name and no boundary.
 -- Idea: two runs of bytes of a kind, both followed by none of the kind, are the same.
-use Rattle.std.proofs.Common.{◌≡◌, ◌∷◌, ◌++◌, ◌∙◌, ◌&&◌, ◌⊎◌, [], ap, arith, inl, inr, length, nat_eq, not, Bool, None, Some, false, refl, slice_get, subst, sym, true, ℕ}
+use Rattle.std.proofs.Common.{◌≡◌, ◌∷◌, ◌++◌, ◌∙◌, ◌&&◌, ◌⊎◌, [], ap, arith, inl, inr, length, nat_eq, not, Bool}
+use Rattle.std.proofs.Common.{None, Some, false, refl, slice_get, subst, sym, true, ℕ}
 use Rattle.std.specs.Char.{is_ascii_digit}
 use Rattle.std.specs.List.{list_all}
 use Rattle.std.proofs.lemmas.Bool.Decides.{nat_tests}
@@ -13,7 +14,9 @@ use Rattle.std.proofs.lemmas.List.Folds.{list_all-append}
 use Rattle.ordered_reach.proofs.Cases.{by_cases, by_test, some_injective}
 use Rattle.determinize_below.specs.declared.look.Look.{Look}
 use Rattle.determinize_syntax.specs.declared.kind.ClassKind.{ClassKind}
-use Rattle.determinize_syntax.specs.declared.kind.ClassKind.TheVariants.{Alnum, Alpha, Ascii, Blank, Cntrl, Digit, Graph, Lower, Print, Punct, Space, Upper, Word, Xdigit}
+use Rattle.determinize_syntax.specs.declared.kind.ClassKind.TheVariants.{Alnum, Alpha, Ascii, Blank, Cntrl, Digit}
+use Rattle.determinize_syntax.specs.declared.kind.ClassKind.TheVariants.{Graph, Lower, Print, Punct, Space, Upper}
+use Rattle.determinize_syntax.specs.declared.kind.ClassKind.TheVariants.{Word, Xdigit}
 use lib.Pointwise.{pointwise}
 use Prim.Native.String.{String}
 use Rattle.determinize_syntax.specs.Private.Following.{IsPastBoundary, is_in_boundary}

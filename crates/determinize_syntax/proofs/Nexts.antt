@@ -4,7 +4,8 @@
 --   front_next, not_ended, bracket_next.
 -- Used by: the proofs that the parser rejects no brackets.
 -- Idea: the first byte, and of a hyphen what is before it, decides which item it is.
-use Rattle.std.proofs.Common.{◌≡◌, ◌<◌, ◌≤◌, ◌∷◌, ◌++◌, ◌∙◌, ◌&&◌, ◌||◌, ◌==◌, ◌⊎◌, [], ap, arith, inl, inr, Bool, List, Some, false, not, refl, slice_get, subst, sym, true, ℕ}
+use Rattle.std.proofs.Common.{◌≡◌, ◌<◌, ◌≤◌, ◌∷◌, ◌++◌, ◌∙◌, ◌&&◌, ◌||◌, ◌==◌, ◌⊎◌, [], ap, arith, inl, inr, Bool}
+use Rattle.std.proofs.Common.{List, Some, false, not, refl, slice_get, subst, sym, true, ℕ}
 use Rattle.std.specs.Prelude.{codes}
 use Rattle.std.specs.Char.{encode_utf8, is_ascii}
 use Rattle.std.proofs.lemmas.Bool.{eqb-true}
@@ -12,7 +13,8 @@ use Rattle.std.proofs.lemmas.List.{append_assoc}
 use Rattle.determinize_below.specs.declared.look.Look.{Look}
 use Rattle.ordered_reach.proofs.Cases.{by_test, some_injective}
 use Rattle.determinize_syntax.specs.Private.Following as following
-use Rattle.determinize_syntax.specs.Private.Following.{FromAtom, FromOperator, IsSame, MayPrecede, Single, is_in_boundary}
+use Rattle.determinize_syntax.specs.Private.Following.{FromAtom, FromOperator, IsSame, MayPrecede, Single}
+use Rattle.determinize_syntax.specs.Private.Following.{is_in_boundary}
 use Rattle.determinize_syntax.specs.Private.Letters as to
 use Rattle.determinize_syntax.specs.Private.Letters.{Listing}
 use Rattle.determinize_syntax.specs.Private.Reading.{IsEscape, Part}
@@ -20,7 +22,8 @@ use Rattle.determinize_syntax.specs.Spells as s
 use Rattle.determinize_syntax.specs.Spells.{Bound, Bytes, Escaped, IsWide, Wide, may_end, stands}
 use Rattle.determinize_syntax.specs.Words.{Set, ◌∈◌, knows_cases, named_class}
 use Rattle.determinize_syntax.specs.declared.bracket.Before.{Before}
-use Rattle.determinize_syntax.specs.declared.bracket.Before.TheVariants.{AfterClass, AfterHyphen, AfterOne, AfterRange, First}
+use Rattle.determinize_syntax.specs.declared.bracket.Before.TheVariants.{AfterClass, AfterHyphen, AfterOne}
+use Rattle.determinize_syntax.specs.declared.bracket.Before.TheVariants.{AfterRange, First}
 use Rattle.determinize_syntax.specs.declared.escape.Escape.{Escape}
 use Rattle.determinize_syntax.specs.declared.escape.Escape.TheVariants as escape
 use Rattle.determinize_syntax.specs.declared.flags.Flags.{Flags}
@@ -28,7 +31,8 @@ use Rattle.determinize_syntax.specs.declared.kind.ClassKind.{ClassKind}
 use Rattle.determinize_syntax.proofs.Escapes.{not_itself, not_listed, perl_kinds}
 use Rattle.determinize_syntax.proofs.Inner.{inside_follows}
 use Rattle.determinize_syntax.proofs.Munch.{IsPast}
-use Rattle.determinize_syntax.proofs.Stepping.{both_true, differ, encode_starts, escaped_starts, heads, tails, unlisted, wide_starts, within}
+use Rattle.determinize_syntax.proofs.Stepping.{both_true, differ, encode_starts, escaped_starts, heads, tails}
+use Rattle.determinize_syntax.proofs.Stepping.{unlisted, wide_starts, within}
 
 plain_ascii : (c : ℕ) → (is_ascii c && not (c ∈ "[]\\-")) ≡ true → (is_ascii c ≡ true) × ((c ∈ "[]\\-") ≡ false)
 plain_ascii c e = ((both_true (is_ascii c) (not (c ∈ "[]\\-")) e).0, not_listed (is_ascii c) (c ∈ "[]\\-") e)

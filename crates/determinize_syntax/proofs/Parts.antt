@@ -2,7 +2,9 @@
 -- Main statements: took, onward, closed, and a lemma for each rule.
 -- Used by: the proofs of the parser.
 -- Idea: a part after a part is a part; what ends with a byte is a part and the byte.
-use Rattle.std.proofs.Common.{◌≡◌, ◌<◌, ◌≤◌, ◌+◌, ◌*◌, ◌∷◌, ◌++◌, ◌∙◌, ◌^◌, ◌&&◌, [], arith, inl, inr, Bool, List, None, Option, Some, ap, cond, false, length, map, not, refl, slice_get, subst, sym, true, ℕ, IfOk}
+use Rattle.std.proofs.Common.{◌≡◌, ◌<◌, ◌≤◌, ◌+◌, ◌*◌, ◌∷◌, ◌++◌, ◌∙◌, ◌^◌, ◌&&◌, [], arith, inl, inr, Bool, List}
+use Rattle.std.proofs.Common.{None, Option, Some, ap, cond, false, length, map, not, refl, slice_get, subst, sym}
+use Rattle.std.proofs.Common.{true, ℕ, IfOk}
 use Rattle.std.specs.Prelude.{Err, Ok, Result, codes, is_some}
 use Rattle.std.specs.Bool.{⊤}
 use Rattle.std.specs.List.{list_all}
@@ -12,10 +14,12 @@ use Rattle.std.proofs.lemmas.List.{append_assoc, append-nil, map-append}
 use Rattle.determinize_pattern.specs.Meaning.{Re}
 use Rattle.determinize_pattern.specs.Patterns.{choice_of, meaning, repeated}
 use Rattle.determinize_pattern.specs.declared.pattern.Pattern.{Pattern}
-use Rattle.determinize_syntax.specs.Private.Reading.{IsDigit, IsDigits, IsFlag, IsHexDigit, IsNamed, IsSetting, Opens, Part, SetsMore}
+use Rattle.determinize_syntax.specs.Private.Reading.{IsDigit, IsDigits, IsFlag, IsHexDigit, IsNamed, IsSetting, Opens}
+use Rattle.determinize_syntax.specs.Private.Reading.{Part, SetsMore}
 use Rattle.determinize_syntax.proofs.Numbers.{is_decimal, number_more, number_one, value_of}
 use Rattle.determinize_syntax.specs.Spells as s
-use Rattle.determinize_syntax.specs.Spells.{Atom, Branches, Choice, Escaped, Items, Operator, Repeated, Sets, SpellsUnder, Wide, sequence_of}
+use Rattle.determinize_syntax.specs.Spells.{Atom, Branches, Choice, Escaped, Items, Operator, Repeated, Sets}
+use Rattle.determinize_syntax.specs.Spells.{SpellsUnder, Wide, sequence_of}
 use Rattle.determinize_syntax.specs.Words.{assertion, begins_name, is_in_name, is_name, number}
 use Rattle.determinize_syntax.specs.declared.flags.Flags.{Flags}
 use Rattle.std.specs.Char.{InScalarRange, IsScalar, digit_value, encode_utf8, len_utf8}

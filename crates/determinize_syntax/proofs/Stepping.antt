@@ -3,7 +3,9 @@
 -- Used by: the proofs that the parser rejects no pattern.
 -- Idea: the first byte decides by which rule a text follows, since no two rules have one in common but those of a group
 -- and a setting.
-use Rattle.std.proofs.Common.{◌≡◌, ◌<◌, ◌≤◌, ◌∷◌, ◌++◌, ◌∙◌, ◌&&◌, ◌||◌, ◌⊎◌, ap, arith, inl, inr, length, ltb-false, ltb-true, nat_lt, refl, sym, subst, [], Bool, List, None, Option, Some, false, true, not, slice_get, ℕ}
+use Rattle.std.proofs.Common.{◌≡◌, ◌<◌, ◌≤◌, ◌∷◌, ◌++◌, ◌∙◌, ◌&&◌, ◌||◌, ◌⊎◌, ap, arith, inl, inr, length, ltb-false}
+use Rattle.std.proofs.Common.{ltb-true, nat_lt, refl, sym, subst, [], Bool, List, None, Option, Some, false, true}
+use Rattle.std.proofs.Common.{not, slice_get, ℕ}
 use Rattle.std.specs.Prelude.{◌==◌, Err, IfErr, IsErrAnd, Ok, Result, codes}
 use Rattle.std.specs.List.{list_all, list_any}
 use Rattle.std.specs.Char.{encode_utf8, is_ascii, len_utf8}
@@ -16,7 +18,8 @@ use Rattle.determinize_syntax.specs.Spells as s
 use Rattle.determinize_syntax.specs.Spells.{Bytes, Escaped, Operator, Wide, is_limit}
 use Rattle.determinize_syntax.specs.Words.{◌∈◌}
 use Rattle.determinize_syntax.specs.Private.Following as to
-use Rattle.determinize_syntax.specs.Private.Following.{AfterOperator, Enters, FromAtom, FromItem, FromOperator, IsEnd, IsBranchEnd, Single, Unlimited}
+use Rattle.determinize_syntax.specs.Private.Following.{AfterOperator, Enters, FromAtom, FromItem, FromOperator, IsEnd}
+use Rattle.determinize_syntax.specs.Private.Following.{IsBranchEnd, Single, Unlimited}
 use Rattle.determinize_syntax.specs.declared.error.ParseError.{ParseError}
 use Rattle.determinize_syntax.specs.declared.flags.Flags.{Flags}
 

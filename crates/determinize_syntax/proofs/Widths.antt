@@ -2,7 +2,8 @@
 -- Main statements: width_of, front_is, wide_parts.
 -- Used by: the proofs of `take_wide`.
 -- Idea: the first byte of a character decides how many it has.
-use Rattle.std.proofs.Common.{◌≡◌, ◌<◌, ◌≤◌, ◌+◌, ◌/◌, ◌∷◌, ◌++◌, ◌∙◌, ◌⊎◌, [], ap, arith, inl, inr, le-ltb, length, length-append, lt-ltb, ltb-false, ltb-true, nat_lt, refl, sym, take, ℕ}
+use Rattle.std.proofs.Common.{◌≡◌, ◌<◌, ◌≤◌, ◌+◌, ◌/◌, ◌∷◌, ◌++◌, ◌∙◌, ◌⊎◌, [], ap, arith, inl, inr, le-ltb, length}
+use Rattle.std.proofs.Common.{length-append, lt-ltb, ltb-false, ltb-true, nat_lt, refl, sym, take, ℕ}
 use Rattle.std.specs.Char.{encode_utf8, len_utf8}
 use Rattle.std.proofs.lemmas.Bool.{cond-false, cond-true}
 use Rattle.std.proofs.lemmas.Str.{length-encode}

@@ -3,9 +3,11 @@
 -- Used by: OwnedLazy.
 -- Idea: a closure lists each state once, and a pattern comes from a match state.
 use Rattle.determinize_lazy.proofs.Common.{[], after_step, after_walk, AllResolve, ap, arith, by_cases, by_test, Cache}
-use Rattle.determinize_lazy.proofs.Common.{cond, Err, get_or, HalfMatch, IsAccepted, is_cached, IsCutOff, IsOver, is_some}
+use Rattle.determinize_lazy.proofs.Common.{cond, Err, get_or, HalfMatch, IsAccepted, is_cached, IsCutOff, IsOver}
+use Rattle.determinize_lazy.proofs.Common.{is_some}
 use Rattle.determinize_lazy.proofs.Common.{length, List, MatchKind, nat_eq, Nfa, None, Ok, Option, Place, refl}
-use Rattle.determinize_lazy.proofs.Common.{Result, Some, start_value, step_of, suc, sym, take, take_all, true, units_read}
+use Rattle.determinize_lazy.proofs.Common.{Result, Some, start_value, step_of, suc, sym, take, take_all, true}
+use Rattle.determinize_lazy.proofs.Common.{units_read}
 use Rattle.determinize_lazy.proofs.Common.{Value, zero, ℕ, ◌+◌, ◌<◌, ◌∙◌, ◌∷◌, ◌≡◌, ◌≤◌, Bool}
 use Rattle.std.proofs.Common.{add-one, eqb-true}
 use Rattle.std.proofs.Math.Nat.{mul-le-mul_right}
@@ -18,12 +20,14 @@ use Rattle.std.specs.Prelude.{◌*◌, All as Each}
 use Rattle.determinize_below.proofs.nfas.SoundNfa.{ends_within_states, length-reach}
 use Rattle.determinize_below.specs.declared.look.Look.{Look as Assertion}
 use Rattle.determinize_below.specs.declared.search.MatchKind.TheVariants.{All, LeftmostFirst}
-use Rattle.determinize_below.specs.Edges.{edges, is_capture, is_match_node, pattern_count, pattern_of, patterns_of, reach}
+use Rattle.determinize_below.specs.Edges.{edges, is_capture, is_match_node, pattern_count, pattern_of, patterns_of}
+use Rattle.determinize_below.specs.Edges.{reach}
 use Rattle.determinize_below.specs.Semantics.{Fail}
 use Rattle.determinize_core.proofs.Common.{accepted_sound, has, have_after, member, none_held, same_decides, tables_of}
 use Rattle.determinize_core.proofs.Common.{without}
 use Rattle.determinize_core.proofs.step.Resolving.{step_resolves, targets_resolve}
-use Rattle.determinize_core.specs.Step.{distinct_states, is_reopened, opened_by, patterns_read, step, targets, working_list}
+use Rattle.determinize_core.specs.Step.{distinct_states, is_reopened, opened_by, patterns_read, step, targets}
+use Rattle.determinize_core.specs.Step.{working_list}
 use Rattle.determinize_lazy.proofs.steps.Rule.{All-kept}
 use Rattle.determinize_lazy.specs.MostBytes.{most_bytes}
 use Rattle.determinize_lazy.specs.Private.Invariant.{IsSmall}

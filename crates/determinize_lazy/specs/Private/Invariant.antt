@@ -23,7 +23,7 @@ pub record IsLazy (nfa : Nfa) (kind : MatchKind) (limit computed : ℕ)
   pub resolve : All (λ (v : Value). AllResolve nfa v.states) stored.states
   pub starts : AreStarts nfa stored
 
--- a value lists at most as many patterns, and as many states, as the NFA has
+-- a value lists no more patterns than the NFA has, and no more states
 abbrev pub IsSmall : Nfa → Value → Type 0
 IsSmall nfa v =
     (length v.patterns ≤ pattern_count nfa) × (length v.states ≤ length nfa.states)

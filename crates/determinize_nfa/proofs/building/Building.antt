@@ -2,7 +2,14 @@
 -- Main statements: node_is, pushed_is, set_is, built_is, the record IsMade, made_of.
 -- Used by: `add`, `add_match`, `patch`, `close`, `build` and `build_with_prefix` of `Builder`.
 -- Idea: no state before the prefix has a transition to it, so only the skip has one to its start.
-use Rattle.determinize_nfa.proofs.Common.{BinaryUnion, Bool, BuildError, BuilderValue, ByteRange, Fail, HasPrefix, HasPrefixApart, ID_LIMIT, IsApart, IsUnfit, List, MAX_ID, Match, Nfa, Node, None, Option, OutOfMemory, Some, TooManyStates, [], ap, append_assoc, arith, built, by_cases, by_test, cases_lt, cond, failure, false, false≢true, get_or, get_or-map, inl, inr, leads_to, length, length-append, length-map, length-set, looks_of, map, map-append, map-set, nat_eq, nat_lt, nat_tests, prefixed, refl, set, subst, suc, sym, true, zero, ℕ, ◌++◌, ◌+◌, ◌-◌, ◌<◌, ◌||◌, ◌∙◌, ◌∷◌, ◌≡◌, ◌≤◌, ◌⊎◌}
+use Rattle.determinize_nfa.proofs.Common.{BinaryUnion, Bool, BuildError, BuilderValue, ByteRange, Fail, HasPrefix}
+use Rattle.determinize_nfa.proofs.Common.{HasPrefixApart, ID_LIMIT, IsApart, IsUnfit, List, MAX_ID, Match, Nfa, Node}
+use Rattle.determinize_nfa.proofs.Common.{None, Option, OutOfMemory, Some, TooManyStates, [], ap, append_assoc, arith}
+use Rattle.determinize_nfa.proofs.Common.{built, by_cases, by_test, cases_lt, cond, failure, false, false≢true}
+use Rattle.determinize_nfa.proofs.Common.{get_or, get_or-map, inl, inr, leads_to, length, length-append, length-map}
+use Rattle.determinize_nfa.proofs.Common.{length-set, looks_of, map, map-append, map-set, nat_eq, nat_lt, nat_tests}
+use Rattle.determinize_nfa.proofs.Common.{prefixed, refl, set, subst, suc, sym, true, zero, ℕ, ◌++◌, ◌+◌, ◌-◌, ◌<◌}
+use Rattle.determinize_nfa.proofs.Common.{◌||◌, ◌∙◌, ◌∷◌, ◌≡◌, ◌≤◌, ◌⊎◌}
 use Rattle.std.proofs.lemmas.Bool.{or_cases}
 use Rattle.ordered_reach.proofs.Cases.{or_false_left, or_false_right}
 use Rattle.std.specs.List.{position, position_or_len}

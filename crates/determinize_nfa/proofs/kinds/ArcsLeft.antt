@@ -2,7 +2,8 @@
 -- Main statements: left_at, list_behind.
 -- Used by: the functions of `arcs`.
 -- Idea: the first element of the rest of a list is that at the index.
-use Rattle.determinize_nfa.proofs.Common.{Arc, Bool, List, [], arith, drop, get_or, is_first, length, map, refl, suc, take, zero, ℕ, ◌+◌, ◌-◌, ◌<◌, ◌∷◌, ◌≡◌}
+use Rattle.determinize_nfa.proofs.Common.{Arc, Bool, List, [], arith, drop, get_or, is_first, length, map, refl, suc}
+use Rattle.determinize_nfa.proofs.Common.{take, zero, ℕ, ◌+◌, ◌-◌, ◌<◌, ◌∷◌, ◌≡◌}
 use Rattle.std.proofs.lemmas.List.{take_rest}
 
 pub left_at : {A : Type 0} (f : A → Arc) (xs : List A) (k : ℕ) (x : A) → k < length xs → x ≡ get_or xs k x

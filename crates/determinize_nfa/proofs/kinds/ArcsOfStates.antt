@@ -1,8 +1,15 @@
 -- The transitions of a state in one list are those that the definitions by kinds give it.
 -- Main statements: leads_is, arc_resolves, edges_are, byte_arc, arc_reads, and edge_arc, arc_leads, leads_arc.
--- Used by: Choices, and the folder reversing, which speaks of the list alone.
+-- Used by: Choices, and the folder reversing, which speaks only of the list.
 -- Idea: a case for each kind, here only; of a table the runs are as TableRuns says.
-use Rattle.determinize_nfa.proofs.Common.{All, Arc, Assertion, BinaryUnion, Bool, ByteRange, Dense, Free, In, In_cases, In_flat_map_from, In_head, In_map, In_map_from, In_none, In_tail, List, Look, Node, None, Range, Some, Sparse, Test, Transition, Union, [], ap, append-nil, arcs_of, arith, by_test, cond, edges_of, eq-eqb, eqb-true, false, flat_map, get_or, is_first, is_sparse_sound, leads_to, list_all, list_any, map, matches, nat_eq, nat_lt, nat_tests, next_of, not, refl, resolves, runs, slice_get-get_or, some_injective, suc, sym, target_of, targets_in, true, ℕ, ◌&&◌, ◌<◌, ◌∷◌, ◌≡◌, ◌≤◌}
+use Rattle.determinize_nfa.proofs.Common.{All, Arc, Assertion, BinaryUnion, Bool, ByteRange, Dense, Free, In}
+use Rattle.determinize_nfa.proofs.Common.{In_cases, In_flat_map_from, In_head, In_map, In_map_from, In_none, In_tail}
+use Rattle.determinize_nfa.proofs.Common.{List, Look, Node, None, Range, Some, Sparse, Test, Transition, Union, []}
+use Rattle.determinize_nfa.proofs.Common.{ap, append-nil, arcs_of, arith, by_test, cond, edges_of, eq-eqb, eqb-true}
+use Rattle.determinize_nfa.proofs.Common.{false, flat_map, get_or, is_first, is_sparse_sound, leads_to, list_all}
+use Rattle.determinize_nfa.proofs.Common.{list_any, map, matches, nat_eq, nat_lt, nat_tests, next_of, not, refl}
+use Rattle.determinize_nfa.proofs.Common.{resolves, runs, slice_get-get_or, some_injective, suc, sym, target_of}
+use Rattle.determinize_nfa.proofs.Common.{targets_in, true, ℕ, ◌&&◌, ◌<◌, ◌∷◌, ◌≡◌, ◌≤◌}
 use Rattle.std.proofs.Math.Bool.{or-false}
 use Rattle.std.proofs.lemmas.List.Folds.{list_all-map}
 use Rattle.determinize_below.specs.Semantics.{Capture}

@@ -2,7 +2,9 @@
 -- Main statements: look_edge_is, range_target_is, no_end.
 -- Used by: ArcsOfStates, Choices and BothWays.
 -- Idea: each is the definition of `edges_of` or of `target_of` at one kind of state.
-use Rattle.determinize_nfa.proofs.Common.{Assertion, Bool, ByteRange, In, In_cases, In_none, Look, Node, None, Option, Some, Transition, [], by_test, edges_of, matches, refl, some_injective, sym, target_of, true, ℕ, ◌≡◌}
+use Rattle.determinize_nfa.proofs.Common.{Assertion, Bool, ByteRange, In, In_cases, In_none, Look, Node, None, Option}
+use Rattle.determinize_nfa.proofs.Common.{Some, Transition, [], by_test, edges_of, matches, refl, some_injective, sym}
+use Rattle.determinize_nfa.proofs.Common.{target_of, true, ℕ, ◌≡◌}
 
 pub no_end : {P : Type 0} (s : Node) (t : ℕ) → target_of None s ≡ Some t → P
 no_end (ByteRange r) t e = absurd (let k : None ≡ Some t = e in cc)

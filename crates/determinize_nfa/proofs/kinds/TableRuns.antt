@@ -2,7 +2,11 @@
 -- Main statements: run_target, byte_run, runs_on, runs_end, length-runs.
 -- Used by: ArcsOfStates, Counts, and `run_from` of `arcs`.
 -- Idea: induction on the rest of the table; the first run has begun at an earlier byte, with the same target since.
-use Rattle.determinize_nfa.proofs.Common.{In, In_cases, In_head, In_none, In_tail, List, None, Some, Transition, [], ap, arith, by_cases, by_test, cases_lt, drop, drop-cons, eqb-true, false, false≢true, get_or, get_or_past, is_first, length, matches, nat_eq, nat_tests, refl, runs, some_injective, suc, sym, true, ℕ, ◌+◌, ◌<◌, ◌∙◌, ◌∷◌, ◌≡◌, ◌≤◌}
+use Rattle.determinize_nfa.proofs.Common.{In, In_cases, In_head, In_none, In_tail, List, None, Some, Transition, []}
+use Rattle.determinize_nfa.proofs.Common.{ap, arith, by_cases, by_test, cases_lt, drop, drop-cons, eqb-true, false}
+use Rattle.determinize_nfa.proofs.Common.{false≢true, get_or, get_or_past, is_first, length, matches, nat_eq}
+use Rattle.determinize_nfa.proofs.Common.{nat_tests, refl, runs, some_injective, suc, sym, true, ℕ, ◌+◌, ◌<◌, ◌∙◌}
+use Rattle.determinize_nfa.proofs.Common.{◌∷◌, ◌≡◌, ◌≤◌}
 use Rattle.determinize_below.specs.Transition.{dense_target}
 use Rattle.determinize_nfa.specs.Private.Arcs.{with_run}
 use Rattle.determinize_nfa.specs.Reversal.{runs_in}
@@ -114,7 +118,7 @@ byte_run ids b t e = by_test (nat_eq (get_or ids b 0) 0)
     (d.0, d.1, d.2 ∙ k, grind (arith, nat_tests)))
     (λ l. absurd (false≢true (sym z ∙ ap (λ w. nat_eq w 0) (get_or_past ids b 0 l)))))
 
--- where the next byte has the same target, the run goes on
+-- where the next byte has the same target, the run continues
 pub runs_on : (ids : List ℕ) (a b : ℕ) → b < length ids → is_first (get_or ids b 0) (drop (b + 1) ids) ≡ true
     → runs a b (drop b ids) ≡ runs a (b + 1) (drop (b + 1) ids)
 runs_on ids a b l f =

@@ -2,7 +2,9 @@
 -- Main statements: any_by, any_from, all_by, any_In.
 -- Used by: ArcsOfStates, FoundStates.
 -- Idea: induction on the list.
-use Rattle.determinize_nfa.proofs.Common.{Bool, In, In_cases, In_head, In_none, In_tail, List, [], and_parts, by_test, eqb-true, false≢true, list_all, list_any, nat_eq, or_left, or_right, true, ℕ, ◌∷◌, ◌≡◌}
+use Rattle.determinize_nfa.proofs.Common.{Bool, In, In_cases, In_head, In_none, In_tail, List, [], and_parts, by_test}
+use Rattle.determinize_nfa.proofs.Common.{eqb-true, false≢true, list_all, list_any, nat_eq, or_left, or_right, true}
+use Rattle.determinize_nfa.proofs.Common.{ℕ, ◌∷◌, ◌≡◌}
 
 pub any_by : {A : Type 0} (p : A → Bool) (x : A) (xs : List A) → In x xs → p x ≡ true → list_any p xs ≡ true
 any_by p x [] k e = In_none x k

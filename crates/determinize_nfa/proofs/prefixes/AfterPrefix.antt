@@ -4,7 +4,12 @@
 -- Used by: PreferredRun and the laws of idle scans.
 -- Idea: only the skip has a transition to the start, and it reads a byte, so of the pairs that a run has visited only
 -- those of the prefix lie in the way (VisitedNodes).
-use Rattle.determinize_nfa.proofs.Common.{All, All_at, Assertion, BinaryUnion, Bool, ByteRange, HasPrefix, In, In_cases, IsPath, List, Nfa, None, Some, Text, [], ap, arith, by_cases, by_option, eq-eqb, eqb-true, get_or, inl, inr, leads_to, length, matches, nat_eq, or_left, path_stays, pattern_of, refl, same_pairs, slice_get, slice_get-get_or, slice_get_within, some_injective, state_at, suc, sym, true, zero, ℕ, ◌+◌, ◌<◌, ◌∙◌, ◌∷◌, ◌≡◌, ◌≤◌, ◌⊎◌}
+use Rattle.determinize_nfa.proofs.Common.{All, All_at, Assertion, BinaryUnion, Bool, ByteRange, HasPrefix, In}
+use Rattle.determinize_nfa.proofs.Common.{In_cases, IsPath, List, Nfa, None, Some, Text, [], ap, arith, by_cases}
+use Rattle.determinize_nfa.proofs.Common.{by_option, eq-eqb, eqb-true, get_or, inl, inr, leads_to, length, matches}
+use Rattle.determinize_nfa.proofs.Common.{nat_eq, or_left, path_stays, pattern_of, refl, same_pairs, slice_get}
+use Rattle.determinize_nfa.proofs.Common.{slice_get-get_or, slice_get_within, some_injective, state_at, suc, sym}
+use Rattle.determinize_nfa.proofs.Common.{true, zero, ℕ, ◌+◌, ◌<◌, ◌∙◌, ◌∷◌, ◌≡◌, ◌≤◌, ◌⊎◌}
 use Rattle.std.specs.Prelude.{Contains}
 use Rattle.std.proofs.lemmas.Bool.{or_cases}
 use Rattle.ordered_reach.proofs.lists.Elements.{Contains_In}

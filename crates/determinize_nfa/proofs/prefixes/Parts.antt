@@ -2,7 +2,11 @@
 -- Main statements: state_is, start_is, any_read, the two directions, and Decides-apart.
 -- Used by: `has_prefix` and `has_prefix_apart`.
 -- Idea: each part of `HasPrefix` is an equation of states, which the code decides by comparing their targets and bytes.
-use Rattle.determinize_nfa.proofs.Common.{BinaryUnion, Bool, ByteRange, Decides, Fail, HasPrefix, HasPrefixApart, IsAccepted, Nfa, Node, Some, Transition, and_parts, ap, eq-eqb, eqb-true, false, false≢true, get_or_from_slice_get, leads_to, length, nat_eq, or_left, or_right, refl, slice_get, state_at, sym, true, ℕ, ◌&&◌, ◌<◌, ◌||◌, ◌∙◌, ◌≡◌}
+use Rattle.determinize_nfa.proofs.Common.{BinaryUnion, Bool, ByteRange, Decides, Fail, HasPrefix, HasPrefixApart}
+use Rattle.determinize_nfa.proofs.Common.{IsAccepted, Nfa, Node, Some, Transition, and_parts, ap, eq-eqb, eqb-true}
+use Rattle.determinize_nfa.proofs.Common.{false, false≢true, get_or_from_slice_get, leads_to, length, nat_eq, or_left}
+use Rattle.determinize_nfa.proofs.Common.{or_right, refl, slice_get, state_at, sym, true, ℕ, ◌&&◌, ◌<◌, ◌||◌, ◌∙◌}
+use Rattle.determinize_nfa.proofs.Common.{◌≡◌}
 use Rattle.determinize_below.proofs.nfas.SoundNfa.{accepted_sound}
 use Rattle.determinize_nfa.specs.Private.AnyByte.{passes_any, second_or}
 

@@ -3,7 +3,13 @@
 -- Used by: MadeNfa.
 -- Idea: each step of one NFA is one or two steps of the other at the mirrored position (Mirrors), and a walk gives a
 -- loop-free run (LoopFree).
-use Rattle.determinize_nfa.proofs.Common.{AcceptsFrom, Assertion, Bool, ByteRange, Free, In, In_none, IsReverseOf, List, Look, Match, Nfa, Node, None, Range, Some, Test, Text, Transition, Turned, Union, [], after_at, ap, arith, before_at, by_cases, by_option, choices, edges_of, inl, inr, length, matches, not, path_stays, pattern_in, pattern_of, range_to, refl, reversed, reversed_twice, same_pairs, slice_get, sources, state_at, states_of, suc, sym, target_of, true, true_edges, truth, turned, upto, zero, ℕ, ◌+◌, ◌-◌, ◌<◌, ◌∙◌, ◌∷◌, ◌≡◌, ◌≤◌, ◌⊎◌}
+use Rattle.determinize_nfa.proofs.Common.{AcceptsFrom, Assertion, Bool, ByteRange, Free, In, In_none, IsReverseOf}
+use Rattle.determinize_nfa.proofs.Common.{List, Look, Match, Nfa, Node, None, Range, Some, Test, Text, Transition}
+use Rattle.determinize_nfa.proofs.Common.{Turned, Union, [], after_at, ap, arith, before_at, by_cases, by_option}
+use Rattle.determinize_nfa.proofs.Common.{choices, edges_of, inl, inr, length, matches, not, path_stays, pattern_in}
+use Rattle.determinize_nfa.proofs.Common.{pattern_of, range_to, refl, reversed, reversed_twice, same_pairs, slice_get}
+use Rattle.determinize_nfa.proofs.Common.{sources, state_at, states_of, suc, sym, target_of, true, true_edges, truth}
+use Rattle.determinize_nfa.proofs.Common.{turned, upto, zero, ℕ, ◌+◌, ◌-◌, ◌<◌, ◌∙◌, ◌∷◌, ◌≡◌, ◌≤◌, ◌⊎◌}
 use Rattle.determinize_below.specs.Semantics.{Accepts}
 use Rattle.determinize_below.proofs.nfas.SoundNfa.{match_in}
 use Rattle.determinize_below.proofs.looks.ReversedLooks.{reversed_holds}
@@ -11,7 +17,9 @@ use Rattle.determinize_nfa.specs.Reversal.{IsMirrored}
 use Rattle.determinize_nfa.proofs.kinds.ArcsOfStates.{byte_arc, edge_arc}
 use Rattle.determinize_nfa.proofs.kinds.OneArc.{look_edge, look_edge_is, no_end, range_target, range_target_is}
 use Rattle.determinize_nfa.proofs.runs.Choices.{byte_choice, choice_cases, choice_later, choice_leads, free_choice}
-use Rattle.determinize_nfa.proofs.reversing.StatesById.{IsLaid, edges-gathered, edge_within, laid_out, pattern-gathered, pattern_within, sources_within, target-gathered, target_within}
+use Rattle.determinize_nfa.proofs.reversing.StatesById.{IsLaid, edges-gathered, edge_within, laid_out}
+use Rattle.determinize_nfa.proofs.reversing.StatesById.{pattern-gathered, pattern_within, sources_within}
+use Rattle.determinize_nfa.proofs.reversing.StatesById.{target-gathered, target_within}
 use Rattle.determinize_nfa.proofs.runs.Mirrors.{each_reading_is_mirrored}
 use Rattle.determinize_nfa.proofs.reversing.Recorded.{IsArc, IsRecorded, IsSource}
 use Rattle.ordered_reach.specs.Walks.{IsGraphWalk}

@@ -2,7 +2,15 @@
 -- Main statements: length-states, length-states_most, room_arc, room_node.
 -- Used by: the clauses `size` of `reversed` and `err` of the functions of `Turned`.
 -- Idea: each reached state adds the number that `reads_in` counts, and each state is reached once.
-use Rattle.determinize_nfa.proofs.Common.{Arc, BuildError, Dense, Fail, Free, ID_LIMIT, IsDistinct, IsTooLarge, List, Look, Match, Nfa, Node, Range, Some, Sparse, Test, Transition, Turned, Union, [], added, ap, append-nil, append_assoc, arcs_of, arith, by_cases, drop, drop-cons, eq-eqb, false, false≢true, flat_map, gathered, get_or, get_or-set_other, inl, inr, length, length-append, length-map, map, most_states, nat_eq, none_turned, range_to, refl, reversed, runs, set, slice_get, state_at, states_of, suc, sym, total, turned_over, with_arc, with_arcs, with_end, with_node, with_nodes, zero, ℕ, ◌++◌, ◌+◌, ◌<◌, ◌∙◌, ◌∷◌, ◌≡◌, ◌≤◌}
+use Rattle.determinize_nfa.proofs.Common.{Arc, BuildError, Dense, Fail, Free, ID_LIMIT, IsDistinct, IsTooLarge, List}
+use Rattle.determinize_nfa.proofs.Common.{Look, Match, Nfa, Node, Range, Some, Sparse, Test, Transition, Turned}
+use Rattle.determinize_nfa.proofs.Common.{Union, [], added, ap, append-nil, append_assoc, arcs_of, arith, by_cases}
+use Rattle.determinize_nfa.proofs.Common.{drop, drop-cons, eq-eqb, false, false≢true, flat_map, gathered, get_or}
+use Rattle.determinize_nfa.proofs.Common.{get_or-set_other, inl, inr, length, length-append, length-map, map}
+use Rattle.determinize_nfa.proofs.Common.{most_states, nat_eq, none_turned, range_to, refl, reversed, runs, set}
+use Rattle.determinize_nfa.proofs.Common.{slice_get, state_at, states_of, suc, sym, total, turned_over, with_arc}
+use Rattle.determinize_nfa.proofs.Common.{with_arcs, with_end, with_node, with_nodes, zero, ℕ, ◌++◌, ◌+◌, ◌<◌, ◌∙◌}
+use Rattle.determinize_nfa.proofs.Common.{◌∷◌, ◌≡◌, ◌≤◌}
 use Rattle.std.specs.List.{AllByRecursion, sum_by}
 use Rattle.std.proofs.lemmas.List.Concat.{length-flat_map}
 use Rattle.std.proofs.lemmas.List.Sums.{sum_by-cons}
@@ -12,7 +20,7 @@ use Rattle.determinize_nfa.proofs.kinds.TableRuns.{length-runs}
 use Rattle.determinize_nfa.proofs.prefixes.Parts.{state_is}
 use Rattle.determinize_nfa.proofs.reversing.Steps.{IsOver, count-arcs, count-nodes}
 
--- what a transition from the state s becomes: a state, or none
+-- the state that a transition from the state s becomes, if it becomes one
 abbrev pub back : ℕ → Arc → List Node
 back s (Range r) = range_to s r ∷ []
 back s (Test look next) = Look (reversed look) s ∷ []

@@ -3,7 +3,13 @@
 -- Used by: `reached`.
 -- Idea: the targets of the states visited so far are in the list, which has no element twice and so cannot grow for
 -- ever.
-use Rattle.determinize_nfa.proofs.Common.{All, All_at, In, In_append_left, In_append_right, In_cases, In_head, In_map_from, In_none, In_tail, IsAccepted, IsClosed, IsDistinct, List, Nfa, Node, None, Some, [], all_visited, ap, append-nil, append_assoc, arcs_of, arith, by_cases, by_test, cases_lt, each_passes, get_or, leads_to, length, nat_eq, next_of, refl, slice_get, slice_get-get_or, slice_get_within, some_injective, state_at, sym, targets_in, true, ℕ, ◌++◌, ◌+◌, ◌<◌, ◌∙◌, ◌∷◌, ◌≡◌, ◌≤◌}
+use Rattle.determinize_nfa.proofs.Common.{All, All_at, In, In_append_left, In_append_right, In_cases, In_head}
+use Rattle.determinize_nfa.proofs.Common.{In_map_from, In_none, In_tail, IsAccepted, IsClosed, IsDistinct, List, Nfa}
+use Rattle.determinize_nfa.proofs.Common.{Node, None, Some, [], all_visited, ap, append-nil, append_assoc, arcs_of}
+use Rattle.determinize_nfa.proofs.Common.{arith, by_cases, by_test, cases_lt, each_passes, get_or, leads_to, length}
+use Rattle.determinize_nfa.proofs.Common.{nat_eq, next_of, refl, slice_get, slice_get-get_or, slice_get_within}
+use Rattle.determinize_nfa.proofs.Common.{some_injective, state_at, sym, targets_in, true, ℕ, ◌++◌, ◌+◌, ◌<◌, ◌∙◌}
+use Rattle.determinize_nfa.proofs.Common.{◌∷◌, ◌≡◌, ◌≤◌}
 use Rattle.std.proofs.lemmas.List.Elements.{All-append, All-cons, All-nil}
 use Rattle.std.proofs.lemmas.Map.Steps.{length-le_from_distinct_below}
 use Rattle.determinize_below.specs.Members.{has_id}

@@ -3,7 +3,11 @@
 -- Used by: `reversed`.
 -- Idea: the loop has recorded each state that is reached (RecordedStates), so both directions of runs (BothWays) and
 -- the validation (Validation) apply.
-use Rattle.determinize_nfa.proofs.Common.{All, All_at, BuildError, ID_LIMIT, In, IsAccepted, IsClosed, IsDistinct, IsReverseOf, IsTooLarge, List, Match, Nfa, Node, OutOfMemory, Some, Turned, [], ap, arith, by_cases, failure, filter, inl, inr, is_match_node, length, most_states, nat_eq, states_of, suc, sym, turned_over, ℕ, ◌<◌, ◌∙◌, ◌∷◌, ◌≡◌, ◌⊎◌}
+use Rattle.determinize_nfa.proofs.Common.{All, All_at, BuildError, ID_LIMIT, In, IsAccepted, IsClosed, IsDistinct}
+use Rattle.determinize_nfa.proofs.Common.{IsReverseOf, IsTooLarge, List, Match, Nfa, Node, OutOfMemory, Some, Turned}
+use Rattle.determinize_nfa.proofs.Common.{[], ap, arith, by_cases, failure, filter, inl, inr, is_match_node, length}
+use Rattle.determinize_nfa.proofs.Common.{most_states, nat_eq, states_of, suc, sym, turned_over, ℕ, ◌<◌, ◌∙◌, ◌∷◌}
+use Rattle.determinize_nfa.proofs.Common.{◌≡◌, ◌⊎◌}
 use Rattle.determinize_nfa.proofs.reversing.Recorded.{IsRecorded}
 use Rattle.determinize_nfa.proofs.reversing.BothWays.{IsMadeOf, made_reverse}
 use Rattle.determinize_nfa.proofs.reversing.Counts.{length-states, length-states_most, rest_over}

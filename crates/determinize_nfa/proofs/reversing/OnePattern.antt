@@ -2,7 +2,9 @@
 -- Main statements: one_match.
 -- Used by: MadeNfa.
 -- Idea: a state that gathers has no pattern, nor has one that reads a byte or tests an assertion.
-use Rattle.determinize_nfa.proofs.Common.{In, In_head, In_tail, List, Match, Node, None, Turned, Union, [], ap, filter, gathered, is_match_node, map, pattern_in, refl, states_of, ℕ, ◌++◌, ◌∙◌, ◌∷◌, ◌≡◌}
+use Rattle.determinize_nfa.proofs.Common.{In, In_head, In_tail, List, Match, Node, None, Turned, Union, [], ap}
+use Rattle.determinize_nfa.proofs.Common.{filter, gathered, is_match_node, map, pattern_in, refl, states_of, ℕ, ◌++◌}
+use Rattle.determinize_nfa.proofs.Common.{◌∙◌, ◌∷◌, ◌≡◌}
 use Rattle.std.proofs.lemmas.List.Elements.{filter-append}
 use Rattle.determinize_nfa.proofs.reversing.StatesById.{pattern-gathered}
 

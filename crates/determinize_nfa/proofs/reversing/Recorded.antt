@@ -2,7 +2,13 @@
 -- Main statements: the records IsSound, HasNode and IsRecorded, grown_then, node_stays.
 -- Used by: all of this folder.
 -- Idea: what is recorded only grows, and an entry keeps its place, so a fact of one entry stays true.
-use Rattle.determinize_nfa.proofs.Common.{Arc, Assertion, Bool, ByteRange, Free, In, In_append_cases, In_append_left, In_append_right, In_cases, In_head, In_none, IsClosed, List, Look, Nfa, Node, Range, Some, Test, Turned, [], added, ap, arcs_of, arith, by_cases, edges_of, get_or, get_or-set_other, inl, inr, length, length-set, matches, pattern_in, pattern_of, range_to, refl, reversed, slice_get, sources, state_at, suc, target_of, true, with_state, zero, ℕ, ◌++◌, ◌+◌, ◌<◌, ◌∙◌, ◌∷◌, ◌≡◌, ◌⊎◌}
+use Rattle.determinize_nfa.proofs.Common.{Arc, Assertion, Bool, ByteRange, Free, In, In_append_cases, In_append_left}
+use Rattle.determinize_nfa.proofs.Common.{In_append_right, In_cases, In_head, In_none, IsClosed, List, Look, Nfa}
+use Rattle.determinize_nfa.proofs.Common.{Node, Range, Some, Test, Turned, [], added, ap, arcs_of, arith, by_cases}
+use Rattle.determinize_nfa.proofs.Common.{edges_of, get_or, get_or-set_other, inl, inr, length, length-set, matches}
+use Rattle.determinize_nfa.proofs.Common.{pattern_in, pattern_of, range_to, refl, reversed, slice_get, sources}
+use Rattle.determinize_nfa.proofs.Common.{state_at, suc, target_of, true, with_state, zero, ℕ, ◌++◌, ◌+◌, ◌<◌, ◌∙◌}
+use Rattle.determinize_nfa.proofs.Common.{◌∷◌, ◌≡◌, ◌⊎◌}
 use Rattle.std.specs.Prelude.{slice_set}
 use Rattle.std.proofs.lemmas.Bool.{cases_eq}
 use Rattle.std.proofs.lemmas.List.{get_or-set_same}

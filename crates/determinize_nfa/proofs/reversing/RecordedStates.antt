@@ -3,10 +3,20 @@
 -- Used by: MadeNfa.
 -- Idea: induction on the list of the transitions; each adds its target to what was recorded, and what was there stays
 -- (Recorded).
-use Rattle.determinize_nfa.proofs.Common.{Arc, Assertion, Bool, Fail, Free, In, In_append_cases, In_append_left, In_append_right, In_cases, In_head, In_none, In_tail, IsAccepted, IsClosed, List, Look, Match, Nfa, Node, None, Range, Some, Test, Turned, [], added, ap, arcs_of, arith, by_cases, cases_lt, each_passes, edges_of, get_or_past, inl, inr, is_sparse_sound, length, length-replicate, next_of, none_turned, pattern_in, range_to, refl, replicate, reversed, reversed_twice, slice_get-get_or, sources, state_at, true, turned_over, with_arc, with_arcs, with_end, with_node, with_nodes, with_state, ℕ, ◌<◌, ◌∷◌, ◌≡◌}
+use Rattle.determinize_nfa.proofs.Common.{Arc, Assertion, Bool, Fail, Free, In, In_append_cases, In_append_left}
+use Rattle.determinize_nfa.proofs.Common.{In_append_right, In_cases, In_head, In_none, In_tail, IsAccepted, IsClosed}
+use Rattle.determinize_nfa.proofs.Common.{List, Look, Match, Nfa, Node, None, Range, Some, Test, Turned, [], added}
+use Rattle.determinize_nfa.proofs.Common.{ap, arcs_of, arith, by_cases, cases_lt, each_passes, edges_of, get_or_past}
+use Rattle.determinize_nfa.proofs.Common.{inl, inr, is_sparse_sound, length, length-replicate, next_of, none_turned}
+use Rattle.determinize_nfa.proofs.Common.{pattern_in, range_to, refl, replicate, reversed, reversed_twice}
+use Rattle.determinize_nfa.proofs.Common.{slice_get-get_or, sources, state_at, true, turned_over, with_arc, with_arcs}
+use Rattle.determinize_nfa.proofs.Common.{with_end, with_node, with_nodes, with_state, ℕ, ◌<◌, ◌∷◌, ◌≡◌}
 use Rattle.std.proofs.lemmas.List.{get_or-replicate}
 use Rattle.determinize_nfa.proofs.kinds.ArcsOfStates.{arc_reads, arc_resolves, free_edge, test_edge}
-use Rattle.determinize_nfa.proofs.reversing.Recorded.{HasArc, HasNode, HasState, IsArc, IsGrown, IsRecorded, IsSource, IsSound, arc_stays, grown_added, grown_self, grown_state, grown_then, node_stays, sound_added, sound_state, there_added, there_state}
+use Rattle.determinize_nfa.proofs.reversing.Recorded.{HasArc, HasNode, HasState, IsArc, IsGrown, IsRecorded, IsSource}
+use Rattle.determinize_nfa.proofs.reversing.Recorded.{IsSound, arc_stays, grown_added, grown_self, grown_state}
+use Rattle.determinize_nfa.proofs.reversing.Recorded.{grown_then, node_stays, sound_added, sound_state, there_added}
+use Rattle.determinize_nfa.proofs.reversing.Recorded.{there_state}
 
 -- what one record of transitions is to a later one
 record IsMore (nfa : Nfa) (old new : Turned) : Type 0 where

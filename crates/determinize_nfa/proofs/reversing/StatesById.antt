@@ -2,7 +2,11 @@
 -- Main statements: laid_out, edges-gathered, target-gathered, sources_within.
 -- Used by: BothWays and Validation.
 -- Idea: a state that gathers has the same edges whichever kind it is, and ids are places in a list of four parts.
-use Rattle.determinize_nfa.proofs.Common.{Assertion, Bool, Fail, In, In_none, List, Match, Nfa, Node, None, Option, Some, Turned, Union, [], ap, arith, by_cases, cases_lt, edges_of, gathered, get_or, get_or_from_slice_get, length, map, pattern_in, pattern_of, refl, slice_get, sources, state_at, states_of, suc, sym, target_of, zero, ℕ, ◌+◌, ◌<◌, ◌∙◌, ◌∷◌, ◌≡◌, length-map}
+use Rattle.determinize_nfa.proofs.Common.{Assertion, Bool, Fail, In, In_none, List, Match, Nfa, Node, None, Option}
+use Rattle.determinize_nfa.proofs.Common.{Some, Turned, Union, [], ap, arith, by_cases, cases_lt, edges_of, gathered}
+use Rattle.determinize_nfa.proofs.Common.{get_or, get_or_from_slice_get, length, map, pattern_in, pattern_of, refl}
+use Rattle.determinize_nfa.proofs.Common.{slice_get, sources, state_at, states_of, suc, sym, target_of, zero, ℕ, ◌+◌}
+use Rattle.determinize_nfa.proofs.Common.{◌<◌, ◌∙◌, ◌∷◌, ◌≡◌, length-map}
 use Rattle.std.proofs.Math.ListN.{get_or-map}
 use Rattle.std.proofs.lemmas.List.{get_or-append-add, get_or_append_left}
 use Rattle.determinize_below.proofs.nfas.Edges.{state_past}

@@ -2,7 +2,12 @@
 -- Main statements: added_is, ended, count-arc, count-arcs, over_start, over_more, over_all.
 -- Used by: `add`, `add_nodes` and `end_states` of the reversal.
 -- Idea: a push to one list of a list of lists is the definition of `added`.
-use Rattle.determinize_nfa.proofs.Common.{Arc, Free, List, Match, Nfa, Node, Range, Some, Test, Turned, [], added, ap, append_assoc, arcs_of, arith, drop, drop-cons, get_or, get_or-map, length, length-replicate, length-set, map, map-append, map-set, none_turned, refl, replicate, set, slice_get, sources, state_at, suc, sym, turned_over, with_arc, with_arcs, with_end, with_node, with_nodes, ℕ, ◌++◌, ◌+◌, ◌<◌, ◌∙◌, ◌∷◌, ◌≡◌, ◌≤◌}
+use Rattle.determinize_nfa.proofs.Common.{Arc, Free, List, Match, Nfa, Node, Range, Some, Test, Turned, [], added, ap}
+use Rattle.determinize_nfa.proofs.Common.{append_assoc, arcs_of, arith, drop, drop-cons, get_or, get_or-map, length}
+use Rattle.determinize_nfa.proofs.Common.{length-replicate, length-set, map, map-append, map-set, none_turned, refl}
+use Rattle.determinize_nfa.proofs.Common.{replicate, set, slice_get, sources, state_at, suc, sym, turned_over}
+use Rattle.determinize_nfa.proofs.Common.{with_arc, with_arcs, with_end, with_node, with_nodes, ℕ, ◌++◌, ◌+◌, ◌<◌}
+use Rattle.determinize_nfa.proofs.Common.{◌∙◌, ◌∷◌, ◌≡◌, ◌≤◌}
 use Rattle.std.proofs.Math.ListN.{drop_of_length-le}
 use Rattle.std.specs.Prelude.{OnOk, if◌then◌else◌, is_ok}
 use Rattle.std.proofs.Common.{Err, Ok, Result}

@@ -2,7 +2,14 @@
 -- Main statements: each_plain, plain_before, over the record IsPlain.
 -- Used by: MadeNfa.
 -- Idea: all ids are below the count, no state is sparse or dense, and only one is a match.
-use Rattle.determinize_nfa.proofs.Common.{Arc, Bool, BuildError, Free, ID_LIMIT, In, In_append_cases, In_cases, In_flat_map_from, In_head, In_map_from, In_none, In_tail, List, Look, Match, Nfa, Node, None, Option, Range, Some, Test, TooManyStates, Turned, Union, [], ap, arcs_of, arith, by_cases, by_test, cond, failure, false, gathered, get_or_from_slice_get, length, list_all, list_any, map, nat_lt, nat_tests, not, option_or, pattern_in, range_to, refl, reversed, slice_get_within, some_injective, sources, state_at, states_of, suc, sym, true, ℕ, ◌&&◌, ◌++◌, ◌+◌, ◌<◌, ◌||◌, ◌∙◌, ◌∷◌, ◌≡◌}
+use Rattle.determinize_nfa.proofs.Common.{Arc, Bool, BuildError, Free, ID_LIMIT, In, In_append_cases, In_cases}
+use Rattle.determinize_nfa.proofs.Common.{In_flat_map_from, In_head, In_map_from, In_none, In_tail, List, Look, Match}
+use Rattle.determinize_nfa.proofs.Common.{Nfa, Node, None, Option, Range, Some, Test, TooManyStates, Turned, Union}
+use Rattle.determinize_nfa.proofs.Common.{[], ap, arcs_of, arith, by_cases, by_test, cond, failure, false, gathered}
+use Rattle.determinize_nfa.proofs.Common.{get_or_from_slice_get, length, list_all, list_any, map, nat_lt, nat_tests}
+use Rattle.determinize_nfa.proofs.Common.{not, option_or, pattern_in, range_to, refl, reversed, slice_get_within}
+use Rattle.determinize_nfa.proofs.Common.{some_injective, sources, state_at, states_of, suc, sym, true, ℕ, ◌&&◌, ◌++◌}
+use Rattle.determinize_nfa.proofs.Common.{◌+◌, ◌<◌, ◌||◌, ◌∙◌, ◌∷◌, ◌≡◌}
 use Rattle.std.proofs.lemmas.Bool.{and_from}
 use Rattle.std.proofs.lemmas.List.Folds.{list_any-append}
 use Rattle.determinize_below.specs.Nfa.{failure_of, is_match_of, is_repeated, state_failure, states_failure}

@@ -3,7 +3,11 @@
 -- Main statements: choice_cases, choice_later, choice_leads, and the same under any assertions (choices_under).
 -- Used by: all that follows a run step by step.
 -- Idea: the choices at a pair are the byte transitions, then the epsilon ones (`run_edges`).
-use Rattle.determinize_nfa.proofs.Common.{Assertion, Bool, Free, In, In_append_cases, In_append_left, In_append_right, In_cases, In_map, In_map_from, In_none, List, Nfa, Node, None, Option, Range, Some, Test, Text, [], after_at, ap, arith, before_at, byte_edges, choices, edges, edges_of, leads_to, map, placed, refl, slice_get, state_at, suc, target_of, true, true_edges, truth, ℕ, ◌≡◌, ◌≤◌}
+use Rattle.determinize_nfa.proofs.Common.{Assertion, Bool, Free, In, In_append_cases, In_append_left, In_append_right}
+use Rattle.determinize_nfa.proofs.Common.{In_cases, In_map, In_map_from, In_none, List, Nfa, Node, None, Option}
+use Rattle.determinize_nfa.proofs.Common.{Range, Some, Test, Text, [], after_at, ap, arith, before_at, byte_edges}
+use Rattle.determinize_nfa.proofs.Common.{choices, edges, edges_of, leads_to, map, placed, refl, slice_get, state_at}
+use Rattle.determinize_nfa.proofs.Common.{suc, target_of, true, true_edges, truth, ℕ, ◌≡◌, ◌≤◌}
 use Rattle.std.specs.Option.{option_to_list}
 use Rattle.ordered_reach.specs.Runs.{run_edges}
 use Rattle.determinize_nfa.proofs.kinds.ArcsOfStates.{arc_leads, byte_arc, edge_arc}

@@ -2,7 +2,10 @@
 -- Main statements: each_run_moves, each_run_reads_forward.
 -- Used by: `laws::shift_law`, and anchored searches from a later index.
 -- Idea: positions of the rest are positions of the text, so much later, and see the same units (PathMaps).
-use Rattle.determinize_nfa.proofs.Common.{AcceptsFrom, IsPath, List, Nfa, Text, [], after_at, ap, arith, before_at, byte_edges, choices, drop, edges, map, map-append, option_or, placed, refl, same_pairs, slice_get, suc, sym, target, true_edges, truth, zero, ℕ, ◌++◌, ◌+◌, ◌∙◌, ◌∷◌, ◌≡◌, ◌≤◌}
+use Rattle.determinize_nfa.proofs.Common.{AcceptsFrom, IsPath, List, Nfa, Text, [], after_at, ap, arith, before_at}
+use Rattle.determinize_nfa.proofs.Common.{byte_edges, choices, drop, edges, map, map-append, option_or, placed, refl}
+use Rattle.determinize_nfa.proofs.Common.{same_pairs, slice_get, suc, sym, target, true_edges, truth, zero, ℕ, ◌++◌}
+use Rattle.determinize_nfa.proofs.Common.{◌+◌, ◌∙◌, ◌∷◌, ◌≡◌, ◌≤◌}
 use Rattle.determinize_nfa.specs.Laws.{EachRunReadsForward, EachRunMoves}
 use Rattle.determinize_nfa.specs.Runs.{since}
 use Rattle.determinize_nfa.proofs.runs.Choices.{choice_later}

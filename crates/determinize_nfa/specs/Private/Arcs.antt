@@ -1,4 +1,4 @@
--- The transitions of a state in one list, whatever its kind.
+-- The transitions of a state of any kind, in one list.
 use Rattle.std.specs.Prelude.{◌≡◌, ◌∷◌, ℕ, List, None, Option, Some, [], cond, drop, map, nat_eq, suc}
 use Rattle.determinize_below.specs.Semantics.{Node, BinaryUnion, ByteRange, Capture, Dense, Look, Sparse, Union}
 use Rattle.determinize_below.specs.declared.nfa.transitions.Transition.{Transition}

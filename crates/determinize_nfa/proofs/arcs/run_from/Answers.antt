@@ -1,4 +1,5 @@
-use Rattle.determinize_nfa.proofs.Common.{false, get_or, get_or_default_zero, length, nat_eq, refl, rules, sym, true, ◌<◌, ◌∙◌, ◌≡◌}
+use Rattle.determinize_nfa.proofs.Common.{false, get_or, get_or_default_zero, length, nat_eq, refl, rules, sym, true}
+use Rattle.determinize_nfa.proofs.Common.{◌<◌, ◌∙◌, ◌≡◌}
 use Rattle.determinize_nfa.proofs.kinds.ArcsLeft.{list_behind}
 use Rattle.determinize_nfa.proofs.kinds.TableRuns.{runs_end, runs_on}
 use Rattle.determinize_nfa.proofs.arcs.run_from.Goals as goal

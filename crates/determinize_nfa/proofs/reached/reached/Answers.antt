@@ -1,4 +1,5 @@
-use Rattle.determinize_nfa.proofs.Common.{None, Some, all_visited, ap, arith, each_passes, length, node_of, rules, slice_get, sym, targets_in, ◌<◌, ◌∙◌, ◌≡◌}
+use Rattle.determinize_nfa.proofs.Common.{None, Some, all_visited, ap, arith, each_passes, length, node_of, rules}
+use Rattle.determinize_nfa.proofs.Common.{slice_get, sym, targets_in, ◌<◌, ◌∙◌, ◌≡◌}
 use Rattle.determinize_below.specs.Members.{Members}
 use Rattle.determinize_nfa.proofs.reversing.FoundStates.{found_all, found_index, found_more, found_start}
 use Rattle.determinize_nfa.proofs.reached.reached.Goals as goal

@@ -1,4 +1,5 @@
-use Rattle.determinize_nfa.proofs.Common.{arith, gathered, length, length-map, map, node_of, none_left, one_more, refl, ◌≡◌}
+use Rattle.determinize_nfa.proofs.Common.{arith, gathered, length, length-map, map, node_of, none_left, one_more}
+use Rattle.determinize_nfa.proofs.Common.{refl, ◌≡◌}
 use Rattle.determinize_nfa.proofs.reversal.gathered_all.Goals as goal
 
 pub loop-alternates-init : goal.loop-alternates-init

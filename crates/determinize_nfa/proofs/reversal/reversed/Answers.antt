@@ -1,4 +1,6 @@
-use Rattle.determinize_nfa.proofs.Common.{IfErr-weaker, IfOk-weaker, Nfa, ap, arith, if_err_and, inl, length, looks_of, map, most_states, node_of, not, states_of, suc, sym, ◌+◌, ◌<◌, ◌∙◌, ◌≡◌}
+use Rattle.determinize_nfa.proofs.Common.{IfErr-weaker, IfOk-weaker, Nfa, ap, arith, if_err_and, inl, length}
+use Rattle.determinize_nfa.proofs.Common.{looks_of, map, most_states, node_of, not, states_of, suc, sym, ◌+◌, ◌<◌}
+use Rattle.determinize_nfa.proofs.Common.{◌∙◌, ◌≡◌}
 use Rattle.determinize_nfa.proofs.Limits.{too_many}
 use Rattle.determinize_nfa.proofs.reversing.MadeNfa.{made_error, made_match, made_of_all}
 use Rattle.determinize_nfa.proofs.reversing.BothWays.{IsMadeOf}

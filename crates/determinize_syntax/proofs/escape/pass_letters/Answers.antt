@@ -5,7 +5,8 @@ use Rattle.determinize_syntax.specs.Private.Reading.{Reads}
 use Rattle.determinize_syntax.specs.declared.cursor.Cursor.{Cursor}
 use Rattle.determinize_syntax.proofs.Munch.{all_more}
 use Rattle.determinize_syntax.proofs.Parts.{Ended, closed, renamed}
-use Rattle.determinize_syntax.proofs.escape.pass_letters.Goals.{then-not-is_in_boundary-via-then-not-is_in_boundary, then-not-is_in_boundary-via-else-not-is_in_boundary+then-not-take}
+use Rattle.determinize_syntax.proofs.escape.pass_letters.Goals.{then-not-is_in_boundary-via-then-not-is_in_boundary}
+use Rattle.determinize_syntax.proofs.escape.pass_letters.Goals.{then-not-is_in_boundary-via-else-not-is_in_boundary+then-not-take}
 use Rattle.determinize_syntax.proofs.escape.pass_letters.Goals as goal
 
 pub loop-next-preserved : goal.loop-next-preserved

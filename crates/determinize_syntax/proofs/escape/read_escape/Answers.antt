@@ -15,7 +15,8 @@ use Rattle.determinize_syntax.specs.declared.escape.Escape.TheVariants as escape
 use Rattle.determinize_syntax.proofs.Hexes.{escape_after, letters_apart, look_apart, look_at, look_begun, look_perl}
 use Rattle.determinize_syntax.proofs.Parts.{at_end}
 use Rattle.determinize_syntax.proofs.Stepping.{heads, passed_on, tails}
-use Rattle.determinize_syntax.proofs.escape.read_escape.Goals.{in_default-perl_kind-via-in-Some-perl_kind+else-take-2, in_default-perl_kind-via-in_default-perl_kind}
+use Rattle.determinize_syntax.proofs.escape.read_escape.Goals.{in_default-perl_kind-via-in-Some-perl_kind+else-take-2}
+use Rattle.determinize_syntax.proofs.escape.read_escape.Goals.{in_default-perl_kind-via-in_default-perl_kind}
 use Rattle.determinize_syntax.proofs.escape.read_escape.Goals as goal
 
 pub returns-in-Some-escaped-clause-read : goal.returns-in-Some-escaped-clause-read

@@ -5,10 +5,13 @@ use Rattle.determinize_syntax.proofs.Parts.{setting_read}
 use Rattle.ordered_reach.proofs.Cases.{by_cases}
 use Rattle.determinize_syntax.specs.Private.Following.{FromItem}
 use Rattle.determinize_syntax.specs.Private.Letters.{Letters}
-use Rattle.determinize_syntax.proofs.Flagging.{next_setting, no_setting, other_setting, set_or_group, setting_closed, setting_none}
+use Rattle.determinize_syntax.proofs.Flagging.{next_setting, no_setting, other_setting, set_or_group, setting_closed}
+use Rattle.determinize_syntax.proofs.Flagging.{setting_none}
 use Rattle.determinize_syntax.proofs.Parts.{at_end, none_of}
 use Rattle.determinize_syntax.proofs.Stepping.{differ, passed_on, tails}
-use Rattle.determinize_syntax.proofs.flags.setting.Goals.{then-not-take-via-then-not-take, then-not-take-via-else-not-take+then-not-take-2, then-not-take-via-else-not-take+else-not-take-2+then-begins_other}
+use Rattle.determinize_syntax.proofs.flags.setting.Goals.{then-not-take-via-then-not-take}
+use Rattle.determinize_syntax.proofs.flags.setting.Goals.{then-not-take-via-else-not-take+then-not-take-2}
+use Rattle.determinize_syntax.proofs.flags.setting.Goals.{then-not-take-via-else-not-take+else-not-take-2+then-begins_other}
 use Rattle.determinize_syntax.proofs.flags.setting.Goals as goal
 
 pub returns-clause-read : goal.returns-clause-read

@@ -4,7 +4,8 @@ use Rattle.determinize_syntax.proofs.Parts.{name_begun, name_grown, took}
 use Rattle.std.proofs.Common.{◌∷◌, false, subst}
 use Rattle.ordered_reach.proofs.Cases.{some_injective}
 use Rattle.determinize_syntax.specs.declared.cursor.Cursor.{Cursor}
-use Rattle.determinize_syntax.proofs.group.letters_of_name.Goals.{then-not-is_in_name-via-then-not-is_in_name, then-not-is_in_name-via-else-not-is_in_name+then-not-take-2}
+use Rattle.determinize_syntax.proofs.group.letters_of_name.Goals.{then-not-is_in_name-via-then-not-is_in_name}
+use Rattle.determinize_syntax.proofs.group.letters_of_name.Goals.{then-not-is_in_name-via-else-not-is_in_name+then-not-take-2}
 use Rattle.determinize_syntax.specs.Words.{is_in_name}
 use Rattle.determinize_syntax.specs.Private.Reading.{rest}
 use Rattle.determinize_syntax.proofs.Munch.{names_same}

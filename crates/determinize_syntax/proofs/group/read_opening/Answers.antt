@@ -8,7 +8,8 @@ use Rattle.determinize_syntax.specs.Private.Letters.{Letters}
 use Rattle.determinize_syntax.specs.Private.Reading.{IsNotAt}
 use Rattle.determinize_syntax.specs.Words.{◌∈◌}
 use Rattle.determinize_syntax.specs.Private.Following.{FromItem}
-use Rattle.determinize_syntax.proofs.Flagging.{capture_next, opening_flags, opening_named, opening_named_p, opening_next, opening_sign}
+use Rattle.determinize_syntax.proofs.Flagging.{capture_next, opening_flags, opening_named, opening_named_p}
+use Rattle.determinize_syntax.proofs.Flagging.{opening_next, opening_sign}
 use Rattle.determinize_syntax.proofs.Stepping.{passed_on, tails, within}
 use Rattle.determinize_syntax.proofs.Munch.{name_sign}
 use Rattle.determinize_syntax.proofs.Inner.{letters_follow}

@@ -1,17 +1,23 @@
-use Rattle.std.proofs.Common.{◌≡◌, ◌<◌, ◌≤◌, ◌⊎◌, length, ◌∷◌, ◌∙◌, [], Bool, IfNone, IfSome, OnSome, arith, false, ap, map, refl, subst, sym, true}
+use Rattle.std.proofs.Common.{◌≡◌, ◌<◌, ◌≤◌, ◌⊎◌, length, ◌∷◌, ◌∙◌, [], Bool, IfNone, IfSome, OnSome, arith, false}
+use Rattle.std.proofs.Common.{ap, map, refl, subst, sym, true}
 use Rattle.determinize_pattern.specs.Patterns.{meaning, repeated}
 use Rattle.std.specs.Prelude.{MatchOption}
 use Rattle.ordered_reach.proofs.Cases.{by_cases}
 use Rattle.determinize_syntax.specs.Private.Following.{AfterOperator, FromAtom, FromItem, IsEnd, IsBranchEnd}
-use Rattle.determinize_syntax.proofs.Stepping.{at_bar, group_closed, group_unclosed, operator_taken, passed_on, sign_atom, stop_is_end}
+use Rattle.determinize_syntax.proofs.Stepping.{at_bar, group_closed, group_unclosed, operator_taken, passed_on}
+use Rattle.determinize_syntax.proofs.Stepping.{sign_atom, stop_is_end}
 use Rattle.determinize_syntax.specs.Private.Reading.{IsNotAt, IsSetting, Part, Reads, rest}
-use Rattle.determinize_syntax.specs.Spells.{Atom, Branches, Items, Operator, Repeated, dot, SpellsUnder, line_end, line_start, no_branch, no_item, once}
-use Rattle.determinize_syntax.proofs.Parts.{again_read, branch_read, choice_read, group_read, item_read, ok_then, prefixed, renamed, set_read, shorter, took}
+use Rattle.determinize_syntax.specs.Spells.{Atom, Branches, Items, Operator, Repeated, dot, SpellsUnder, line_end}
+use Rattle.determinize_syntax.specs.Spells.{line_start, no_branch, no_item, once}
+use Rattle.determinize_syntax.proofs.Parts.{again_read, branch_read, choice_read, group_read, item_read, ok_then}
+use Rattle.determinize_syntax.proofs.Parts.{prefixed, renamed, set_read, shorter, took}
 use Rattle.std.proofs.Common.{◌+◌}
 use Rattle.std.specs.Prelude.{IfErr, OnOk}
 use Rattle.determinize_syntax.specs.Limits.{openings}
 use Rattle.determinize_syntax.specs.Private.Names.{HasNames, IsDeep}
-use Rattle.determinize_syntax.proofs.Limits.{deep_after, deep_read, deeper, depth_after, depth_read, error_passed, local_deep, local_twice, maybe, names_moved, names_passed, names_read, names_took, one_more, openings_left, operator_left}
+use Rattle.determinize_syntax.proofs.Limits.{deep_after, deep_read, deeper, depth_after, depth_read, error_passed}
+use Rattle.determinize_syntax.proofs.Limits.{local_deep, local_twice, maybe, names_moved, names_passed, names_read}
+use Rattle.determinize_syntax.proofs.Limits.{names_took, one_more, openings_left, operator_left}
 use Rattle.determinize_syntax.proofs.parser.+parser.Goals as goal
 
 pub atom-returns-then-take-2-clause-read : goal.atom-returns-then-take-2-clause-read

@@ -3,7 +3,8 @@ use Rattle.determinize_syntax.specs.Private.Reading.{Part, rest}
 use Rattle.determinize_syntax.specs.Words.{number}
 use Rattle.determinize_syntax.proofs.Parts.{at_least_read, between_read, exactly_read}
 use Rattle.determinize_syntax.specs.Private.Following.{IsCount}
-use Rattle.determinize_syntax.proofs.Counting.{at_least_passed, exactly_passed, first_count, one_follows, past_sign, second_count}
+use Rattle.determinize_syntax.proofs.Counting.{at_least_passed, exactly_passed, first_count, one_follows, past_sign}
+use Rattle.determinize_syntax.proofs.Counting.{second_count}
 use Rattle.determinize_syntax.proofs.Stepping.{passed_on, tails}
 use Rattle.determinize_syntax.proofs.repetition.counts.Goals as goal
 

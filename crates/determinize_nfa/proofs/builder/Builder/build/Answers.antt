@@ -1,4 +1,5 @@
-use Rattle.determinize_nfa.proofs.Common.{BuilderValue, IfOk-weaker, List, Node, ap, failure, if_err_and, inr, map, node_of, on_ok_weaker, refl, sym, ◌∙◌, ◌≡◌}
+use Rattle.determinize_nfa.proofs.Common.{BuilderValue, IfOk-weaker, List, Node, ap, failure, if_err_and, inr, map}
+use Rattle.determinize_nfa.proofs.Common.{node_of, on_ok_weaker, refl, sym, ◌∙◌, ◌≡◌}
 use Rattle.determinize_nfa.proofs.building.Building.{built_is}
 use Rattle.determinize_nfa.proofs.builder.Builder.build.Goals as goal
 

@@ -1,5 +1,8 @@
-use Rattle.determinize_nfa.proofs.Common.{BinaryUnion, BuilderValue, ByteRange, IfErr-weaker, IfOk-weaker, IsApart, Nfa, None, [], ap, arith, by_option, if_err_and, inl, inr, length, length-map, map, node_of, refl, suc, sym, ◌++◌, ◌+◌, ◌<◌, ◌∙◌, ◌∷◌, ◌≡◌}
-use Rattle.determinize_nfa.proofs.building.Building.{IsMade, has_prefix_apart, is_ahead, length_is, made_is, made_of, made_unfit, none_ahead, unfit_too_many}
+use Rattle.determinize_nfa.proofs.Common.{BinaryUnion, BuilderValue, ByteRange, IfErr-weaker, IfOk-weaker, IsApart}
+use Rattle.determinize_nfa.proofs.Common.{Nfa, None, [], ap, arith, by_option, if_err_and, inl, inr, length}
+use Rattle.determinize_nfa.proofs.Common.{length-map, map, node_of, refl, suc, sym, ◌++◌, ◌+◌, ◌<◌, ◌∙◌, ◌∷◌, ◌≡◌}
+use Rattle.determinize_nfa.proofs.building.Building.{IsMade, has_prefix_apart, is_ahead, length_is, made_is, made_of}
+use Rattle.determinize_nfa.proofs.building.Building.{made_unfit, none_ahead, unfit_too_many}
 use Rattle.determinize_nfa.proofs.builder.Builder.build_with_prefix.Goals as goal
 
 pub returns-in_err-union-clause-err : goal.returns-in_err-union-clause-err

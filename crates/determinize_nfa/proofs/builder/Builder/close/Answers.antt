@@ -1,4 +1,5 @@
-use Rattle.determinize_nfa.proofs.Common.{BuilderValue, NotPatchable, Union, ap, arith, if_err_and, inl, inr, node_of, sym, ℕ, ◌∙◌, ◌≡◌}
+use Rattle.determinize_nfa.proofs.Common.{BuilderValue, NotPatchable, Union, ap, arith, if_err_and, inl, inr, node_of}
+use Rattle.determinize_nfa.proofs.Common.{sym, ℕ, ◌∙◌, ◌≡◌}
 use Rattle.determinize_nfa.specs.Builder.{closed, is_place}
 use Rattle.determinize_nfa.proofs.building.Building.{count_is, index_within, node_is, same_node, set_is}
 use Rattle.determinize_nfa.proofs.builder.Builder.close.Goals as goal

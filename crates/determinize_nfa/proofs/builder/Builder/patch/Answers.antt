@@ -1,4 +1,5 @@
-use Rattle.determinize_nfa.proofs.Common.{BuilderValue, IfErr-weaker, NotPatchable, ap, arith, inl, inr, node_of, on_ok_weaker, sym, ℕ, ◌∙◌, ◌≡◌}
+use Rattle.determinize_nfa.proofs.Common.{BuilderValue, IfErr-weaker, NotPatchable, ap, arith, inl, inr, node_of}
+use Rattle.determinize_nfa.proofs.Common.{on_ok_weaker, sym, ℕ, ◌∙◌, ◌≡◌}
 use Rattle.std.proofs.lemmas.Result.{on_err_weaker}
 use Rattle.determinize_nfa.specs.Builder.{is_patchable, patched, redirected}
 use Rattle.determinize_nfa.proofs.building.Building.{count_is, index_within, node_is, node_there, set_is, set_none}

@@ -1,4 +1,5 @@
-use Rattle.determinize_nfa.proofs.Common.{Turned, [], added, ap, arith, length, length-map, map, node_of, rules, ℕ, ◌++◌, ◌<◌, ◌∙◌, ◌∷◌, ◌≡◌}
+use Rattle.determinize_nfa.proofs.Common.{Turned, [], added, ap, arith, length, length-map, map, node_of, rules, ℕ}
+use Rattle.determinize_nfa.proofs.Common.{◌++◌, ◌<◌, ◌∙◌, ◌∷◌, ◌≡◌}
 use Rattle.determinize_nfa.proofs.reversing.Steps.{added_is}
 use Rattle.determinize_nfa.proofs.reversal.Turned.add.Goals as goal
 

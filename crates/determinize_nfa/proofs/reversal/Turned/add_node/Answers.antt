@@ -1,4 +1,5 @@
-use Rattle.determinize_nfa.proofs.Common.{All-rest, Turned, ap, arith, if_err_and, length, next_of, node_of, rules, total, with_arc, with_node, ◌<◌, ◌∙◌}
+use Rattle.determinize_nfa.proofs.Common.{All-rest, Turned, ap, arith, if_err_and, length, next_of, node_of, rules}
+use Rattle.determinize_nfa.proofs.Common.{total, with_arc, with_node, ◌<◌, ◌∙◌}
 use Rattle.determinize_nfa.proofs.kinds.ArcsOfStates.{arcs_resolve}
 use Rattle.determinize_nfa.proofs.reversing.Counts.{larger, room_arc}
 use Rattle.determinize_nfa.proofs.reversing.Steps.{count-arc}

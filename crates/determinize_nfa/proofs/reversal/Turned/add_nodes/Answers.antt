@@ -1,4 +1,5 @@
-use Rattle.determinize_nfa.proofs.Common.{arith, each_passes, get_or, get_or_default_zero, if_err_and, inl, length, most_states, node_of, sym, total, turned_over, with_node, ◌<◌, ◌∙◌, ◌≡◌}
+use Rattle.determinize_nfa.proofs.Common.{arith, each_passes, get_or, get_or_default_zero, if_err_and, inl, length}
+use Rattle.determinize_nfa.proofs.Common.{most_states, node_of, sym, total, turned_over, with_node, ◌<◌, ◌∙◌, ◌≡◌}
 use Rattle.determinize_nfa.proofs.reversing.Counts.{larger, room_node}
 use Rattle.determinize_nfa.proofs.reversing.Steps.{over_all, over_more, over_start}
 use Rattle.determinize_nfa.proofs.reversal.Turned.add_nodes.Goals as goal

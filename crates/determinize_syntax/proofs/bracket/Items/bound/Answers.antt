@@ -9,10 +9,12 @@ use Rattle.determinize_syntax.specs.Words.{◌∈◌}
 use Rattle.determinize_syntax.specs.declared.cursor.Cursor.{Cursor}
 use Rattle.ordered_reach.proofs.Cases.{by_cases, some_injective}
 use Rattle.determinize_syntax.specs.Private.Following.{IsSame}
-use Rattle.determinize_syntax.proofs.Nexts.{ascii_first, bound_escape, bound_next, bound_some, end_byte, end_other, end_wide, may_bound, no_bound}
+use Rattle.determinize_syntax.proofs.Nexts.{ascii_first, bound_escape, bound_next, bound_some, end_byte, end_other}
+use Rattle.determinize_syntax.proofs.Nexts.{end_wide, may_bound, no_bound}
 use Rattle.determinize_syntax.proofs.Parts.{at_end}
 use Rattle.determinize_syntax.proofs.Stepping.{both_true, heads, passed_on, tails}
-use Rattle.determinize_syntax.proofs.bracket.Items.bound.Goals.{then-not-may_end_range-via-then-not-may_end_range, then-not-may_end_range-via-else-not-may_end_range+then-not-take}
+use Rattle.determinize_syntax.proofs.bracket.Items.bound.Goals.{then-not-may_end_range-via-then-not-may_end_range}
+use Rattle.determinize_syntax.proofs.bracket.Items.bound.Goals.{then-not-may_end_range-via-else-not-may_end_range+then-not-take}
 use Rattle.determinize_syntax.proofs.bracket.Items.bound.Goals as goal
 
 pub returns-in-Byte-clause-read : goal.returns-in-Byte-clause-read

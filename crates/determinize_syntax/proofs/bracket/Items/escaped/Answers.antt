@@ -11,7 +11,8 @@ use Rattle.determinize_syntax.proofs.Listing.{class_listed, escaped_listed, wide
 use Rattle.determinize_syntax.proofs.Parts.{renamed}
 use Rattle.determinize_syntax.specs.Private.Following.{IsSame}
 use Rattle.determinize_syntax.specs.Private.Letters.{Listing}
-use Rattle.determinize_syntax.proofs.Nexts.{escape_next, listed_byte, listed_class, listed_look, listed_wide, may_listed}
+use Rattle.determinize_syntax.proofs.Nexts.{escape_next, listed_byte, listed_class, listed_look, listed_wide}
+use Rattle.determinize_syntax.proofs.Nexts.{may_listed}
 use Rattle.determinize_syntax.proofs.Stepping.{passed_on}
 use Rattle.determinize_syntax.proofs.bracket.Items.escaped.Goals as goal
 

@@ -12,7 +12,8 @@ use Rattle.determinize_syntax.specs.declared.bracket.Before.TheVariants.{AfterRa
 use Rattle.determinize_syntax.proofs.Munch.{munch, name_after, named_letters}
 use Rattle.determinize_syntax.proofs.Nexts.{colon_passed, name_next, no_colon, no_hat, past_colon}
 use Rattle.determinize_syntax.proofs.Stepping.{tails}
-use Rattle.determinize_syntax.proofs.bracket.Items.name.Goals.{then-not-take-2-via-then-not-take-2, then-not-take-2-via-else-not-take-2+then-not-take-3}
+use Rattle.determinize_syntax.proofs.bracket.Items.name.Goals.{then-not-take-2-via-then-not-take-2}
+use Rattle.determinize_syntax.proofs.bracket.Items.name.Goals.{then-not-take-2-via-else-not-take-2+then-not-take-3}
 use Rattle.determinize_syntax.proofs.bracket.Items.name.Goals as goal
 
 pub returns-clause-read : goal.returns-clause-read

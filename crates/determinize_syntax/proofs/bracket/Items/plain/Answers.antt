@@ -11,10 +11,12 @@ use Rattle.ordered_reach.proofs.Cases.{by_cases, some_injective}
 use Rattle.determinize_syntax.specs.Private.Letters.{Listing}
 use Rattle.determinize_syntax.specs.Spells as spells
 use Rattle.determinize_syntax.specs.Spells.{Bytes}
-use Rattle.determinize_syntax.proofs.Nexts.{ascii_first, no_bracket_sign, not_ascii, not_close, not_ended, plain_next, stands_plain}
+use Rattle.determinize_syntax.proofs.Nexts.{ascii_first, no_bracket_sign, not_ascii, not_close, not_ended, plain_next}
+use Rattle.determinize_syntax.proofs.Nexts.{stands_plain}
 use Rattle.determinize_syntax.proofs.Parts.{at_end}
 use Rattle.determinize_syntax.proofs.Stepping.{heads, passed_on, tails}
-use Rattle.determinize_syntax.proofs.bracket.Items.plain.Goals.{then-not-stands-via-then-not-stands, then-not-stands-via-else-not-stands+then-not-take}
+use Rattle.determinize_syntax.proofs.bracket.Items.plain.Goals.{then-not-stands-via-then-not-stands}
+use Rattle.determinize_syntax.proofs.bracket.Items.plain.Goals.{then-not-stands-via-else-not-stands+then-not-take}
 use Rattle.determinize_syntax.proofs.bracket.Items.plain.Goals as goal
 
 pub returns-then-not-is_ascii-clause-read : goal.returns-then-not-is_ascii-clause-read

@@ -1,4 +1,5 @@
-use Rattle.std.proofs.Common.{◌≡◌, ◌<◌, ◌≤◌, ◌∷◌, ◌++◌, ◌∙◌, [], IfNone, List, ap, arith, length, slice_get, subst, sym, ℕ}
+use Rattle.std.proofs.Common.{◌≡◌, ◌<◌, ◌≤◌, ◌∷◌, ◌++◌, ◌∙◌, [], IfNone, List, ap, arith, length, slice_get, subst}
+use Rattle.std.proofs.Common.{sym, ℕ}
 use Rattle.std.specs.Char.{encode_utf8, len_utf8}
 use Rattle.std.specs.Str.{IsUtf8}
 use Rattle.std.specs.Str.Iter.{chars_rest}
@@ -11,7 +12,8 @@ use Rattle.determinize_syntax.proofs.Parts.{at_end, at_least_one}
 use Rattle.determinize_syntax.proofs.Stepping.{encode_starts}
 use Rattle.determinize_syntax.proofs.Munch.{filled}
 use Rattle.determinize_syntax.proofs.Widths.{front_is, long_enough}
-use Rattle.determinize_syntax.proofs.cursor.Cursor.take_wide.Goals.{then-character-lt128-via-then-character-lt128, then-character-lt128-via-else-character-lt128+then-not-is_empty}
+use Rattle.determinize_syntax.proofs.cursor.Cursor.take_wide.Goals.{then-character-lt128-via-then-character-lt128}
+use Rattle.determinize_syntax.proofs.cursor.Cursor.take_wide.Goals.{then-character-lt128-via-else-character-lt128+then-not-is_empty}
 use Rattle.determinize_syntax.proofs.cursor.Cursor.take_wide.Goals as goal
 
 pub returns-in_err-peek-clause-other : goal.returns-in_err-peek-clause-other

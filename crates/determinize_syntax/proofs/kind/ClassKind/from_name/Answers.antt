@@ -1,4 +1,5 @@
-use Rattle.std.proofs.Common.{◌≡◌, ◌≤◌, ◌∷◌, ◌∙◌, [], List, Some, ap, arith, ltb-false, ltb-true, nat_lt, refl, slice_get, subst, sym, ℕ}
+use Rattle.std.proofs.Common.{◌≡◌, ◌≤◌, ◌∷◌, ◌∙◌, [], List, Some, ap, arith, ltb-false, ltb-true, nat_lt, refl}
+use Rattle.std.proofs.Common.{slice_get, subst, sym, ℕ}
 use Rattle.std.specs.Prelude.{codes}
 use Rattle.std.proofs.lemmas.Option.{get_or_from_slice_get}
 use Rattle.std.proofs.Math.ListN.{get_or}
@@ -6,7 +7,9 @@ use Rattle.ordered_reach.proofs.Cases.{by_option, by_test}
 use Rattle.determinize_syntax.specs.Private.Sets.{name_of}
 use Rattle.determinize_syntax.specs.Words.{named_class}
 use Rattle.determinize_syntax.specs.declared.kind.ClassKind.{ClassKind}
-use Rattle.determinize_syntax.specs.declared.kind.ClassKind.TheVariants.{Alnum, Alpha, Ascii, Blank, Cntrl, Digit, Graph, Lower, Print, Punct, Space, Upper, Word, Xdigit}
+use Rattle.determinize_syntax.specs.declared.kind.ClassKind.TheVariants.{Alnum, Alpha, Ascii, Blank, Cntrl, Digit}
+use Rattle.determinize_syntax.specs.declared.kind.ClassKind.TheVariants.{Graph, Lower, Print, Punct, Space, Upper}
+use Rattle.determinize_syntax.specs.declared.kind.ClassKind.TheVariants.{Word, Xdigit}
 use Rattle.determinize_syntax.proofs.Munch.{named_kind, text_differs}
 use Rattle.determinize_syntax.proofs.kind.ClassKind.from_name.Goals as goal
 
