@@ -22,7 +22,7 @@ use Rattle.determinize_stored.proofs.Lists.{append_parts, concat_of-lists, ends-
 use Rattle.determinize_stored.proofs.Lists.{end-below, ends_of-lists, list-first, lists_from-length, lists_of-ends}
 use Rattle.determinize_stored.proofs.Lists.{slice-length}
 use Rattle.determinize_stored.proofs.Numbers.{words_most, words_room}
-use Rattle.determinize_stored.specs.Reading.{IsStop}
+use Rattle.determinize_stored.specs.Reading.{HasDeadRow}
 use Rattle.std.proofs.Math.Nat.{mul-le-mul_right}
 use Rattle.determinize_dense.specs.Table.{patterns_at}
 use Rattle.determinize_core.proofs.Common.{slice_index}
@@ -209,7 +209,7 @@ rows_are h p sizes = sym (lists_from-length 0 p.ends p.patterns ∙ sizes.ends)
 
 -- row 0 stops exactly if it lists nothing, and no entry is above 0
 pub not_listed : (h : Head) (p : Parts) → HasSizes h p → IsInRange h p → (slice_index p.ends 0 ≡ 0 → ⊥)
-    → IsStop (stored_in h p).table → ⊥
+    → HasDeadRow (stored_in h p).table → ⊥
 not_listed h p sizes range some stop =
     let rows = some_row h p sizes range in
     let ends = sizes.ends in

@@ -32,7 +32,7 @@ use Rattle.determinize_core.specs.Walk.{last_listed}
 use Rattle.determinize_dense.specs.Bytes.{IsWhole, Stored}
 use Rattle.determinize_dense.specs.Reading.{IsDead, lists_along}
 use Rattle.determinize_dense.specs.Table.{column_of, patterns_at, row_after, row_over, Table}
-use Rattle.determinize_stored.specs.Reading.{first_row, IsStop, IsStoredOf, last_along, last_found}
+use Rattle.determinize_stored.specs.Reading.{HasDeadRow, IsStoredOf, first_row, last_along, last_found}
 
 -- a column is one of a row
 pub column-below : (s : Stored) → IsWhole s → (u : Option ℕ) → IsUnit u → column_of s.table u < s.table.class_count + 1
@@ -51,7 +51,7 @@ stays_at (suc n) (x ∷ xs) stays (suc k) h =
     stays_at n xs (All-tail (λ r. r ≡ 0) x (take n xs) stays) k (omega (arith, h))
 
 -- row 0 follows itself
-pub dead_stop : (s : Stored) → IsWhole s → IsStop s.table → IsDead s.table 0
+pub dead_stop : (s : Stored) → IsWhole s → HasDeadRow s.table → IsDead s.table 0
 dead_stop s whole stop [] all = stop.lists
 dead_stop s whole stop (u ∷ us) all =
     let d = s.table in
@@ -61,7 +61,7 @@ dead_stop s whole stop (u ∷ us) all =
     ap (λ n. slice_index d.next n) place ∙ stays_at (d.class_count + 1) d.next stop.stays (column_of d u) at in
     ap (λ r. patterns_at d (row_after d r us)) same ∙ dead_stop s whole stop us (All-tail IsUnit u us all)
 
-pub dead_if : (s : Stored) (r : ℕ) (stops : Bool) → IsWhole s → Decides stops ((r ≡ 0) × IsStop s.table) → stops ≡ true
+pub dead_if : (s : Stored) (r : ℕ) (stops : Bool) → IsWhole s → Decides stops ((r ≡ 0) × HasDeadRow s.table) → stops ≡ true
     → IsDead s.table r
 dead_if s r stops whole decides so =
     let is = decides.0 so in subst (λ n. IsDead s.table n) (sym is.0) (dead_stop s whole is.1)

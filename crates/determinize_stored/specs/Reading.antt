@@ -32,7 +32,7 @@ last_found s asked = cond (is_done asked) None (option_map (in_haystack s.revers
     (last_along s (is_anchored asked.anchored) (text_of s.reverse asked)))
 
 -- row 0 lists no pattern, and row 0 follows it in each column
-pub record IsStop (d : Table) : Type 0 where
+pub record HasDeadRow (d : Table) : Type 0 where
   pub lists : patterns_at d 0 ≡ []
   pub stays : All (λ r. r ≡ 0) (take (d.class_count + 1) d.next)
 

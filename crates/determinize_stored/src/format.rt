@@ -4,7 +4,7 @@
 ghost use Rattle.std.specs.Prelude.{All, Bool, Decides, [], ◌≡◌, ◌<◌, ◌≤◌, ◌^◌, IfNone, IfOk, IfSome, OnErr, OnOk, cond, drop, length, slice_index_or};
 ghost use Rattle.determinize_dense.specs.Bytes.{kind_number};
 ghost use Rattle.determinize_stored.specs.Private.Parts.{AreEnds, HasHead, HasSizes, IsInRange, IsOfNone, list_start, lists_from, parts_words, stored_in};
-ghost use Rattle.determinize_stored.specs.Reading.{IsStop};
+ghost use Rattle.determinize_stored.specs.Reading.{HasDeadRow};
 
 use crate::error::{FormatError, FormatErrorKind};
 use crate::words::Words;
@@ -134,7 +134,7 @@ impl<'b> Parts<'b> {
         requires few { head.now.class_count ≤ 256 }
         requires sizes { HasSizes head.now self.now }
         requires range { IsInRange head.now self.now }
-        ensures { Decides result (IsStop (stored_in head.now self.now).table) }
+        ensures { Decides result (HasDeadRow (stored_in head.now self.now).table) }
     {
         if self.ends.get(0) != 0 {
             return false;

@@ -2,7 +2,7 @@
 
 ghost use Rattle.determinize_dense.specs.Bytes.{IsWhole, Stored};
 ghost use Rattle.determinize_dense.specs.Reading.{IsDead};
-ghost use Rattle.determinize_stored.specs.Reading.{FindsAll, IsStop};
+ghost use Rattle.determinize_stored.specs.Reading.{FindsAll, HasDeadRow};
 
 /// A search of what is stored of a DFA returns what a search of the DFA does: the last match of the
 /// walk over the text of the input.
@@ -12,5 +12,5 @@ pub fn search_law()
 
 /// If row 0 lists no pattern and follows itself, no match follows it.
 pub fn dead_law()
-    ensures { (s : Stored) → IsWhole s → IsStop s.table → IsDead s.table 0 }
+    ensures { (s : Stored) → IsWhole s → HasDeadRow s.table → IsDead s.table 0 }
 {}

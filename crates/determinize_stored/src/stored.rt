@@ -13,7 +13,7 @@ ghost use Rattle.determinize_dense.specs.Dfa.{is_anchored};
 ghost use Rattle.determinize_dense.specs.Reading.{IsDead};
 ghost use Rattle.determinize_dense.specs.Table.{column_of, patterns_at, row_over};
 ghost use Rattle.determinize_below.specs.declared.primitives.TheConstants.{MAX_ID};
-ghost use Rattle.determinize_stored.specs.Reading.{IsStop, first_row};
+ghost use Rattle.determinize_stored.specs.Reading.{HasDeadRow, first_row};
 
 use crate::error::{FormatError, FormatErrorKind};
 use crate::format::{Head, Parts};
@@ -76,6 +76,14 @@ impl<'b> StoredDfa<'b> {
         ensures { result ≡ self.now.kind }
     {
         self.head.match_kind
+    }
+
+    /// Returns whether the DFA was made of an NFA that reads backward, so that a search of an input
+    /// reads it from its end.
+    pub fn is_reverse(&self) -> bool
+        ensures { result ≡ self.now.reverse }
+    {
+        self.head.is_reverse
     }
 
     /// Returns the number of states.
@@ -202,7 +210,7 @@ impl<'b> StoredDfa<'b> {
     /// follows it over each unit. It is in the tests of what a `Dfa` wrote.
     #[inline(always)]
     pub fn is_dead_state(&self, row: RowId) -> bool
-        ensures value { Decides result ((row ≡ 0) × IsStop self.now.table) }
+        ensures value { Decides result ((row ≡ 0) × HasDeadRow self.now.table) }
         ensures dead { result ≡ true → IsDead self.now.table row }
     {
         self.has_dead_row && row == RowId::DEAD

@@ -5,7 +5,7 @@ use Rattle.std.specs.List.{slice_range}
 use Rattle.determinize_below.specs.declared.primitives.TheConstants.{MAX_ID}
 use Rattle.determinize_dense.specs.Bytes.{IsWhole, Stored, kind_number, words_of}
 use Rattle.determinize_dense.specs.declared.bytes.TheConstants.{MAGIC, VERSION}
-use Rattle.determinize_stored.specs.Reading.{IsStop}
+use Rattle.determinize_stored.specs.Reading.{HasDeadRow}
 use Rattle.determinize_stored.specs.declared.format.Head.{Head}
 use Rattle.determinize_stored.specs.declared.format.Parts.{Parts}
 use Rattle.determinize_start.specs.declared.start.TheConstants.StartSlot.{COUNT}
@@ -71,7 +71,7 @@ pub record AreParts (h : Head) (p : Parts) (stops : Bool) : Type 0 where
   pub whole : IsWhole (stored_in h p)
   pub sizes : HasSizes h p
   pub range : IsInRange h p
-  pub stops_at : Decides stops (IsStop (stored_in h p).table)
+  pub stops_at : Decides stops (HasDeadRow (stored_in h p).table)
 
 -- where the list of a row begins
 abbrev pub list_start : List ℕ → ℕ → ℕ
