@@ -110,6 +110,22 @@ module _ (b : BuilderValue) (start : ℕ) where
   at : (k s : ℕ) → s ≡ length b.states + k → get_or (b.states ++ last_two) s Fail ≡ get_or last_two k Fail
   at k s e = ap (λ w. get_or (b.states ++ last_two) w Fail) e ∙ get_or-append-add b.states last_two k Fail
 
+  -- a state that leads where no state that was added leads is one of the last two
+  one_of : {P : Type 0} (w s : ℕ)
+      → ((s : ℕ) → s < length b.states → leads_to w (get_or b.states s Fail) ≡ false)
+      → leads_to w (get_or (b.states ++ last_two) s Fail) ≡ true
+      → (s ≡ length b.states → leads_to w (get_or last_two 0 Fail) ≡ true → P)
+      → (s ≡ suc (length b.states) → leads_to w (get_or last_two 1 Fail) ≡ true → P) → P
+  one_of {P} w s none h f g = by_cases (cases_lt s (length b.states))
+      (λ k. absurd (false≢true (sym (none s k) ∙ rw (get_or_append_left b.states last_two Fail s k) at h)))
+      (λ k. let z : s ≡ length b.states + (s - length b.states) = omega arith in
+      last (s - length b.states) z (rw (at (s - length b.states) s z) at h))
+    where
+      last : (k : ℕ) → s ≡ length b.states + k → leads_to w (get_or last_two k Fail) ≡ true → P
+      last zero e l = f (omega arith) l
+      last (suc zero) e l = g (omega arith) l
+      last (suc (suc k)) e l = absurd (false≢true l)
+
   has_prefix : start < length b.states
       → ((s : ℕ) → s < length b.states → leads_to (length b.states) (get_or b.states s Fail) ≡ false)
       → HasPrefix (built (prefixed b start) start (length b.states))
@@ -117,44 +133,26 @@ module _ (b : BuilderValue) (start : ℕ) where
     skip = suc (length b.states);
     first = at 0 (length b.states) (omega arith);
     any = at 1 (suc (length b.states)) (omega arith);
-    alone = λ s h. by_cases (cases_lt s (length b.states))
-        (λ k. absurd (false≢true (sym (none s k)
-        ∙ ap (leads_to (length b.states)) (sym (get_or_append_left b.states last_two Fail s k)) ∙ h)))
-        (λ k. let z : s ≡ length b.states + (s - length b.states) = omega arith in
-        last s (s - length b.states) z
-        (ap (leads_to (length b.states)) (sym (at (s - length b.states) s z)) ∙ h));
+    alone = λ s h. one_of (length b.states) s none h
+        (λ e k. absurd (false≢true (sym (other (length b.states) l) ∙ k)))
+        (λ e k. e);
   }
     where
       other : (n : ℕ) → start < n → (nat_eq n start || nat_eq n (suc n)) ≡ false
       other n k = grind (arith, nat_tests)
-
-      last : (s k : ℕ) → s ≡ length b.states + k → leads_to (length b.states) (get_or last_two k Fail) ≡ true
-          → s ≡ suc (length b.states)
-      last s zero e h = absurd (false≢true (sym (other (length b.states) l) ∙ h))
-      last s (suc zero) e h = omega arith
-      last s (suc (suc k)) e h = absurd (false≢true h)
 
   pub has_prefix_apart : start < length b.states → IsApart b
       → HasPrefixApart (built (prefixed b start) start (length b.states))
   unfolding has_prefix
   has_prefix_apart l is = record {
     prefix = has_prefix l is.union;
-    apart = λ s h. by_cases (cases_lt s (length b.states))
-        (λ k. absurd (false≢true (sym (is.skip s k)
-        ∙ ap (leads_to (suc (length b.states))) (sym (get_or_append_left b.states last_two Fail s k)) ∙ h)))
-        (λ k. let z : s ≡ length b.states + (s - length b.states) = omega arith in
-        last s (s - length b.states) z
-        (ap (leads_to (suc (length b.states))) (sym (at (s - length b.states) s z)) ∙ h));
+    apart = λ s h. one_of (suc (length b.states)) s is.skip h
+        (λ e k. e)
+        (λ e k. absurd (false≢true (sym (other (length b.states)) ∙ k)));
   }
     where
       other : (n : ℕ) → nat_eq (suc n) n ≡ false
       other n = grind (arith, nat_tests)
-
-      last : (s k : ℕ) → s ≡ length b.states + k → leads_to (suc (length b.states)) (get_or last_two k Fail) ≡ true
-          → s ≡ length b.states
-      last s zero e h = omega arith
-      last s (suc zero) e h = absurd (false≢true (sym (other (length b.states)) ∙ h))
-      last s (suc (suc k)) e h = absurd (false≢true h)
 
 -- as the program finds a state with a transition to the prefix, if any
 module _ {V : Type 0} (f : V → Node) (xs ys : List V) (b : BuilderValue) (union skip : ℕ) (found : Option ℕ)

@@ -62,10 +62,6 @@ module _ (nfa : Nfa) (f s : ℕ) (e : state_at nfa nfa.start_unanchored ≡ Bina
       (accepted_sound nfa accepted).resolves (λ look. true) nfa.start_unanchored s
       (rw e (or_right (nat_eq f s) (nat_eq s s || false) (or_left (nat_eq s s) false (eq-eqb s s refl))))
 
-  -- it must be the anchored start that is preferred
-  pub not_first : ¬ (f ≡ nfa.start_anchored) → ¬ (HasPrefix nfa)
-  not_first n h = n (same_first h)
-
   -- the other must pass over all bytes
   pub not_any : passes_any nfa.start_unanchored (state_at nfa s) ≡ false → ¬ (HasPrefix nfa)
   not_any n h =

@@ -120,12 +120,9 @@ module _ (into : List (List ℕ)) (t y : ℕ) (l : t < length into) where
 
 pub slice_get-left : {A : Type 0} (xs ys : List A) (i : ℕ) (x : A) → slice_get xs i ≡ Some x
     → slice_get (xs ++ ys) i ≡ Some x
-slice_get-left {A} xs ys i x e = go xs i e
-  where
-    go : (xs : List A) (i : ℕ) → slice_get xs i ≡ Some x → slice_get (xs ++ ys) i ≡ Some x
-    go [] i e = cc
-    go (z ∷ xs) zero e = e
-    go (z ∷ xs) (suc i) e = go xs i e
+slice_get-left [] ys i x e = cc
+slice_get-left (z ∷ xs) ys zero x e = e
+slice_get-left (z ∷ xs) ys (suc i) x e = slice_get-left xs ys i x e
 
 slice_get-last : (xs : List Node) (x : Node) → slice_get (xs ++ x ∷ []) (length xs) ≡ Some x
 slice_get-last [] x = refl

@@ -142,17 +142,10 @@ module _ (nfa : Nfa) (h : Turned) (sound : IsSound nfa h)
       → failure (states_of h) start start ≡ Some e → (e ≡ TooManyStates) × (ID_LIMIT < length (states_of h))
   only_size start e z k = by_test (nat_lt ID_LIMIT (length (states_of h)))
       (λ t. (sym (some_injective TooManyStates e (rw t at k)), above t))
-      (λ t. absurd (let j : None ≡ Some e = sym fine ∙ rw t at k in cc))
+      (λ t. absurd (let j : None ≡ Some e = rw (t, within, passes) at k in cc))
     where
-      rest_of : Option BuildError
-      rest_of = cond (not (nat_lt start (length (states_of h)) && nat_lt start (length (states_of h))))
-          (Some UnresolvedStart) (states_failure (length (states_of h)) [] 0 (states_of h))
-
       within : nat_lt start (length (states_of h)) ≡ true
       within = let c = count_is in below start (length (states_of h)) (omega (arith, c))
-
-      fine : rest_of ≡ None
-      fine = rw within passes
 
       above : nat_lt ID_LIMIT (length (states_of h)) ≡ true → ID_LIMIT < length (states_of h)
       above t = grind (arith, nat_tests)
