@@ -1,3 +1,7 @@
+pub mod Following
 pub mod Left
 pub mod Marks
+pub mod Paid
+pub mod RowMarks
 pub mod Spent
+pub mod Walks

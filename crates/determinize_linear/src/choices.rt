@@ -4,6 +4,7 @@ ghost use Rattle.std.specs.Prelude.{◌≡◌, ◌<◌, ◌++◌, ◌∷◌, [],
 ghost use Rattle.std.specs.Option.{option_to_list};
 ghost use Rattle.determinize_below.specs.Nfa.{is_dense_sound, is_sparse_sound};
 ghost use Rattle.determinize_below.specs.Node.{node_of};
+ghost use Rattle.determinize_below.specs.Truth.{IsUnit};
 ghost use Rattle.determinize_below.specs.Semantics.{after_at, before_at, choices, holds, target_of};
 ghost use Rattle.ordered_reach.specs.Runs.{placed};
 
@@ -25,8 +26,9 @@ fn byte_at(text: &Text<'_>, at: usize) -> Option<u8>
 }
 
 /// Returns the byte before a position.
-fn byte_before(text: &Text<'_>, at: usize) -> Option<u8>
-    ensures { result ≡ before_at text.now at }
+pub(crate) fn byte_before(text: &Text<'_>, at: usize) -> Option<u8>
+    ensures value { result ≡ before_at text.now at }
+    ensures unit { IsUnit result }
 {
     match at {
         0 => text.behind(),

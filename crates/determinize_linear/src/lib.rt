@@ -1,14 +1,19 @@
-//! All matches of an input, in a number of tries linear in its length, for a given NFA.
+//! All matches of an input, in a number of steps linear in its length, for a given NFA or DFA.
 //!
 //! A search for the leftmost match may read far behind it, and the search for the next one reads
 //! the same bytes again: all matches of `[^z]*z|a` over `aaa..` take quadratic time.
-//! Here one depth-first search over pairs of a position and an NFA state goes from match to match,
-//! and skips the pairs from which it has found that no run accepts ([`linear`]).
+//! Here the searches go from match to match, and stop where one before has found that no match
+//! follows. [`dense`] walks by a whole DFA, and marks pairs of a position and a row. [`linear`]
+//! goes depth first over pairs of a position and an NFA state, and needs no DFA.
 #![tactic(auto)]
 
 mod assertions;
 mod choices;
+pub mod dense;
+mod in_turn;
 pub mod linear;
+mod matcher;
+mod row_marks;
 pub mod tries;
 mod visited;
 

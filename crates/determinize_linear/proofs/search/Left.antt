@@ -1,11 +1,11 @@
 -- The choices that are left to a search, and how many there can be.
 -- Main statements: left_marked, left_later, left_cleared, left_past, left_most, paid_match, paid_after,
--- if_some, left_least, start_pays, next_pays, end_pays.
+-- if_some, if_none, left_least, start_pays, next_pays, end_pays.
 -- Used by: the searches.
 -- Idea: sums over the pairs of a text: at each position they have at most one choice for each state and one for each
 -- epsilon transition of the NFA.
 use Rattle.std.specs.List.{flat_map}
-use Rattle.std.specs.Option.{IfSome}
+use Rattle.std.specs.Option.{IfNone, IfSome}
 use Rattle.std.specs.Prelude.{nat_lt, slice_get, slice_index_or}
 use Rattle.std.proofs.Common.{◌≡◌, ◌<◌, ◌≤◌, ◌*◌, ◌+◌, ◌-◌, ◌++◌, ◌∷◌, ◌||◌, ◌==◌, ℕ, Bool, List, None, Option, Some, [], ap, arith, false, length, length-append, map, nat_eq, not, refl, suc, true, zero}
 use Rattle.std.proofs.lemmas.Bool.Decides.{nat_tests}
@@ -25,7 +25,8 @@ use Rattle.ordered_reach.specs.Reach.{edge_count, member, nodes_below, with_node
 use Rattle.ordered_reach.specs.Runs.{placed}
 use Rattle.determinize_below.specs.declared.search.Match.{Match}
 use Rattle.determinize_find.specs.Private.Left.{left as matches_left}
-use Rattle.determinize_linear.specs.Private.Left.{IsPaid, count_choices, left, most_choices, pairs_in}
+use Rattle.determinize_linear.specs.Private.Paid.{IsPaid}
+use Rattle.determinize_linear.specs.Private.Left.{count_choices, left, most_choices, pairs_in}
 use Rattle.determinize_linear.specs.Private.Marks.{is_marked, with_mark, without_marks}
 use Rattle.determinize_linear.proofs.search.Marks.{is_marked-with, is_marked-without}
 
@@ -183,34 +184,37 @@ module _ (nfa : Nfa) (text : Text) where
   pub paid_match : (from at : ℕ) (before rows after : List (List Bool)) (total stack old new : ℕ)
       → after ≡ without_marks rows at → at < length rows → from ≤ at → 0 < stack → new ≡ total + 1
       → total + stack + left nfa text from rows ≤ old + 1 + left nfa text from before
-      → IsPaid nfa text from at 1 before after old new
+      → IsPaid (λ k. left nfa text k after) (most_choices nfa) (left nfa text from before) from at 1 old new
   paid_match from at before rows after total stack old new is l low some one paid = rw is record {
     low = low;
     further = λ k h. omega (arith, left_past at k rows l h, left_later from k rows (omega arith), one, paid, some);
     here = omega (arith, left_cleared at rows l, left_later from at rows low, one, paid, some);
   }
 
-  -- where a match is found after some positions without one
-  pub paid_after : (base start at : ℕ) (m : Match) (before rows after : List (List Bool)) (old total new : ℕ)
-      → base ≤ start → start ≤ at
-      → (m.start ≡ at) × IsPaid nfa text (at - base) (m.end - base) 1 rows after total new
-      → total + left nfa text (at - base) rows ≤ old + (at - start) + left nfa text (start - base) before
-      → (start ≤ m.start)
-      × IsPaid nfa text (start - base) (m.end - base) (m.start - start + 1) before after old new
-  paid_after base start at m before rows after old total new b l h paid =
-      let z : m.start ≡ at = h.0 in
-      let cost : m.start - start + 1 ≡ (at - start) + 1 = omega arith in (
-        omega arith,
-        record {
-          low = omega (arith, h.1.low);
-          further = λ k e. omega (arith, h.1.further k e, paid, cost);
-          here = omega (arith, h.1.here, paid, cost);
-        },
-      )
+-- where a match is found after some positions without one
+pub paid_after : (base start at : ℕ) (m : Match) (left : ℕ → ℕ) (most before here old total new : ℕ)
+    → base ≤ start → start ≤ at
+    → (m.start ≡ at) × IsPaid left most here (at - base) (m.end - base) 1 total new
+    → total + here ≤ old + (at - start) + before
+    → (start ≤ m.start) × IsPaid left most before (start - base) (m.end - base) (m.start - start + 1) old new
+paid_after base start at m left most before here old total new b l h paid =
+    let z : m.start ≡ at = h.0 in
+    let cost : m.start - start + 1 ≡ (at - start) + 1 = omega arith in (
+      omega arith,
+      record {
+        low = omega (arith, h.1.low);
+        further = λ k e. omega (arith, h.1.further k e, paid, cost);
+        here = omega (arith, h.1.here, paid, cost);
+      },
+    )
 
 pub if_some : {A : Type 0} (P Q : A → Type 0) (o : Option A) → ((a : A) → P a → Q a) → IfSome o P → IfSome o Q
 if_some P Q None f h = h
 if_some P Q (Some a) f h = f a h
+
+pub if_none : {A : Type 0} (P Q : Type 0) (o : Option A) → (P → Q) → IfNone o P → IfNone o Q
+if_none P Q None f h = f h
+if_none P Q (Some a) f h = h
 
 -- the tries that are left before the first match are enough
 tries_enough : (d n : ℕ) → (n + 1) * d + (d + 3) * (n + 2) ≤ 3 * (d + 1) * (n + 2)
@@ -232,12 +236,13 @@ pub left_least : (end start : ℕ) (before : Option ℕ) → end + 1 - start ≤
 left_least end start None = omega arith
 left_least end start (Some last) = omega arith
 
--- what was counted, what is left and what later matches may take, at the start, after a match and at the end
-pub start_pays : (s e n b len left total : ℕ) → len ≡ n → b ≡ n + 2 → left ≤ (len + 1) * (s + e)
-    → total + left + (s + e + 3) * b ≤ total + 3 * (s + e + 1) * (n + 2)
-start_pays s e n b len left total z w l =
-    let few : left ≤ (n + 1) * (s + e) = rw z at l in rw w (omega (arith, few, tries_enough (s + e) n))
+-- what is left at the start and what matches may take
+pub start_pays : (s e n len left : ℕ) → len ≡ n → left ≤ (len + 1) * (s + e)
+    → left + (s + e + 3) * (n + 2) ≤ 3 * (s + e + 1) * (n + 2)
+start_pays s e n len left z l =
+    let few : left ≤ (n + 1) * (s + e) = rw z at l in omega (arith, few, tries_enough (s + e) n)
 
+-- what was counted, what is left and what later matches may take, after a match and at the end
 pub next_pays : (d a b x old most total left more rest : ℕ) → a < b → x ≤ b - a
     → more + rest ≤ total + (x + 2) + left + d
     → total + left + (d + 3) * b ≤ old + most → more + rest + (d + 3) * a ≤ old + most

@@ -1,5 +1,5 @@
 -- Marks in a table as a set of pairs.
--- Main statements: changed_at, is_marked-with, is_marked-without, is_marked-none, places_with, places_without,
+-- Main statements: set_at, changed_at, is_marked-with, is_marked-without, is_marked-none, places_with, places_without,
 -- places_new, with_mark-marked.
 -- Used by: the loop of a search, and `Visited`.
 -- Idea: a list in a list changes at one index of one list.
@@ -16,7 +16,7 @@ use Rattle.determinize_linear.specs.Private.Marks.{is_marked, with_mark, without
 use Rattle.determinize_linear.specs.Private.Spent.{HasPlaces}
 
 -- the element at an index after one element is set
-set_at : {A : Type 0} (xs : List A) (i j : ℕ) (x d : A) → i < length xs
+pub set_at : {A : Type 0} (xs : List A) (i j : ℕ) (x d : A) → i < length xs
     → get_or (set xs i x) j d ≡ cond (i == j) x (get_or xs j d)
 set_at xs i j x d l = by_test (i == j)
     (λ e. let z : i ≡ j = eqb-true i j e in rw e (rw (← z) (get_or-set_same xs i x d l)))

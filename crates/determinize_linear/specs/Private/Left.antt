@@ -1,5 +1,5 @@
 -- What a search may still follow: the choices of the pairs that are not marked.
-use Rattle.std.specs.Prelude.{◌≤◌, ◌+◌, ◌<◌, ◌||◌, ℕ, Bool, List, [], ◌∷◌, cond, length, map, nat_lt}
+use Rattle.std.specs.Prelude.{◌+◌, ◌||◌, ℕ, Bool, List, [], ◌∷◌, cond, length, map, nat_lt}
 use Rattle.std.specs.List.{flat_map}
 use Rattle.determinize_below.specs.Semantics.{Nfa, Text, choices}
 use Rattle.determinize_core.specs.Tries.{edges_in_all}
@@ -26,13 +26,3 @@ left nfa text k rows =
 -- the most choices at a position
 abbrev pub most_choices : Nfa → ℕ
 most_choices nfa = length nfa.states + edges_in_all nfa
-
--- some searches, up to a match with this end, took a try each and one for each choice that they
--- used up; the choices at the end are left again
-pub record IsPaid (nfa : Nfa) (text : Text) (from end searches : ℕ)
-    (before after : List (List Bool)) (old new : ℕ) : Type 0 where
-  pub low : from ≤ end
-  pub further : (k : ℕ) → end < k
-      → new + left nfa text k after ≤ old + searches + left nfa text from before
-  pub here : new + left nfa text end after
-      ≤ old + searches + left nfa text from before + most_choices nfa

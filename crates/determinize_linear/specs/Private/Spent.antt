@@ -1,9 +1,7 @@
 -- Marked pairs from which no run accepts.
-use Rattle.std.specs.Prelude.{◌≡◌, ◌+◌, ◌≤◌, ℕ, Bool, Contains, List, None, Option, Some, [], false, length, slice_index_or, true}
+use Rattle.std.specs.Prelude.{◌≡◌, ◌+◌, ◌≤◌, ℕ, Bool, Contains, List, [], false, length, slice_index_or, true}
 use Rattle.determinize_below.specs.Edges.{is_match}
 use Rattle.determinize_below.specs.Semantics.{Nfa, Text, choices}
-use Rattle.determinize_below.specs.declared.search.HalfMatch.{HalfMatch}
-use Rattle.determinize_below.specs.declared.search.Match.{Match}
 use Rattle.determinize_linear.specs.Private.Marks.{is_marked}
 
 -- there is a place for the mark of each pair of a position of the text and a state
@@ -18,13 +16,3 @@ pub record IsSpent (nfa : Nfa) (text : Text) (k : ℕ) (rows : List (List Bool))
   pub none : (p : ℕ × ℕ) → is_marked rows p ≡ true → is_match nfa p.1 ≡ false
   pub closed : (p q : ℕ × ℕ) → is_marked rows p ≡ true → k ≤ p.0
       → Contains (choices nfa text p) q → is_marked rows q ≡ true
-
--- where the match ends; where the search began, if there is none
-abbrev pub end_of : ℕ → Option HalfMatch → ℕ
-end_of k None = k
-end_of k (Some m) = m.offset
-
--- the same of a match with both ends
-abbrev pub end_or : ℕ → Option Match → ℕ
-end_or at None = at
-end_or at (Some m) = m.end

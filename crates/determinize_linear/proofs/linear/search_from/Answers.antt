@@ -7,7 +7,8 @@ use Rattle.determinize_below.specs.Node.{node_of}
 use Rattle.determinize_below.specs.Semantics.{Fail, Match, Node, choices, state_at}
 use Rattle.determinize_below.specs.declared.search.HalfMatch.{HalfMatch}
 use Rattle.determinize_find.specs.Private.BestAt.{IsBestAt, from_index}
-use Rattle.determinize_linear.specs.Private.Left.{IsPaid, left}
+use Rattle.determinize_linear.specs.Private.Left.{left, most_choices}
+use Rattle.determinize_linear.specs.Private.Paid.{IsPaid}
 use Rattle.determinize_linear.specs.Private.Marks.{is_marked, with_mark, without_marks}
 use Rattle.determinize_linear.specs.Private.Spent.{HasPlaces, IsSpent}
 use Rattle.determinize_linear.proofs.search.Left.{left_marked, paid_match}
@@ -81,7 +82,8 @@ returns-in-Match-clause-paid g c = λ k.
     let popped : length c.loop-at.stack.items ≡ length c.pop.new.self.items + 1
     = ap (λ (l : List (ℕ × ℕ)). length l) c.in-Some.ensures.items
     ∙ length-append c.pop.new.self.items ((c.in-Some.at, c.in-Some.id) ∷ []) in
-    subst (λ (e : ℕ). IsPaid c.args.nfa.now c.args.text.now c.args.from e 1 c.args.visited.now c.clear-in-Match.new.self
+    subst (λ (e : ℕ). IsPaid (λ k. left c.args.nfa.now c.args.text.now k c.clear-in-Match.new.self)
+    (most_choices c.args.nfa.now) (left c.args.nfa.now c.args.text.now c.args.from c.args.visited.now) c.args.from e 1
     (g.C.Counter.total c.args.counter.now) (g.C.Counter.total c.count.new.self))
     (sym (ap (λ (h : HalfMatch). h.offset) c.new.ensures))
     (paid_match c.args.nfa.now c.args.text.now c.args.from c.in-Some.at c.args.visited.now c.loop-at.visited

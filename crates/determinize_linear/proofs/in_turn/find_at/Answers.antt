@@ -1,7 +1,7 @@
 use Rattle.std.proofs.Common.{◌≡◌, ◌≤◌, ◌-◌, ◌∙◌, ap, arith, length}
 use Rattle.determinize_below.specs.Semantics.{Text}
 use Rattle.determinize_find.proofs.matches.OneList.{length-range}
-use Rattle.determinize_linear.proofs.linear.find_at.Goals as goal
+use Rattle.determinize_linear.proofs.in_turn.find_at.Goals as goal
 
 pub search_from-requires-clause-within : goal.search_from-requires-clause-within
 search_from-requires-clause-within g c =

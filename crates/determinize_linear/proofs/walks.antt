@@ -1,0 +1,4 @@
+pub mod Followed
+pub mod Preferred
+pub mod Unset
+pub mod Walked

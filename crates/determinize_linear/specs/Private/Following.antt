@@ -1,0 +1,37 @@
+-- What the rows of a DFA list behind a position of a text, and marks of pairs behind which it is
+-- nothing.
+use Rattle.std.specs.Prelude.{◌≡◌, ◌*◌, ◌+◌, ◌-◌, ◌<◌, ◌≤◌, ◌^◌, ℕ, None, Option, drop, length, true}
+use Rattle.determinize_below.specs.Semantics.{Nfa, Text}
+use Rattle.determinize_below.specs.declared.search.HalfMatch.{HalfMatch}
+use Rattle.determinize_below.specs.declared.search.MatchKind.TheVariants.{LeftmostFirst}
+use Rattle.determinize_core.specs.Chain.{units}
+use Rattle.determinize_core.specs.Walk.{last_listed}
+use Rattle.determinize_dense.specs.Least.{HasRows}
+use Rattle.determinize_dense.specs.Reading.{lists_along}
+use Rattle.determinize_dense.specs.Table.{DfaValue, Table}
+use Rattle.determinize_linear.specs.Private.RowMarks.{RowMarks, count_unset, is_set}
+
+-- the last match that is listed behind a position, where a walk is in a row
+abbrev pub following : Table → Text → ℕ → ℕ → Option HalfMatch
+following d text at row = last_listed at (lists_along d row (drop at (units text)))
+
+-- from a position on, none is listed behind a marked pair
+abbrev pub NoneFollows : Table → Text → ℕ → RowMarks → Type 0
+NoneFollows d text k m = (at row : ℕ) → k ≤ at → row < m.rows → is_set m at row ≡ true
+    → following d text at row ≡ None
+
+-- walks by this DFA, with these marks, may go on from a position of a text
+pub record IsWalkable (dfa : DfaValue) (m : RowMarks) (nfa : Nfa) (text : Text) (k : ℕ) : Type 0
+  where
+    pub same : dfa.nfa ≡ nfa
+    pub kind : dfa.kind ≡ LeftmostFirst
+    pub rows : HasRows dfa.nfa dfa.table
+    pub count : m.rows ≡ length dfa.table.patterns
+    pub places : (length text.bytes + 1) * m.rows ≤ 64 * length m.words
+    pub limit : (length text.bytes + 1) * m.rows < 2 ^ 64
+    pub none : NoneFollows dfa.table text k m
+
+-- the steps that are left: one for each pair that is not marked, and for each position
+abbrev pub steps_left : RowMarks → Text → ℕ → ℕ
+steps_left m text k =
+    count_unset m.words ((length text.bytes + 1) * m.rows) + (length text.bytes + 1 - k)

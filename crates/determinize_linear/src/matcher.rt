@@ -1,0 +1,55 @@
+//! What a search for all matches rests on: searches from one position after another of a text.
+
+ghost use Rattle.std.specs.Prelude.{◌≡◌, ◌≤◌, ◌+◌, ℕ, IfOk, IsTrue, false, length, option_map};
+ghost use Rattle.std.specs.Option.{IfNone, IfSome};
+ghost use Rattle.determinize_below.specs.Nfa.{IsAccepted};
+ghost use Rattle.determinize_below.specs.Semantics as semantics;
+ghost use Rattle.determinize_find.specs.Private.BestAt.{IsBestAt, from_index};
+ghost use Rattle.determinize_linear.specs.Private.Paid.{IsPaid, end_of};
+
+use crate::tries::Counter;
+use determinize_below::{HalfMatch, NFA};
+use determinize_engine::text::Text;
+use std::alloc::{AllocError, Allocator};
+
+/// A search of one text from positions that never go back: after a match from where it ends on, and
+/// else from where the search before it began on.
+pub(crate) trait Matcher {
+    /// Whether it may search a text of an NFA from a position.
+    ghost is_ready: { Self → semantics.Nfa → semantics.Text → ℕ → Type 0 };
+
+    /// The tries that are left to searches from a position on.
+    ghost left: { Self → semantics.Nfa → semantics.Text → ℕ → ℕ };
+
+    /// The tries that a match may leave to the search after it, at the position where it ends.
+    ghost most: { semantics.Nfa → ℕ };
+
+    /// Returns the pattern and the end of the most preferred match that begins at a position, if
+    /// any.
+    fn search_from<N: Allocator, C: Counter>(
+        &mut self,
+        nfa: &NFA<N>,
+        text: &Text<'_>,
+        from: usize,
+        counter: &mut C,
+    ) -> Result<Option<HalfMatch>, AllocError>
+        requires accepted { IsAccepted nfa.now }
+        requires forward { nfa.now.reverse ≡ false }
+        requires within { from ≤ length text.now.bytes }
+        requires ready { is_ready self.old nfa.now text.now from }
+        ensures best { IfOk result
+            (λ found. IsBestAt nfa.now text.now from (option_map (from_index from) found)) }
+        ensures within { IfOk result
+            (λ found. IfSome found (λ m. m.offset ≤ length text.now.bytes)) }
+        ensures ready { IfOk result (λ found. (k : ℕ) → end_of from found ≤ k
+            → is_ready self.new nfa.now text.now k) }
+        ensures paid { IsTrue C.counts → IfOk result (λ found. IfSome found (λ m.
+            IsPaid (left self.new nfa.now text.now) (most nfa.now)
+            (left self.old nfa.now text.now from) from m.offset 1
+            (C.total counter.old) (C.total counter.new))) }
+        ensures unpaid { IsTrue C.counts → IfOk result (λ found. IfNone found ((k : ℕ) → from ≤ k
+            → C.total counter.new + left self.new nfa.now text.now k
+            ≤ C.total counter.old + 1 + left self.old nfa.now text.now from)) }
+        ensures bounded { IsTrue C.counts → C.total counter.new
+            ≤ C.total counter.old + 1 + left self.old nfa.now text.now from };
+}
