@@ -2,9 +2,9 @@
 -- Main statement: each_count_is_one.
 -- Used by: the law of the number of states.
 -- Idea: a list of values, each once, that are all in another list is not longer than that.
-use Rattle.determinize_core.proofs.Common.{ap, arith, Contains, length, List, same, Some, sym}
+use Rattle.determinize_core.proofs.Common.{arith, Contains, length, List, same}
 use Rattle.determinize_engine.specs.States.{EachApart}
-use Rattle.determinize_core.proofs.Common.{Value, ◌∙◌, ◌≡◌, ◌≤◌}
+use Rattle.determinize_core.proofs.Common.{Value, ◌≡◌, ◌≤◌}
 use Rattle.determinize_engine.proofs.Places.{same_laws}
 use Rattle.determinize_dense.specs.Dfa.{EachCountIsOne}
 use Rattle.determinize_state.specs.Equality.{Decides-same}
@@ -14,7 +14,7 @@ use Rattle.std.specs.List.{IsDistinct}
 
 distinct : (vs : List Value) → EachApart vs → IsDistinct same vs
 distinct vs apart = IsDistinct-from_AllPairs Decides-same vs (pairs_from (λ v w. v ≡ w → ⊥) vs (λ p q v w l a b e.
-    let k : p ≡ q = apart p q v a (b ∙ ap Some (sym e)) in let no : ⊥ = omega (arith, l, k) in no))
+    omega (arith, apart p q v a (rw e b))))
 
 pub no_longer : (vs ws : List Value) → EachApart vs → ((v : Value) → Contains vs v → Contains ws v)
     → length vs ≤ length ws
@@ -24,10 +24,7 @@ no_longer vs ws apart there = length-le_from_is_member same_laws vs ws (distinct
 pub each_count_is_one : EachCountIsOne
 each_count_is_one nfa kind n m a = (
   λ b.
-      let up : length a.0 ≤ length b.0 = no_longer a.0 b.0 a.1 (λ v h. (b.3 v).1 ((a.3 v).0 h)) in
-      let down : length b.0 ≤ length a.0 = no_longer b.0 a.0 b.1 (λ v h. (a.3 v).1 ((b.3 v).0 h)) in
-      let i = a.2 in let j = b.2 in omega (arith, i, j, up, down),
-  λ b.
-      let down : length b.0 ≤ length a.0 = no_longer b.0 a.0 b.1 (λ v h. (a.3 v).1 (b.3 v h)) in
-      let i = a.2 in let j = b.2 in omega (arith, i, j, down),
+      let up = no_longer a.0 b.0 a.1 (λ v h. (b.3 v).1 ((a.3 v).0 h)) in
+      let down = no_longer b.0 a.0 b.1 (λ v h. (a.3 v).1 ((b.3 v).0 h)) in omega arith,
+  λ b. let down = no_longer b.0 a.0 b.1 (λ v h. (a.3 v).1 (b.3 v h)) in omega arith,
 )
