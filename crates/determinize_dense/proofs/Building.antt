@@ -1,52 +1,68 @@
 -- A table that is being built: one value more, and one entry more.
-use Rattle.determinize_core.proofs.Common.{AllResolve, ap, arith, by_test, cond, dead, Err, false, get_or, inl, inr}
+-- Main statements: building-first, building-value, building-entry, next_row-before, stays-more, one_too_many.
+-- Used by: the functions of `Builder`, and `build`.
+-- Idea: what holds of each value so far, and of one more, holds of each after it is added.
+use Rattle.determinize_core.proofs.Common.{All-nil, AllResolve, ap, arith, Bool, get_or, by_cases, by_test, dead, Err, false}
 use Rattle.determinize_core.proofs.Common.{IsAccepted, length, length_push, List, list_any, MatchKind, nat_eq, nat_lt}
-use Rattle.determinize_core.proofs.Common.{Nfa, None, Ok, refl, Result, same, slice_get, slice_index, slice_set, Some}
-use Rattle.determinize_core.proofs.Common.{subst, sym, true, Value, ℕ, [], get_or-set_other, get_or-set_same}
-use Rattle.determinize_core.proofs.Common.{length-set, slice_get-get_or, ◌*◌, ◌++◌, ◌+◌, ◌<◌, ◌∙◌, ◌∷◌, ◌≡◌, ◌≤◌}
+use Rattle.determinize_core.proofs.Common.{Nfa, Ok, refl, Result, same, slice_get, slice_index, slice_set, Some}
+use Rattle.determinize_core.proofs.Common.{sym, true, Value, ℕ, [], get_or-set_other, get_or-set_same}
+use Rattle.determinize_core.proofs.Common.{length-set, slice_get-get_or, slice_get_within, ◌*◌, ◌++◌, ◌+◌, ◌-◌, ◌<◌, ◌∙◌, ◌∷◌, ◌≡◌, ◌≤◌}
 use Rattle.determinize_dense.proofs.Common.{AreClasses, AreClassesOf, AreStarts, Building, Classes, columns_of}
-use Rattle.determinize_dense.proofs.Common.{first_of, HasMoreStates, HasStates, IsBuilding, IsReachedValue, IsStart}
+use Rattle.determinize_dense.proofs.Common.{first_of, HasChanges, HasMoreStates, IsBuilding, IsReachedValue, IsStart, IsNextRow}
 use Rattle.determinize_dense.proofs.Common.{IsUnit, slot_number, Stays, unit_at}
 use Rattle.determinize_core.specs.Step.{step}
 use Rattle.std.specs.Prelude.{◌%◌, ◌/◌}
 use Rattle.std.proofs.Math.Nat.{mul-le-mul_right, mul_comm}
-use Rattle.std.proofs.lemmas.Nat.{row-Below}
 use Rattle.std.proofs.lemmas.Option.{slice_get_read}
+use Rattle.std.proofs.lemmas.Nat.{div-mul-add, mod-mul-add, mul-add-lt}
+use Rattle.ordered_reach.proofs.lists.Elements.{In_from_Contains}
 use Rattle.determinize_dense.proofs.Reached.{reached-dead}
 use Rattle.determinize_start.proofs.kinds.StartSlots.{one_slot, slot_number-below}
 use Rattle.determinize_start.specs.declared.start.StartSlot.{StartSlot}
-use Rattle.determinize_engine.proofs.Places.{apart-push, get_more, get_push, not_both, not_none}
+use Rattle.determinize_engine.proofs.Places.{apart-push, get_more, get_push, not_both, not_none, of_some}
 use Rattle.determinize_engine.specs.declared.state_table.TheConstants.{MAX_STATES}
+
+-- other values behind those that were found, and other entries
+pub stays-grown : (b : Building) (values : List Value) (next : List ℕ) → length b.values ≤ length values
+    → ((i : ℕ) (v : Value) → slice_get b.values i ≡ Some v → slice_get values i ≡ Some v)
+    → Stays b (record b { values = values; next = next })
+stays-grown b values next longer stay =
+    record { nfa = refl; kind = refl; classes = refl; limit = refl; longer = longer; values = stay }
 
 -- nothing changes
 pub stays-same : (b : Building) → Stays b b
-stays-same b = record {
-  nfa = refl;
-  kind = refl;
-  classes = refl;
-  limit = refl;
-  longer = omega arith;
-  values = λ i v at. at;
-}
+stays-same b = stays-grown b b.values b.next (omega arith) (λ i v at. at)
 
 -- the unit of a column is a unit
 pub unit_at-unit : (p : Classes) → AreClasses p → (c : ℕ) → IsUnit (unit_at p c)
-unit_at-unit p are c = elim (nat_lt c (length p.firsts)) as (λ b. nat_lt c (length p.firsts) ≡ b
-    → IsUnit (cond b (Some (first_of p c)) None)) [
-      | true ↦ λ e. are.bytes c (grind (arith, e))
-      | false ↦ λ e. tt
-    ] refl
+unit_at-unit p are c = by_test (nat_lt c (length p.firsts))
+    (λ e. rw e (are.bytes c (grind (arith, e))))
+    (λ e. rw e tt)
 
--- the row of the next entry is there
-pub row-there : (b : Building) → length b.next < length b.values * columns_of b.classes
-    → length b.next / columns_of b.classes < length b.values
-row-there b room = (row-Below (length b.next) (columns_of b.classes) (columns_of b.classes) (length b.values)
-    (subst (λ n. length b.next < n) (mul_comm (length b.values) (columns_of b.classes)) room) (omega arith)).1
+-- what is true of each element, and of one more
+one_more : {K : Type 0} (P : K → Type 0) (xs : List K) (x : K) → ((i : ℕ) (y : K) → slice_get xs i ≡ Some y → P y) → P x
+    → (i : ℕ) (y : K) → slice_get (xs ++ x ∷ []) i ≡ Some y → P y
+one_more P xs x each new i y at = by_cases (get_push xs x i y at) (each i y) (λ k. rw k.1 new)
+
+-- the unit of a class is its least byte
+pub unit_at-byte : (p : Classes) (c : ℕ) → c < length p.firsts → unit_at p c ≡ Some (first_of p c)
+unit_at-byte p c inside = let e : nat_lt c (length p.firsts) ≡ true = grind (arith, inside) in rw e refl
+
+-- the row and the column of an entry
+place-of : (row column columns : ℕ) → column < columns
+    → ((row * columns + column) / columns ≡ row) × ((row * columns + column) % columns ≡ column)
+place-of row column columns inside = (div-mul-add row columns column inside, mod-mul-add row columns column inside)
 
 module _ (b : Building) (is : IsBuilding b) where
   module _ (v : Value) (fresh : list_any (same v) b.values ≡ false) (reached : IsReachedValue b.nfa b.kind v) where
     abbrev more : Building
     more = record b { values = b.values ++ v ∷ [] }
+
+    longer : length more.values ≡ length b.values + 1
+    longer = length_push b.values v
+
+    each_reached : (i : ℕ) (x : Value) → slice_get more.values i ≡ Some x → IsReachedValue b.nfa b.kind x
+    each_reached = one_more (λ x. IsReachedValue b.nfa b.kind x) b.values v is.reached reached
 
     -- a value more
     pub building-value : AllResolve b.nfa v.states → length b.values < b.limit → IsBuilding more
@@ -56,75 +72,64 @@ module _ (b : Building) (is : IsBuilding b) where
       sound = is.sound;
       apart = apart-push b.values v is.apart fresh;
       first = get_more b.values (v ∷ []) 0 _ is.first;
-      reached = λ i x at. elim (get_push b.values v i x at) [
-        | inl old ↦ is.reached i x old
-        | inr new ↦ subst (λ (y : Value). IsReachedValue b.nfa b.kind y) (sym new.1) reached
-      ];
-      resolve = λ i x at. elim (get_push b.values v i x at) [
-        | inl old ↦ is.resolve i x old
-        | inr new ↦ subst (λ (y : Value). AllResolve b.nfa y.states) (sym new.1) resolve
-      ];
+      reached = each_reached;
+      resolve = one_more (λ x. AllResolve b.nfa x.states) b.values v is.resolve resolve;
       entries = λ e r at. let k = is.entries e r at in
           (k.0, get_more b.values (v ∷ []) _ _ k.1, get_more b.values (v ∷ []) _ _ k.2);
-      within =
-          let n : length (b.values ++ v ∷ []) ≡ length b.values + 1 = length_push b.values v in
-          let m : length b.values * columns_of b.classes ≤ length (b.values ++ v ∷ []) * columns_of b.classes =
-          mul-le-mul_right (columns_of b.classes) (let l : length b.values ≤ length (b.values ++ v ∷ []) =
-          omega (arith, n) in l) in
+      within = let m : length b.values * columns_of b.classes ≤ length more.values * columns_of b.classes =
+          mul-le-mul_right (columns_of b.classes) (omega (arith, longer)) in
           let w : length b.next ≤ length b.values * columns_of b.classes = is.within in omega (arith, m, w);
-      few = let n : length (b.values ++ v ∷ []) ≡ length b.values + 1 = length_push b.values v in
-          omega (arith, n, room);
+      few = omega (arith, longer, room);
       limit = is.limit;
     }
 
     pub stays-value : Stays b more
-    stays-value = record {
-      nfa = refl;
-      kind = refl;
-      classes = refl;
-      limit = refl;
-      longer = let n : length (b.values ++ v ∷ []) ≡ length b.values + 1 = length_push b.values v in omega (arith, n);
-      values = λ i x at. get_more b.values (v ∷ []) i x at;
-    }
+    stays-value = stays-grown b more.values b.next (omega (arith, longer)) (get_more b.values (v ∷ []))
 
     -- there are more values than the limit
     pub one_too_many : length b.values ≡ b.limit → HasMoreStates b.nfa b.kind b.limit
     one_too_many full = (
-      b.values ++ v ∷ [],
+      more.values,
       apart-push b.values v is.apart fresh,
-      (let n : length (b.values ++ v ∷ []) ≡ length b.values + 1 = length_push b.values v in omega (arith, n, full)),
-      λ x h. elim (get_push b.values v h.0 x (slice_get-get_or (b.values ++ v ∷ []) h.0 x h.1 ∙ ap Some h.2)) [
-        | inl old ↦ is.reached h.0 x old
-        | inr new ↦ subst (λ (y : Value). IsReachedValue b.nfa b.kind y) (sym new.1) reached
-      ],
+      omega (arith, longer, full),
+      λ x h. let k = In_from_Contains more.values x h in each_reached k.0 x k.1,
     )
 
+  -- the entry of the column before, if one step serves both columns
+  pub next_row-before : (row column r : ℕ) (v : Value) → slice_get b.values row ≡ Some v → 0 < column
+      → column < length b.classes.firsts → slice_get b.next (row * columns_of b.classes + (column - 1)) ≡ Some r
+      → step b.nfa b.kind v (Some (first_of b.classes (column - 1)))
+      ≡ step b.nfa b.kind v (Some (first_of b.classes column))
+      → IsNextRow b row column r
+  next_row-before row column r v at positive inside entry same =
+      let place = place-of row (column - 1) (columns_of b.classes) (omega (arith, inside)) in
+      let before : IsNextRow b row (column - 1) r = rw (place.0, place.1) at (is.entries _ r entry) in
+      let here : before.0 ≡ v = of_some (sym before.1 ∙ at) in
+      let first = unit_at-byte b.classes (column - 1) (omega (arith, inside)) in
+      (v, at, rw (unit_at-byte b.classes column inside, ← same, ← here, ← first) before.2)
+
   -- an entry more
-  pub building-entry : (v : Value) (r : ℕ) → slice_get b.values (length b.next / columns_of b.classes) ≡ Some v
-      → slice_get b.values r ≡ Some (step b.nfa b.kind v (unit_at b.classes (length b.next % columns_of b.classes)))
-      → length b.next < length b.values * columns_of b.classes
-      → IsBuilding (record b { next = b.next ++ r ∷ [] })
-  building-entry v r from to room = record {
-    accepted = is.accepted;
-    classes = is.classes;
-    sound = is.sound;
-    apart = is.apart;
-    first = is.first;
-    reached = is.reached;
-    resolve = is.resolve;
-    entries = λ e s at. elim (get_push b.next r e s at) [
-      | inl old ↦ is.entries e s old
-      | inr new ↦ (
-        v,
-        ap (λ n. slice_get b.values (n / columns_of b.classes)) new.0 ∙ from,
-        ap (λ n. slice_get b.values n) new.1
-            ∙ to ∙ ap (λ n. Some (step b.nfa b.kind v (unit_at b.classes (n % columns_of b.classes)))) (sym new.0),
-      )
-    ];
-    within = let n : length (b.next ++ r ∷ []) ≡ length b.next + 1 = length_push b.next r in omega (arith, n, room);
-    few = is.few;
-    limit = is.limit;
-  }
+  pub building-entry : (row column r : ℕ) → length b.next ≡ row * columns_of b.classes + column
+      → column < columns_of b.classes → IsNextRow b row column r → IsBuilding (record b { next = b.next ++ r ∷ [] })
+  building-entry row column r count inside next =
+      let place = place-of row column (columns_of b.classes) inside in
+      let room = mul-add-lt row (columns_of b.classes) column (length b.values)
+      (slice_get_within b.values row _ next.1) inside in
+      record {
+        accepted = is.accepted;
+        classes = is.classes;
+        sound = is.sound;
+        apart = is.apart;
+        first = is.first;
+        reached = is.reached;
+        resolve = is.resolve;
+        entries = λ e s at. by_cases (get_push b.next r e s at)
+            (is.entries e s)
+            (λ new. rw (new.0, new.1, count, place.0, place.1) next);
+        within = omega (arith, length_push b.next r, count, mul_comm (columns_of b.classes) (length b.values), room);
+        few = is.few;
+        limit = is.limit;
+      }
 
 -- one call after another
 pub stays-more : {a b c : Building} → Stays a b → Stays b c → Stays a c
@@ -175,81 +180,68 @@ starts-push {nfa} {values} {n} {starts} slot row are n_is inside start = record 
 -- another NFA, kind and limit that are the same
 pub more-as : {m n : Nfa} {j k : MatchKind} {l r : ℕ} → m ≡ n → j ≡ k → l ≡ r → HasMoreStates m j l
     → HasMoreStates n k r
-more-as {m} {n} {j} {k} {l} {r} nfa kind limit h =
-    subst (λ x. HasMoreStates x k r) nfa (subst (λ x. HasMoreStates m x r) kind
-    (subst (λ x. HasMoreStates m j x) limit h))
+more-as nfa kind limit h = rw (← nfa, ← kind, ← limit) h
 
+-- there were more values than the limit before a call, if there are after it
 pub more-before : {a b : Building} → Stays a b → HasMoreStates b.nfa b.kind b.limit → HasMoreStates a.nfa a.kind a.limit
-more-before s h = more-as s.nfa s.kind s.limit h
+more-before s = more-as s.nfa s.kind s.limit
 
--- there is one value at least
-pub more-than-none : (nfa : Nfa) (kind : MatchKind) {limit : ℕ} → limit ≡ 0 → HasMoreStates nfa kind limit
-more-than-none nfa kind none = (
-  dead ∷ [],
-  apart-push [] dead (λ p q v at. not_none (sym at)) refl,
-  omega (arith, none),
-  λ x h. elim (get_push [] dead h.0 x (slice_get-get_or (dead ∷ []) h.0 x h.1 ∙ ap Some h.2)) [
-    | inl old ↦ not_none (sym old)
-    | inr new ↦ subst (λ (y : Value). IsReachedValue nfa kind y) (sym new.1) (reached-dead nfa kind)
-  ],
-)
+module _ (nfa : Nfa) (kind : MatchKind) where
+  none : (P : Value → Type 0) (i : ℕ) (v : Value) → slice_get [] i ≡ Some v → P v
+  none P i v at = not_none (sym at)
 
--- a builder with the dead value only
-pub building-first : (nfa : Nfa) (kind : MatchKind) (classes : Classes) (limit : ℕ) → IsAccepted nfa
-    → AreClassesOf nfa classes → AreClasses classes → 0 < limit → limit ≤ MAX_STATES
-    → IsBuilding record { nfa = nfa; kind = kind; classes = classes; limit = limit; values = dead ∷ []; next = [] }
-building-first nfa kind classes limit accepted of sound some few = record {
-  accepted = accepted;
-  classes = of;
-  sound = sound;
-  apart = apart-push [] dead (λ p q v at. not_none (sym at)) refl;
-  first = refl;
-  reached = λ i v at. elim (get_push [] dead i v at) [
-    | inl old ↦ not_none (sym old)
-    | inr new ↦ subst (λ (y : Value). IsReachedValue nfa kind y) (sym new.1) (reached-dead nfa kind)
-  ];
-  resolve = λ i v at. elim (get_push [] dead i v at) [
-    | inl old ↦ not_none (sym old)
-    | inr new ↦ subst (λ (y : Value). AllResolve nfa y.states) (sym new.1)
-        (λ k d l. absurd (let no : ⊥ = omega (arith, l) in no))
-  ];
-  entries = λ e r at. not_none (sym at);
-  within = omega arith;
-  few = some;
-  limit = few;
-}
+  dead_reached : (i : ℕ) (v : Value) → slice_get (dead ∷ []) i ≡ Some v → IsReachedValue nfa kind v
+  dead_reached = let P : Value → Type 0 = λ v. IsReachedValue nfa kind v in
+      one_more P [] dead (none P) (reached-dead nfa kind)
+
+  -- there is one value at least
+  pub more-than-none : {limit : ℕ} → limit ≡ 0 → HasMoreStates nfa kind limit
+  more-than-none none_left = (
+    dead ∷ [],
+    apart-push [] dead (λ p q v at. not_none (sym at)) refl,
+    omega (arith, none_left),
+    λ x h. let k = In_from_Contains (dead ∷ []) x h in dead_reached k.0 x k.1,
+  )
+
+  -- a builder with the dead value only
+  pub building-first : (classes : Classes) (limit : ℕ) → IsAccepted nfa → AreClassesOf nfa classes → AreClasses classes
+      → 0 < limit → limit ≤ MAX_STATES
+      → IsBuilding record { nfa = nfa; kind = kind; classes = classes; limit = limit; values = dead ∷ []; next = [] }
+  building-first classes limit accepted of sound some few = record {
+    accepted = accepted;
+    classes = of;
+    sound = sound;
+    apart = apart-push [] dead (λ p q v at. not_none (sym at)) refl;
+    first = refl;
+    reached = dead_reached;
+    resolve = let P : Value → Type 0 = λ v. AllResolve nfa v.states in one_more P [] dead (none P) (All-nil _);
+    entries = λ e r at. not_none (sym at);
+    within = omega arith;
+    few = some;
+    limit = few;
+  }
+
+-- what was read at an index
+pub read-at : {K : Type 0} {xs ys : List K} {i : ℕ} {x : K} → i < length xs → ys ≡ xs → x ≡ get_or ys i x
+    → slice_get xs i ≡ Some x
+read-at {K} {xs} {ys} {i} {x} inside same is = slice_get_read xs (length xs) i x refl inside (rw same at is)
+
+-- the marks of a row stay
+pub changes-stay : {a b : Building} {row : ℕ} (marks : List Bool) → Stays a b → row < length a.values
+    → HasChanges a row marks → HasChanges b row marks
+changes-stay {a} {b} {row} marks s inside has v at =
+    let here : slice_get a.values row ≡ Some (get_or a.values row v) = slice_get-get_or a.values row v inside in
+    let same : get_or a.values row v ≡ v = of_some (sym (s.values row _ here) ∙ at) in
+    rw s.nfa (has v (here ∙ ap Some same))
+
+-- the row after a row, once its value was placed
+pub next_row-placed : {a b : Building} → Stays a b → (row column r : ℕ) (v w : Value) → slice_get a.values row ≡ Some v
+    → w ≡ step a.nfa a.kind v (unit_at a.classes column) → slice_get b.values r ≡ Some w → IsNextRow b row column r
+next_row-placed s row column r v w at next to = (v, s.values row v at, rw (s.nfa, s.kind, s.classes, ← next) to)
 
 -- other entries are not read
 pub stays-next : {a b : Building} (next : List ℕ) → Stays a b → Stays a (record b { next = next })
-stays-next next s = record {
-  nfa = s.nfa;
-  kind = s.kind;
-  classes = s.classes;
-  limit = s.limit;
-  longer = s.longer;
-  values = s.values;
-}
-
--- an entry more, after a value was placed
-pub building-next : {a b : Building} → IsBuilding b → Stays a b → b.next ≡ a.next → (v : Value) (r : ℕ) (w : Value)
-    → slice_get a.values (length a.next / columns_of a.classes) ≡ Some v
-    → w ≡ step a.nfa a.kind v (unit_at a.classes (length a.next % columns_of a.classes))
-    → slice_get b.values r ≡ Some w
-    → length a.next < length a.values * columns_of a.classes
-    → IsBuilding (record b { next = b.next ++ r ∷ [] })
-building-next {a} {b} is s same v r w from w_is to room =
-    building-entry b is v r
-    (ap (λ n. slice_get b.values (length n / columns_of b.classes)) same
-    ∙ ap (λ p. slice_get b.values (length a.next / columns_of p)) s.classes ∙ s.values _ v from)
-    (to ∙ ap Some (w_is ∙ ap (λ n. step n a.kind v (unit_at a.classes (length a.next % columns_of a.classes)))
-    (sym s.nfa)
-    ∙ ap (λ k. step b.nfa k v (unit_at a.classes (length a.next % columns_of a.classes))) (sym s.kind)
-    ∙ ap (λ p. step b.nfa b.kind v (unit_at p (length a.next % columns_of p))) (sym s.classes)
-    ∙ ap (λ n. step b.nfa b.kind v (unit_at b.classes (length n % columns_of b.classes))) (sym same)))
-    (subst (λ n. length n < length b.values * columns_of b.classes) (sym same)
-    (subst (λ p. length a.next < length b.values * columns_of p) (sym s.classes)
-    (let more : length a.values * columns_of a.classes ≤ length b.values * columns_of a.classes =
-    mul-le-mul_right (columns_of a.classes) s.longer in omega (arith, more, room))))
+stays-next {a} {b} next s = stays-more s (stays-grown b b.values next (omega arith) (λ i v at. at))
 
 -- the error of one result and of another
 abbrev err_of : {T E : Type 0} → E → Result T E → E
@@ -258,17 +250,3 @@ err_of d (Err e) = e
 
 pub same_err : {T E : Type 0} {x y : E} → ◌≡◌ {A = Result T E} (Err x) (Err y) → x ≡ y
 same_err {T} {E} {x} e = ap (λ (r : Result T E). err_of x r) e
-
--- the same states for an NFA and a kind that are the same
-pub states-as : {m n : Nfa} {j k : MatchKind} {count : ℕ} → m ≡ n → j ≡ k → HasStates m j count → HasStates n k count
-states-as {m} {n} {j} {k} {count} nfa kind h =
-    subst (λ x. HasStates x k count) nfa (subst (λ x. HasStates m x count) kind h)
-
--- the value whose row has the next entry
-pub next-row : (b : Building) → length b.next < length b.values * columns_of b.classes → {e n : ℕ} → e ≡ length b.next
-    → n ≡ columns_of b.classes → {vs : List Value} → vs ≡ b.values → {v : Value} → v ≡ get_or vs (e / n) v
-    → slice_get b.values (length b.next / columns_of b.classes) ≡ Some v
-next-row b room {e} {n} entry columns {vs} values {v} is =
-    slice_get_read b.values (length b.values) (length b.next / columns_of b.classes) v refl (row-there b room)
-    (is ∙ ap (λ k. get_or vs (k / n) v) entry ∙ ap (λ k. get_or vs (length b.next / k) v) columns
-    ∙ ap (λ xs. get_or xs (length b.next / columns_of b.classes) v) values)

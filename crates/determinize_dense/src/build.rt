@@ -2,15 +2,17 @@
 //!
 //! The states found so far have rows in the order in which they were found: the dead state, the
 //! start states, and then the next states of each row. An entry is computed for one byte of each
-//! class, and for the end of input (EOI).
+//! class, and for the end of input (EOI). If each NFA state of a row has the same target on the
+//! byte of a column as on that of the column before, one step mostly serves both.
 
-ghost use Rattle.std.specs.Prelude.{◌≡◌, ◌<◌, ◌≤◌, ◌+◌, ◌*◌, ◌∷◌, [], Err, Some, IfOk, OnOk, length, map, min, slice_get};
+ghost use Rattle.std.specs.Prelude.{◌≡◌, ◌<◌, ◌≤◌, ◌+◌, ◌*◌, ◌∷◌, [], Err, Some, IfOk, IfSome, OnOk, length, map, min, slice_get};
 ghost use Rattle.determinize_below.specs.Unit.{byte_of};
 ghost use Rattle.determinize_start.specs.declared.start.TheConstants.StartSlot.{COUNT};
 ghost use Rattle.determinize_below.specs.Nfa.{AllResolve};
 ghost use Rattle.determinize_core.specs.Value.{Value as StateValue, dead};
 ghost use Rattle.determinize_dense.specs.Dfa.{HasMoreStates, HasStates, IsReachedValue, start_in};
-ghost use Rattle.determinize_dense.specs.Private.Building.{AreStarts, IsStart, Stays, columns_of, unit_at};
+ghost use Rattle.determinize_dense.specs.Private.Building.{AreStarts, HasChanges, IsStart, IsNextRow, Stays};
+ghost use Rattle.determinize_dense.specs.Private.Building.{columns_of, unit_at};
 ghost use Rattle.determinize_dense.specs.declared.error.DfaError.TheVariants.{TooManyStates};
 
 use crate::error::DfaError;
@@ -18,11 +20,15 @@ use crate::rows::Rows;
 use determinize_below::alphabet::ByteClasses;
 use determinize_below::{MatchKind, NFA, PatternID, StateID, Unit};
 use determinize_core::determinize::Stepper;
+use determinize_core::determinize::changes::{changes, steps_alike};
 use determinize_core::start::StartSlot;
 use determinize_core::state::State;
 use determinize_engine::state_table::{MAX_STATES, StateTable};
 use std::alloc::{AllocError, Allocator};
 use std::marker::Model;
+
+/// The fewest columns of which it pays to see which share their steps.
+const SHARING: usize = 8;
 
 /// A DFA that is being built.
 pub(crate) struct Builder<'n, N: Allocator, A: Allocator> {
@@ -242,41 +248,101 @@ impl<'n, N: Allocator, A: Allocator + Copy> Builder<'n, N, A> {
         }
     }
 
-    /// Computes the next entry. Often it is the entry above.
-    fn add_entry(&mut self) -> Result<(), DfaError>
-        requires { length self.old.next < length self.old.values * columns_of self.old.classes }
-        ensures next { OnOk result (length self.new.next ≡ length self.old.next + 1) }
+    /// Returns marks at the bytes on which an NFA state of the row has another target than on the
+    /// byte before, and at all others if the columns are too few to share steps.
+    fn changes(&self, row: usize) -> [bool; 256]
+        requires { row < length self.now.values }
+        ensures { HasChanges self.now row result }
+    {
+        if self.classes.alphabet_len() < SHARING {
+            return [true; 256];
+        }
+        changes(self.stepper.nfa(), &self.states.as_slice()[row])
+    }
+
+    /// Returns the last entry, if it is that of the column before and surely that of this column.
+    ///
+    /// - `changes` are those of the state of the row.
+    fn repeated(&self, row: usize, column: usize, changes: &[bool; 256]) -> Option<u32>
+        requires row { row < length self.now.values }
+        requires changes { HasChanges self.now row changes.now }
+        requires entry { length self.now.next ≡ row * columns_of self.now.classes + column }
+        ensures { IfSome result (λ next. IsNextRow self.now row column next) }
+    {
+        let bytes = self.classes.representatives();
+        if column == 0 || column >= bytes.len() {
+            return None;
+        }
+        let state = &self.states.as_slice()[row];
+        let (before, byte) = (bytes[column - 1], bytes[column]);
+        if !steps_alike(self.stepper.nfa(), state, changes, before, byte) {
+            return None;
+        }
+        Some(self.next[self.next.len() - 1])
+    }
+
+    /// Returns the entry of a row in a column. Often it is the entry before or above.
+    ///
+    /// - `changes` are those of the state of the row.
+    fn entry(&mut self, row: usize, column: usize, changes: &[bool; 256]) -> Result<u32, DfaError>
+        requires row { row < length self.old.values }
+        requires changes { HasChanges self.old row changes.now }
+        requires entry { length self.old.next ≡ row * columns_of self.old.classes + column }
+        ensures at { IfOk result (λ next. IsNextRow self.new row column next) }
+        ensures stays { OnOk result (Stays self.old self.new) }
+        ensures next { self.new.next ≡ self.old.next }
+        ensures many { result ≡ Err TooManyStates
+            → HasMoreStates self.old.nfa self.old.kind self.old.limit }
+    {
+        if let Some(entry) = self.repeated(row, column, changes) {
+            return Ok(entry);
+        }
+        let unit = self.unit(column);
+        let state = &self.states.as_slice()[row];
+        let next = self.stepper.next_lent(state, unit)?;
+        let entry = self.place(&next, self.entry_above())?;
+        self.stepper.take_back(next);
+        Ok(entry)
+    }
+
+    /// Adds the entries of a row.
+    fn add_row(&mut self, row: usize) -> Result<(), DfaError>
+        requires row { row < length self.old.values }
+        requires whole { length self.old.next ≡ row * columns_of self.old.classes }
+        ensures whole { OnOk result
+            (length self.new.next ≡ (row + 1) * columns_of self.new.classes) }
         ensures stays { OnOk result (Stays self.old self.new) }
         ensures many { result ≡ Err TooManyStates
             → HasMoreStates self.old.nfa self.old.kind self.old.limit }
     {
-        let (entry, columns) = (self.next.len(), self.classes.alphabet_len());
-        let unit = self.unit(entry % columns);
-        let state = &self.states.as_slice()[entry / columns];
-        let next = self.stepper.next_lent(state, unit)?;
-        let row = self.place(&next, self.entry_above())?;
-        self.stepper.take_back(next);
-        self.next.push(row)?;
+        let changes = self.changes(row);
+        for column in 0..self.classes.alphabet_len() {
+            let entry = self.entry(row, column, &changes)?;
+            self.next.push(entry)?;
+        }
         Ok(())
     }
 
     /// Computes the entries of all rows, also of those that are found meanwhile.
     fn fill(&mut self) -> Result<(), DfaError>
+        requires { self.old.next ≡ [] }
         ensures whole { OnOk result
             (length self.new.next ≡ length self.new.values * columns_of self.new.classes) }
         ensures stays { OnOk result (Stays self.old self.new) }
         ensures many { result ≡ Err TooManyStates
             → HasMoreStates self.old.nfa self.old.kind self.old.limit }
     {
-        let columns = self.classes.alphabet_len();
-        while self.next.len() < self.states.len() * columns {
-            self.add_entry()?;
+        let mut row = 0;
+        while row < self.states.len() {
+            self.add_row(row)?;
+            row += 1;
         }
         Ok(())
     }
 
     /// Returns the rows of all states that a search can reach.
     pub(crate) fn rows(&mut self, alloc: A) -> Result<Rows<'n, N, A>, DfaError>
+        requires { self.old.next ≡ [] }
         ensures nfa { IfOk result (λ rows. rows.nfa ≡ self.old.nfa) }
         ensures kind { IfOk result (λ rows. rows.kind ≡ self.old.kind) }
         ensures states { IfOk result

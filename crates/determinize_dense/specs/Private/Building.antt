@@ -9,6 +9,7 @@ use Rattle.determinize_below.specs.Truth.{IsUnit}
 use Rattle.determinize_below.specs.declared.search.MatchKind.{MatchKind}
 use Rattle.determinize_engine.specs.States.{EachApart}
 use Rattle.determinize_engine.specs.declared.state_table.TheConstants.{MAX_STATES}
+use Rattle.determinize_core.specs.Alike.{AreChanges}
 use Rattle.determinize_core.specs.Step.{start_value, step}
 use Rattle.determinize_core.specs.Value.{Value, dead}
 use Rattle.determinize_dense.specs.Dfa.{IsReachedValue, start_in}
@@ -33,11 +34,19 @@ columns_of p = length p.firsts + 1
 abbrev pub unit_at : Classes → ℕ → Option ℕ
 unit_at p c = cond (nat_lt c (length p.firsts)) (Some (first_of p c)) None
 
--- an entry leads from the value of its row to the next one over the unit of its column
+-- row r has the value after that of a row, over the unit of a column
+abbrev pub IsNextRow : Building → ℕ → ℕ → ℕ → Type 0
+IsNextRow b row column r = (v : Value) × (slice_get b.values row ≡ Some v)
+    × (slice_get b.values r ≡ Some (step b.nfa b.kind v (unit_at b.classes column)))
+
+-- an entry is the row after its row, over the unit of its column
 abbrev pub IsEntry : Building → ℕ → ℕ → Type 0
-IsEntry b e r = (v : Value) × (slice_get b.values (e / columns_of b.classes) ≡ Some v)
-    × (slice_get b.values r ≡ Some (step b.nfa b.kind v
-    (unit_at b.classes (e % columns_of b.classes))))
+IsEntry b e r = IsNextRow b (e / columns_of b.classes) (e % columns_of b.classes) r
+
+-- the marks are those of the value of a row
+abbrev pub HasChanges : Building → ℕ → List Bool → Type 0
+HasChanges b row marks = (v : Value) → slice_get b.values row ≡ Some v
+    → AreChanges b.nfa v.states marks
 
 -- the values are reached and apart, the first of them is the dead one, and the entries so far are
 -- right

@@ -1,15 +1,18 @@
-use Rattle.determinize_core.proofs.Common.{ap, Err, rules, sym, ◌∙◌, ◌≡◌}
+use Rattle.determinize_core.proofs.Common.{ap, arith, Err, length, rules, sym, ◌<◌, ◌∙◌, ◌≡◌}
 use Rattle.determinize_dense.proofs.Building.{more-before, same_err, stays-more}
-use Rattle.determinize_dense.proofs.Common.{columns_of}
 use Rattle.determinize_dense.proofs.build.Builder.fill.Goals as goal
 
-pub loop-self-preserved : goal.loop-self-preserved
-loop-self-preserved g c = record {
-  stays = stays-more c.loop-self.invariant.stays c.in_ok-add_entry.ensures.stays;
-  columns = c.loop-self.invariant.columns ∙ ap columns_of (sym c.in_ok-add_entry.ensures.stays.classes);
-}
+pub loop-row-preserved : goal.loop-row-preserved
+loop-row-preserved g c =
+    let room : c.loop-row.row < length c.loop-row.self.values =
+    rw (← c.self.view_is) (rw c.len.ensures.value at c.loop-row-test.true) in
+    record {
+      stays = stays-more c.loop-row.invariant.stays c.in_ok-add_row.ensures.stays;
+      whole = c.in_ok-add_row.ensures.whole;
+      within = omega (arith, room, c.in_ok-add_row.ensures.stays.longer);
+    }
 
-pub returns-in_err-add_entry-clause-many : goal.returns-in_err-add_entry-clause-many
-returns-in_err-add_entry-clause-many g c = λ same.
-    let e : c.from_residual.result ≡ Err c.in_err-add_entry.field-0.0 = search rules in
-    more-before c.loop-self.invariant.stays (c.in_err-add_entry.ensures.many (ap Err (same_err (sym e ∙ same))))
+pub returns-in_err-add_row-clause-many : goal.returns-in_err-add_row-clause-many
+returns-in_err-add_row-clause-many g c = λ same.
+    let e : c.from_residual.result ≡ Err c.in_err-add_row.field-0.0 = search rules in
+    more-before c.loop-row.invariant.stays (c.in_err-add_row.ensures.many (ap Err (same_err (sym e ∙ same))))

@@ -1,6 +1,4 @@
-use Rattle.determinize_core.proofs.Common.{ap, length, length-map, map, rules, subst, sym, Value, ◌*◌, ◌∙◌, ◌≡◌}
-use Rattle.determinize_core.proofs.Common.{◌≤◌}
-use Rattle.determinize_dense.proofs.Common.{AreStarts, Building, columns_of, HasStates, IsBuilding}
+use Rattle.determinize_core.proofs.Common.{ap, length, length-map, map, rules, Value, ◌∙◌, ◌≡◌}
 use Rattle.determinize_dense.proofs.Simulation.{has_states, is_dfa}
 use Rattle.std.proofs.lemmas.List.Elements.{same_from_all_zip}
 use Rattle.determinize_dense.proofs.build.Builder.finish.Given.{Over}
@@ -23,32 +21,28 @@ invariant_of-result g c =
     let at = goal.at.invariant_of-result g c in
     let lists = at.In_ok-lists_of in
     rw (c.nfa.ensures, c.match_kind.ensures, classes-are g at.In_ok-clone, next-is g lists, lists-are g lists) (
-    is_dfa _ c.self.invariant
-    (subst (λ (x : Building). length x.next ≡ length x.values * columns_of x.classes) (sym c.self.view_is)
-    c.requires.whole) c.args.starts
-    (subst (λ (x : Building). AreStarts x.nfa x.values 12 c.args.starts) (sym c.self.view_is) c.requires.starts)
+    is_dfa _ c.self.invariant (rw (← c.self.view_is) at c.requires.whole) c.args.starts
+    (rw (← c.self.view_is) at c.requires.starts)
     )
 
 pub returns-clause-nfa : goal.returns-clause-nfa
-returns-clause-nfa g c = c.nfa.ensures ∙ ap (λ (x : Building). x.nfa) c.self.view_is
+returns-clause-nfa g c = rw (← c.self.view_is) c.nfa.ensures
 
 pub returns-clause-kind : goal.returns-clause-kind
-returns-clause-kind g c = c.match_kind.ensures ∙ ap (λ (x : Building). x.kind) c.self.view_is
+returns-clause-kind g c = rw (← c.self.view_is) c.match_kind.ensures
 
 -- a list of patterns for each state
 count-is : (g : Over) (c : In_ok-lists_of g)
     → length (map (λ list. list.items) c.in_ok-lists_of.field-0.items) ≡ length c.args.self.now.values
-count-is g c = ap length (lists-are g c) ∙ length-map c.self.inside.states (λ (v : Value). v.patterns)
-    ∙ ap (λ (x : Building). length x.values) c.self.view_is
+count-is g c =
+    rw (← c.self.view_is, lists-are g c) (length-map c.self.inside.states (λ (v : Value). v.patterns))
 
 pub returns-clause-few : goal.returns-clause-few
 returns-clause-few g c =
-    subst (λ n. n ≤ c.args.self.now.limit) (sym (count-is g (goal.at.returns-clause-few g c).In_ok-lists_of))
-    (subst (λ (x : Building). length x.values ≤ x.limit) c.self.view_is c.self.invariant.few)
+    rw (count-is g (goal.at.returns-clause-few g c).In_ok-lists_of, ← c.self.view_is) c.self.invariant.few
 
 pub returns-clause-states : goal.returns-clause-states
 returns-clause-states g c =
-    subst (λ n. HasStates c.args.self.now.nfa c.args.self.now.kind n)
-    (sym (count-is g (goal.at.returns-clause-states g c).In_ok-lists_of))
-    (has_states c.args.self.now (subst (λ (x : Building). IsBuilding x) c.self.view_is c.self.invariant)
-    c.requires.whole c.args.starts c.requires.starts)
+    rw (count-is g (goal.at.returns-clause-states g c).In_ok-lists_of)
+    (has_states c.args.self.now (rw (← c.self.view_is) c.self.invariant) c.requires.whole c.args.starts
+    c.requires.starts)

@@ -1,7 +1,13 @@
-use Rattle.determinize_core.proofs.Common.{ap, Err, length, rules, subst, sym, ◌∙◌, ◌≡◌, ◌≤◌}
-use Rattle.determinize_dense.proofs.Common.{AreStarts}
-use Rattle.determinize_dense.proofs.Building.{more-before, same_err, starts-stay, states-as}
+use Rattle.determinize_core.proofs.Common.{ap, Err, rules, sym, ◌∙◌, ◌≡◌}
+use Rattle.determinize_dense.proofs.Common.{Stays}
+use Rattle.determinize_dense.proofs.Building.{more-before, same_err, starts-stay, stays-more}
+use Rattle.determinize_dense.proofs.build.Builder.rows.Given.{Over}
+use Rattle.determinize_dense.proofs.build.Builder.rows.Goals.{In_ok-fill}
 use Rattle.determinize_dense.proofs.build.Builder.rows.Goals as goal
+
+-- the starts are found, and then all rows
+filled : (g : Over) (c : In_ok-fill g) → Stays c.args.self.now c.fill.new.self
+filled g c = stays-more c.in_ok-starts.ensures.stays c.in_ok-fill.ensures.stays
 
 pub returns-in_err-starts-clause-many : goal.returns-in_err-starts-clause-many
 returns-in_err-starts-clause-many g c = λ same.
@@ -18,23 +24,20 @@ finish-requires-clause-whole g c = c.in_ok-fill.ensures.whole
 
 pub finish-requires-clause-starts : goal.finish-requires-clause-starts
 finish-requires-clause-starts g c =
-    subst (λ n. AreStarts n c.fill.new.self.values 12 c.in_ok-starts.starts)
-    (sym (c.in_ok-fill.ensures.stays.nfa ∙ c.in_ok-starts.ensures.stays.nfa))
+    rw (filled g (goal.at.finish-requires-clause-starts g c).In_ok-fill).nfa
     (starts-stay c.in_ok-fill.ensures.stays c.in_ok-starts.ensures.starts)
 
 pub returns-clause-nfa : goal.returns-clause-nfa
-returns-clause-nfa g c = c.in_ok-finish.ensures.nfa ∙ c.in_ok-fill.ensures.stays.nfa ∙ c.in_ok-starts.ensures.stays.nfa
+returns-clause-nfa g c = c.in_ok-finish.ensures.nfa ∙ (filled g (goal.at.returns-clause-nfa g c).In_ok-fill).nfa
 
 pub returns-clause-kind : goal.returns-clause-kind
-returns-clause-kind g c =
-    c.in_ok-finish.ensures.kind ∙ c.in_ok-fill.ensures.stays.kind ∙ c.in_ok-starts.ensures.stays.kind
+returns-clause-kind g c = c.in_ok-finish.ensures.kind ∙ (filled g (goal.at.returns-clause-kind g c).In_ok-fill).kind
 
 pub returns-clause-states : goal.returns-clause-states
 returns-clause-states g c =
-    states-as (c.in_ok-fill.ensures.stays.nfa ∙ c.in_ok-starts.ensures.stays.nfa)
-    (c.in_ok-fill.ensures.stays.kind ∙ c.in_ok-starts.ensures.stays.kind) c.in_ok-finish.ensures.states
+    let stays = filled g (goal.at.returns-clause-states g c).In_ok-fill in
+    rw (stays.nfa, stays.kind) at c.in_ok-finish.ensures.states
 
 pub returns-clause-few : goal.returns-clause-few
 returns-clause-few g c =
-    subst (λ n. length c.in_ok-finish.field-0.table.patterns ≤ n)
-    (c.in_ok-fill.ensures.stays.limit ∙ c.in_ok-starts.ensures.stays.limit) c.in_ok-finish.ensures.few
+    rw (filled g (goal.at.returns-clause-few g c).In_ok-fill).limit at c.in_ok-finish.ensures.few

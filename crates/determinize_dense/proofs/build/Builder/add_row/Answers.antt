@@ -1,0 +1,44 @@
+use Rattle.determinize_core.proofs.Common.{ap, arith, Err, length, length_push, rules, sym, ◌*◌, ◌+◌, ◌<◌, ◌∙◌, ◌≡◌}
+use Rattle.determinize_dense.proofs.Building.{building-entry, changes-stay, more-before, same_err, stays-more, stays-next}
+use Rattle.determinize_dense.proofs.Common.{columns_of}
+use Rattle.determinize_dense.proofs.build.Builder.add_row.Given.{Over}
+use Rattle.determinize_dense.proofs.build.Builder.add_row.Goals.{In_ok-push}
+use Rattle.determinize_dense.proofs.build.Builder.add_row.Goals as goal
+
+pub returns-in_err-entry-clause-many : goal.returns-in_err-entry-clause-many
+returns-in_err-entry-clause-many g c = λ same.
+    let e : c.from_residual.result ≡ Err c.in_err-entry.field-0.0 = search rules in
+    more-before c.loop-column.invariant.stays (c.in_err-entry.ensures.many (ap Err (same_err (sym e ∙ same))))
+
+-- where the next entry is
+count : (g : Over) (c : In_ok-push g) → length c.self-in-loop-column.inside.next.items
+    ≡ c.args.row * columns_of c.self-in-loop-column.inside.classes + c.loop-column.column
+count g c =
+    let now : length c.entry.new.self.next ≡ c.args.row * columns_of c.entry.new.self.classes + c.loop-column.column =
+    rw (c.in_ok-entry.ensures.next, c.in_ok-entry.ensures.stays.classes) c.loop-column.invariant.count in
+    rw (← c.self-in-loop-column.view_is) at now
+
+pub invariant_of-self-in-loop-column : goal.invariant_of-self-in-loop-column
+invariant_of-self-in-loop-column g c =
+    let classes = rw (← c.self.view_is)
+    at (c.in_ok-entry.ensures.stays.classes ∙ c.loop-column.invariant.stays.classes) in
+    let inside : c.loop-column.column < columns_of c.entry.new.self.classes =
+    rw classes (rw c.alphabet_len-column-end.ensures.count at c.loop-column-test.true) in
+    rw c.in_ok-push.ensures.items (building-entry _ c.self-in-loop-column.invariant c.args.row c.loop-column.column
+    c.in_ok-entry.entry (count g (goal.at.invariant_of-self-in-loop-column g c).In_ok-push)
+    (rw (← c.self-in-loop-column.view_is) at inside)
+    (rw (← c.self-in-loop-column.view_is) at c.in_ok-entry.ensures.at))
+
+pub loop-column-preserved : goal.loop-column-preserved
+loop-column-preserved g c =
+    let longer = c.loop-column.invariant.stays.longer in
+    let room : c.args.row < length c.loop-column.self.values = omega (arith, c.requires.row, longer) in
+    let more : length c.push.new.self.items ≡ length c.self-in-loop-column.inside.next.items + 1 =
+    rw c.in_ok-push.ensures.items (length_push c.self-in-loop-column.inside.next.items c.in_ok-entry.entry) in
+    record {
+      stays = stays-next c.push.new.self.items (rw (← c.self-in-loop-column.view_is)
+          at (stays-more c.loop-column.invariant.stays c.in_ok-entry.ensures.stays));
+      count = omega (arith, more, count g (goal.at.loop-column-preserved g c).In_ok-push);
+      changes = rw (← c.self-in-loop-column.view_is)
+          at (changes-stay _ c.in_ok-entry.ensures.stays room c.loop-column.invariant.changes);
+    }

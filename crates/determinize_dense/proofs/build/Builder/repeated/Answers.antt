@@ -1,0 +1,49 @@
+use Rattle.determinize_core.proofs.Common.{arith, length, refl, rules, slice_get, Some, ◌*◌, ◌+◌, ◌-◌, ◌<◌, ◌≡◌}
+use Rattle.determinize_dense.proofs.Building.{next_row-before, read-at}
+use Rattle.determinize_dense.proofs.Common.{columns_of}
+use Rattle.determinize_dense.proofs.build.Builder.repeated.Given.{Over}
+use Rattle.determinize_dense.proofs.build.Builder.repeated.Goals.{After-nfa}
+use Rattle.determinize_dense.proofs.build.Builder.repeated.Goals as goal
+
+at-row : (g : Over) (c : After-nfa g) → slice_get c.self.inside.states c.args.row ≡ Some c.index-as_slice-row.result
+at-row g c =
+    let room : c.args.row < length c.self.inside.states = rw (← c.self.view_is) at c.requires.row in
+    read-at room c.as_slice.ensures c.index-as_slice-row.is
+
+-- the column and the one before are those of bytes
+positive : (g : Over) (c : After-nfa g) → 0 < c.args.column
+positive g c = grind (arith, c.if-column-eq0.false)
+
+inside : (g : Over) (c : After-nfa g) → c.args.column < length c.self.inside.classes.firsts
+inside g c =
+    let below : c.args.column < length c.representatives-bytes.result.now = grind (arith, c.if-column-bytes.false) in
+    rw c.representatives-bytes.ensures.firsts at below
+
+pub steps_alike-requires-clause-changes : goal.steps_alike-requires-clause-changes
+steps_alike-requires-clause-changes g c =
+    let d = (goal.at.steps_alike-requires-clause-changes g c).After-nfa in
+    rw c.nfa.ensures ((rw (← c.self.view_is) at c.requires.changes) c.index-as_slice-row.result (at-row g d))
+
+pub steps_alike-requires-clause-order : goal.steps_alike-requires-clause-order
+steps_alike-requires-clause-order g c =
+    let d = (goal.at.steps_alike-requires-clause-order g c).After-nfa in
+    let from = positive g d in
+    let ascends = c.self.invariant.sound.ascend (c.args.column - 1) c.args.column (omega (arith, from)) (inside g d) in
+    rw c.representatives-bytes.ensures.firsts (omega (arith, ascends))
+
+pub returns : goal.returns
+returns g c =
+    let d = (goal.at.returns g c).After-nfa in
+    let from = positive g d in
+    let count : length c.self.inside.next.items ≡ c.args.row * columns_of c.self.inside.classes + c.args.column =
+    rw (← c.self.view_is) at c.requires.entry in
+    let long : c.len.result ≡ length c.self.inside.next.items = search rules in
+    let place : c.len.result - 1 ≡ c.args.row * columns_of c.self.inside.classes + (c.args.column - 1) =
+    omega (arith, from, count, long) in
+    let there : c.args.row * columns_of c.self.inside.classes + (c.args.column - 1) < length c.self.inside.next.items =
+    omega (arith, from, count) in
+    rw (← c.self.view_is) (next_row-before _ c.self.invariant c.args.row c.args.column c.index.result.now
+    c.index-as_slice-row.result (at-row g d) from (inside g d)
+    (read-at there refl (rw place at c.index.ensures))
+    (rw (c.nfa.ensures, c.representatives-bytes.ensures.firsts)
+    at (c.steps_alike.ensures c.if-not-steps_alike.false c.self.inside.stepper.kind)))
