@@ -2,8 +2,7 @@
 -- Main statements: one_step, changes-push, targets_along.
 -- Used by: `changes`, `steps_alike`.
 -- Idea: unless its byte satisfies a further assertion, a step reads recorded states only.
-use Rattle.determinize_core.proofs.Common.{[], All, ap, append-nil, arith, before, Bool, by_test, distinct, false}
-use Rattle.determinize_core.proofs.Common.{flat_map}
+use Rattle.determinize_core.proofs.Common.{[], All, ap, append-nil, arith, before, Bool, by_test, distinct, false, flat_map}
 use Rattle.determinize_core.proofs.Common.{fresh, get_or, is_match}
 use Rattle.determinize_core.proofs.Common.{is_reopened, LeftmostFirst, List, MatchKind, nat_eq, Nfa, none_held}
 use Rattle.determinize_core.proofs.Common.{option_to_list, part_read, refl, Some, state_at, step, suc, sym, tables_of}
