@@ -238,7 +238,29 @@ impl<N: Allocator, A: Allocator + Copy> OwnedLazy<N, A> {
         found
     }
 
-    /// Searches the text of an input, as `Lazy` does. If the cache is only read, it is not moved.
+    /// Searches a text, as `Lazy` does. If the cache is only read, it is not moved.
+    #[inline(always)]
+    fn search_text(
+        &mut self,
+        start: StateID,
+        text: &Text<'_>,
+        earliest: bool,
+    ) -> Result<Option<HalfMatch>, AllocError>
+        requires { start < length self.old.nfa.states }
+        ensures over { IsOverText earliest (cache self.old) start text.now result
+            (cache self.new) }
+        ensures sound { IsSound (cache self.old) }
+    {
+        match self.view().search_text(start, text, earliest) {
+            Reached::End(found) => Ok(found),
+            Reached::Short(reached) => {
+                let text = text.copied();
+                self.search_rest(reached, start, &text, earliest)
+            }
+        }
+    }
+
+    /// Searches the text of an input, as `Lazy` does.
     #[inline(always)]
     fn search_range(
         &mut self,
@@ -253,13 +275,11 @@ impl<N: Allocator, A: Allocator + Copy> OwnedLazy<N, A> {
         ensures sound { IsSound (cache self.old) }
     {
         let start = self.view().start_for(input.get_anchored());
-        let text = Text::of_input(input, self.nfa.is_reverse());
-        match self.view().search_text(start, &text, earliest) {
-            Reached::End(found) => Ok(found),
-            Reached::Short(reached) => {
-                let text = text.copied();
-                self.search_rest(reached, start, &text, earliest)
-            }
+        // In each of the two the direction of the text is a constant.
+        if self.nfa.is_reverse() {
+            self.search_text(start, &Text::of_input(input, true), earliest)
+        } else {
+            self.search_text(start, &Text::of_input(input, false), earliest)
         }
     }
 }

