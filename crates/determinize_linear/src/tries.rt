@@ -1,14 +1,16 @@
-//! A zero-sized count of tries: of the pairs that a search takes from its stack.
+//! A zero-sized count of tries: of the pairs that a search takes from its stack, or of the steps of
+//! a walk by a DFA.
 //!
-//! A search counts each try by a [`Counter`]: [`Tries`] in `find_all_counted`, and `()`, which
-//! counts nothing, in `find_all`.
+//! A search counts each try by a [`Counter`]: [`Tries`] in the calls named `find_all_counted`, and
+//! `()`, which counts nothing, in those named `find_all`.
 
 ghost use Rattle.std.specs.Prelude.{◌≡◌, ℕ, ◌+◌, ◌<◌, Bool, true, false, IsTrue};
 
 use std::marker::Model;
 use std::sync::ledger::{Blank, Book, Ledger, Share};
 
-/// The number of pairs that searches have taken from their stack, also pairs that are skipped.
+/// The number of pairs that searches have taken from their stack, also pairs that are skipped; of
+/// searches by a DFA the number of steps.
 ///
 /// It has size 0 and no program can read it: only contracts use it. The parameter is the ledger of
 /// the count (`std::sync::ledger`), which a `Blank` opens.
