@@ -1,5 +1,5 @@
 -- A table that is being built: the values found so far, and the entries of their rows.
-use Rattle.std.specs.Prelude.{◌≡◌, ◌<◌, ◌≤◌, ◌+◌, ◌*◌, ◌/◌, ◌%◌, ℕ, cond, Option, Some, None}
+use Rattle.std.specs.Prelude.{◌≡◌, ◌<◌, ◌≤◌, ◌+◌, ◌*◌, ◌/◌, ◌%◌, ℕ, Bool, cond, Option, Some, None}
 use Rattle.std.specs.Prelude.{List, length, nat_lt}
 use Rattle.std.specs.Prelude.{slice_get, slice_index}
 use Rattle.determinize_below.specs.ByteClasses.{AreClasses, AreClassesOf, Classes, first_of}
