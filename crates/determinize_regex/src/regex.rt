@@ -292,8 +292,8 @@ impl Regex {
         replace(alloc, haystack, &found, replacement)
     }
 
-    /// Returns the heap memory that both caches use now, in bytes, as `memory_usage` of
-    /// `OwnedLazy` counts it.
+    /// Returns how many bytes the states of both caches, their rows and their entries in the maps
+    /// take now, without spare capacity.
     pub fn memory_usage(&self) -> usize
         ensures { result ≤ regex_bytes self.now.limit self.now.nfa }
     {

@@ -1,8 +1,8 @@
 //! Prints the lines of files, or of standard input, in which a pattern matches.
 //!
-//! As in grep, the first operand is a pattern unless `-e` gives one. Unlike there, another operand
-//! is one more pattern if it has one of the signs ``[(*+?|^${\`` and no file of this name can be
-//! opened, and a file otherwise; so a glob that no file matches, as `src/*.rs`, is a pattern.
+//! As in grep, the first operand is a pattern unless `-e` gives one. Unlike there, any other one is
+//! a pattern too if it has one of the signs ``[(*+?|^${\`` and there is no file of this name, and a
+//! file otherwise; so a glob that no file matches, as `src/*.rs`, is a pattern.
 #![tactic(auto)]
 
 mod error;
@@ -22,9 +22,8 @@ const LIMIT: usize = 10_000;
 
 const USAGE: &str = "usage: finder [-bcilnoqv] [-e PATTERN].. [PATTERN].. [FILE]..
 Prints the lines in which a pattern matches. As in grep, the first operand is a pattern unless -e
-gives one. Another operand is one more pattern if it has one of the signs [(*+?|^${\\ and no file of
-this name can be opened, and a file otherwise. Without files, and for the file -, reads standard
-input.
+gives one. Any other operand is a pattern too if it has one of the signs [(*+?|^${\\ and there is no
+file of this name, and a file otherwise. Without files, and for the file -, reads standard input.
   -e PATTERN  a pattern; if there are several, the first is preferred
   -i          letters of the patterns match in both cases
   -v          select the lines without a match

@@ -111,8 +111,8 @@ impl Options {
     }
 
     /// Returns the options of the arguments, without the name of the program. The first operand is
-    /// a pattern, unless `-e` gives one. Another one is a pattern if it has one of the signs
-    /// ``[(*+?|^${\`` and no file of this name can be opened, and a file otherwise.
+    /// a pattern, unless `-e` gives one. Any other one is a pattern too if it has one of the signs
+    /// ``[(*+?|^${\`` and there is no file of this name, and a file otherwise.
     pub fn read(rt: &HostRuntime, args: Args) -> Result<Options, UsageError> {
         let mut options = Options::new(rt.alloc());
         match options.take_all(rt, args) {
@@ -288,7 +288,7 @@ fn is_operand(arg: &str) -> bool {
 
 /// Returns whether an operand behind the first pattern is one more pattern, and no file.
 fn is_pattern(rt: &HostRuntime, operand: &str) -> bool {
-    operand.bytes().any(is_sign) && fs::open(rt, operand).is_err()
+    operand.bytes().any(is_sign) && matches!(fs::exists(rt, operand), Ok(false))
 }
 
 /// Returns whether the byte is a sign that patterns have, and names of files seldom.

@@ -7,13 +7,13 @@ ghost use Rattle.determinize_engine.specs.Searches.{has_start};
 ghost use Rattle.determinize_find.specs.Prefix.{HasPrefix};
 ghost use Rattle.determinize_find.specs.Reversal.{IsReverseOf};
 
-use crate::tests::find::{Ends, backward_of, expect_matches, expect_same};
+use crate::tests::find::{Ends, WORDS, backward_of, expect_matches, expect_same, nfa};
 use crate::tests::stored_walks::{Place, STORED, prefixed};
-use crate::tests::{dense, same};
+use crate::tests::{dense, holds, same};
 use determinize_below::{Anchored, Input, MatchKind, NFA, StateID};
 use determinize_dense::Dfa;
 use determinize_engine::WithAllocError;
-use determinize_find::{Finder, Match, Plain, Regex, find_all};
+use determinize_find::{Finder, Match, OwnedRegex, Plain, Regex, find_all};
 use determinize_lazy::Lazy;
 use determinize_replay::job::Job;
 use example_walks::examples::examples;
@@ -169,4 +169,24 @@ fn one_start(rt: HostRuntime) {
     let nfa = dense::nfa(&rt, "S:61>1,62>1 M:0", StateID::ZERO);
     expect_anchored(&rt, &nfa, b"abcab", &[(0, 0, 1), (0, 1, 2)]);
     expect_anchored(&rt, &nfa, b"cab", &[]);
+}
+
+/// Compares the memory of both caches of a `Regex` with that of each.
+fn expect_memory<R: Abort>(rt: &R, regex: &OwnedRegex) {
+    let forward = regex.forward().memory_usage();
+    let backward = regex.backward().memory_usage();
+    holds(rt, forward > 0 && backward > 0);
+    same(rt, regex.memory_usage(), forward.saturating_add(backward));
+}
+
+/// The memory of both caches after a search, and once they are cleared.
+#[test]
+fn memory_of_both_caches(rt: HostRuntime) {
+    let made = OwnedRegex::from_nfa(rt.alloc(), nfa(&rt, WORDS), 100);
+    let mut regex = made.expect(&rt, "a regex");
+    let found = regex.find(&Input::new(b"abcd e"));
+    holds(&rt, found.expect(&rt, "memory").is_some());
+    expect_memory(&rt, &regex);
+    regex.clear();
+    same(&rt, regex.memory_usage(), 0);
 }

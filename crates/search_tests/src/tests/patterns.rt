@@ -2,7 +2,7 @@
 //! them, other bytes in their place, which text is in error, and how errors are written.
 
 use crate::tests::find::{Ends, expect_matches};
-use crate::tests::{expect_text, same};
+use crate::tests::{expect_text, holds, same};
 use determinize_regex::{
     Error, ErrorKind, Input, Match, Matcher, ParseError, Regex, RegexConfig, Stream,
 };
@@ -42,9 +42,14 @@ fn expect_words<R: Abort + AllocGlobal>(rt: &R, regex: &mut Regex) {
     );
 }
 
+/// Compares the numbers and names of a text, and the memory of the caches once they are cleared.
 #[test]
 fn numbers_and_names(rt: HostRuntime) {
-    expect_words(&rt, &mut words::words(rt.alloc()).expect(&rt, "patterns"));
+    let mut regex = words::words(rt.alloc()).expect(&rt, "patterns");
+    expect_words(&rt, &mut regex);
+    holds(&rt, regex.memory_usage() > 0);
+    regex.clear();
+    same(&rt, regex.memory_usage(), 0);
 }
 
 /// Searches by a `Regex` twice, and by a `Matcher`.
