@@ -3,8 +3,9 @@
 //!
 //! The last match that the rows of an anchored walk list is the most preferred one that begins
 //! where the walk does. The walk may have read far behind it. So each pair of a position and a row
-//! that it was at is marked, if the next row listed no match. A later walk that comes to a marked
-//! pair ends there: all walks go on alike from a pair, and no match was listed behind this one.
+//! that it was at is marked, if the next row listed no match. A later walk begins where that match
+//! ends or behind it. So a marked pair that it comes to was marked behind the match, from where no
+//! further match was listed, and the walk ends there: all walks go on alike from a pair.
 
 ghost use Rattle.std.specs.Prelude.{◌≡◌, ℕ, ◌*◌, ◌<◌, ◌≤◌, ◌-◌, ◌+◌, ◌^◌, ◌⊎◌, All, IfOk, IsTrue, None, Some, false, length, option_map, true};
 ghost use Rattle.std.specs.Option.{IfNone, IfSome};
@@ -196,7 +197,7 @@ pub fn find_all<N: Allocator, M: Allocator + Copy, A: Allocator + Copy>(
 }
 
 /// Returns the same as [`find_all`], and counts the steps from one row to the next. On error too,
-/// they are at most one for each row of the DFA, and four more, for each index of the range and two
+/// they are at most one for each row of the DFA, and four more, for each byte of the range and two
 /// more.
 pub fn find_all_counted<N: Allocator, M: Allocator + Copy, A: Allocator + Copy, L: Ledger>(
     alloc: A,

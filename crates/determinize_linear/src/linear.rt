@@ -146,7 +146,7 @@ pub fn find_all<N: Allocator, A: Allocator + Copy>(
 
 /// Returns the same as [`find_all`], and counts the tries: the pairs of a position and a state that
 /// the search takes from its stack. On error too, they are at most three for each state and each
-/// epsilon transition of the NFA, and three more, for each index of the range and two more.
+/// epsilon transition of the NFA, and three more, for each byte of the range and two more.
 pub fn find_all_counted<N: Allocator, A: Allocator + Copy, L: Ledger>(
     alloc: A,
     nfa: &NFA<N>,

@@ -1,4 +1,5 @@
-//! What a search for all matches rests on: searches from one position after another of a text.
+//! A search of one text from one position after another: after a match none begins before its end,
+//! and else none before the last one began.
 
 ghost use Rattle.std.specs.Prelude.{◌≡◌, ◌≤◌, ◌+◌, ℕ, IfOk, IsTrue, false, length, option_map};
 ghost use Rattle.std.specs.Option.{IfNone, IfSome};
@@ -21,7 +22,7 @@ pub(crate) trait Matcher {
     /// The tries that are left to searches from a position on.
     ghost left: { Self → semantics.Nfa → semantics.Text → ℕ → ℕ };
 
-    /// The tries that a match may leave to the search after it, at the position where it ends.
+    /// How many tries at most a match restores at the position where it ends.
     ghost most: { semantics.Nfa → ℕ };
 
     /// Returns the pattern and the end of the most preferred match that begins at a position, if

@@ -1,4 +1,4 @@
-//! The pairs of a position and a row behind which walks by a DFA have found no match.
+//! Marks of the pairs of a position and a row from which the next step of a walk listed no match.
 
 ghost use Rattle.std.specs.Prelude.{◌≡◌, ℕ, ◌*◌, ◌<◌, ◌≤◌, ◌||◌, ◌^◌, IfOk, false, length, nat_eq};
 ghost use Rattle.determinize_below.specs.Private.Sparse.{has_bit};

@@ -4,10 +4,12 @@
 -- Used by: `push_each` and `push_choices`.
 -- Idea: a state has a target over a byte, or epsilon transitions, and not both.
 use Rattle.std.specs.Prelude.{slice_get}
-use Rattle.std.proofs.Common.{◌≡◌, ◌++◌, ◌∙◌, ◌∷◌, ℕ, Bool, List, Some, [], ap, append-nil, false, map, refl, reverse, sym, true}
+use Rattle.std.proofs.Common.{◌≡◌, ◌++◌, ◌∙◌, ◌∷◌, ℕ, Bool, List, Some, [], ap, append-nil, false, map, refl, reverse}
+use Rattle.std.proofs.Common.{sym, true}
 use Rattle.std.proofs.lemmas.List.{map-append, reverse-append}
 use Rattle.std.proofs.lemmas.Option.{get_or_from_slice_get}
-use Rattle.determinize_below.specs.Semantics.{BinaryUnion, Capture, Fail, Look, Nfa, Node, Text, Union, after_at, before_at, choices, edges_of, holds}
+use Rattle.determinize_below.specs.Semantics.{BinaryUnion, Capture, Fail, Look, Nfa, Node, Text, Union, after_at}
+use Rattle.determinize_below.specs.Semantics.{before_at, choices, edges_of, holds}
 use Rattle.determinize_below.specs.declared.look.Look.{Look as Assertion}
 use Rattle.ordered_reach.specs.Runs.{placed}
 use Rattle.determinize_linear.proofs.search.Targets.{over_byte}

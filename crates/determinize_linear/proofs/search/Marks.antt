@@ -3,10 +3,12 @@
 -- places_new, with_mark-marked.
 -- Used by: the loop of a search, and `Visited`.
 -- Idea: a list in a list changes at one index of one list.
-use Rattle.std.proofs.Common.{◌≡◌, ◌<◌, ◌+◌, ◌∙◌, ◌==◌, ℕ, Bool, List, [], ap, arith, cond, false, get_or, length, map, nat_eq, refl, replicate, set, sym, true}
+use Rattle.std.proofs.Common.{◌≡◌, ◌<◌, ◌+◌, ◌∙◌, ◌==◌, ℕ, Bool, List, [], ap, arith, cond, false, get_or, length}
+use Rattle.std.proofs.Common.{map, nat_eq, refl, replicate, set, sym, true}
 use Rattle.std.proofs.lemmas.Bool.Decides.{nat_tests}
 use Rattle.std.proofs.lemmas.Bool.{eqb-true}
-use Rattle.std.proofs.lemmas.List.{get_or-map, get_or-replicate, get_or-set_other, get_or-set_same, get_or_past, length-replicate, length-set, map-set, set-get_or}
+use Rattle.std.proofs.lemmas.List.{get_or-map, get_or-replicate, get_or-set_other, get_or-set_same, get_or_past}
+use Rattle.std.proofs.lemmas.List.{length-replicate, length-set, map-set, set-get_or}
 use Rattle.determinize_below.specs.Semantics.{Nfa, Text}
 use Rattle.ordered_reach.proofs.Cases.{by_cases, by_test}
 use Rattle.ordered_reach.proofs.runs.ByPosition.{pair_eq}

@@ -5,7 +5,8 @@
 -- of the text (Shifts).
 use Rattle.std.specs.Option.{is_some}
 use Rattle.std.specs.Prelude.{option_map}
-use Rattle.std.proofs.Common.{◌≡◌, ◌≤◌, ◌+◌, ◌-◌, ◌∙◌, ℕ, None, Option, Some, ap, arith, false, length, refl, subst, sym}
+use Rattle.std.proofs.Common.{◌≡◌, ◌≤◌, ◌+◌, ◌-◌, ◌∙◌, ℕ, None, Option, Some, ap, arith, false, length, refl, subst}
+use Rattle.std.proofs.Common.{sym}
 use Rattle.std.proofs.lemmas.Bool.{false≢true}
 use Rattle.determinize_below.specs.Edges.{pattern_in}
 use Rattle.determinize_below.specs.Nfa.{IsAccepted}

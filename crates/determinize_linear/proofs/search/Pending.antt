@@ -3,7 +3,8 @@
 -- Used by: UnderWay.
 -- Idea: a run stays at its position or continues one further, so what follows a pair is not before it.
 use Rattle.std.specs.Prelude.{slice_get}
-use Rattle.std.proofs.Common.{◌≡◌, ◌<◌, ◌≤◌, ◌++◌, ◌∙◌, ◌∷◌, ◌||◌, ℕ, Bool, List, [], ap, append-nil, arith, false, length, map, nat_eq, refl, subst, suc, true}
+use Rattle.std.proofs.Common.{◌≡◌, ◌<◌, ◌≤◌, ◌++◌, ◌∙◌, ◌∷◌, ◌||◌, ℕ, Bool, List, [], ap, append-nil, arith, false}
+use Rattle.std.proofs.Common.{length, map, nat_eq, refl, subst, suc, true}
 use Rattle.std.proofs.lemmas.Bool.{false≢true, or_left, or_right}
 use Rattle.std.proofs.lemmas.Bool.Decides.{nat_tests}
 use Rattle.std.proofs.lemmas.Option.{slice_get_within}

@@ -2,8 +2,12 @@
 -- Main statements: found, tries, found-start, found-held, found-new, found-here, tries-held, tries-new.
 -- Used by: UnderWay, and the loop of a search.
 -- Idea: such nodes are a closed set, so the first accepting node is the same without them.
-use Rattle.ordered_reach.proofs.Common.{[], ap, append-nil, arith, Bool, Decides, edge_count, ends, false, filter, find, flat_map, fresh, joined, length, length-append, List, member, none_held, not, Option, ordered, refl, Some, suc, sym, true, with_node, ℕ, ◌&&◌, ◌+◌, ◌++◌, ◌∙◌, ◌∷◌, ◌≡◌}
-use Rattle.ordered_reach.proofs.graph.ClosedSets.{IsClosed, IsEnough, IsEnough-from_none, ends-closed_set, ends-held, ends_agree, fresh-ends_new}
+use Rattle.ordered_reach.proofs.Common.{[], ap, append-nil, arith, Bool, Decides, edge_count, ends, false, filter}
+use Rattle.ordered_reach.proofs.Common.{find, flat_map, fresh, joined, length, length-append, List, member, none_held}
+use Rattle.ordered_reach.proofs.Common.{not, Option, ordered, refl, Some, suc, sym, true, with_node, ℕ, ◌&&◌, ◌+◌}
+use Rattle.ordered_reach.proofs.Common.{◌++◌, ◌∙◌, ◌∷◌, ◌≡◌}
+use Rattle.ordered_reach.proofs.graph.ClosedSets.{IsClosed, IsEnough, IsEnough-from_none, ends-closed_set, ends-held}
+use Rattle.ordered_reach.proofs.graph.ClosedSets.{ends_agree, fresh-ends_new}
 
 -- the first accepting node of a search past the visited nodes
 abbrev pub found : {N : Type 0} → (N → N → Bool) → (N → List N) → ℕ → (N → Bool) → (N → Bool) → List N → Option N

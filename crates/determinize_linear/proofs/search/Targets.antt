@@ -4,7 +4,8 @@
 -- Idea: the byte of a text at an index is that of the list of its units.
 use Rattle.std.specs.Option.{option_map, option_to_list}
 use Rattle.std.specs.Prelude.{slice_get}
-use Rattle.std.proofs.Common.{◌≡◌, ◌≤◌, ◌+◌, ◌++◌, ◌∙◌, ◌∷◌, ℕ, List, None, Some, [], ap, append-nil, arith, length, map, refl, reverse, suc, sym}
+use Rattle.std.proofs.Common.{◌≡◌, ◌≤◌, ◌+◌, ◌++◌, ◌∙◌, ◌∷◌, ℕ, List, None, Some, [], ap, append-nil, arith, length}
+use Rattle.std.proofs.Common.{map, refl, reverse, suc, sym}
 use Rattle.std.proofs.lemmas.Option.{slice_get-map, slice_get_past}
 use Rattle.determinize_below.specs.Semantics.{Node, target_of}
 use Rattle.ordered_reach.proofs.Cases.{by_option, some_injective}

@@ -3,7 +3,8 @@
 -- Used by: the loop of a search.
 -- Idea: the first accepting pair of what is still to be searched stays the same, and what was searched is closed: a
 -- visited pair is followed by visited or pending pairs.
-use Rattle.std.proofs.Common.{◌≡◌, ◌<◌, ◌≤◌, ◌+◌, ◌++◌, ◌∙◌, ◌∷◌, ◌||◌, ◌==◌, ℕ, Bool, List, None, Option, Some, [], ap, arith, cond, false, length, nat_eq, refl, replicate, reverse, subst, suc, sym, true}
+use Rattle.std.proofs.Common.{◌≡◌, ◌<◌, ◌≤◌, ◌+◌, ◌++◌, ◌∙◌, ◌∷◌, ◌||◌, ◌==◌, ℕ, Bool, List, None, Option, Some, []}
+use Rattle.std.proofs.Common.{ap, arith, cond, false, length, nat_eq, refl, replicate, reverse, subst, suc, sym, true}
 use Rattle.std.proofs.lemmas.List.{reverse-append, reverse-reverse}
 use Rattle.std.specs.List.{find, flat_map}
 use Rattle.std.specs.Prelude.{nat_le, slice_index_or}
@@ -29,8 +30,10 @@ use Rattle.ordered_reach.specs.Reach.{ends, member, none_held, with_node}
 use Rattle.determinize_linear.specs.Private.Marks.{is_marked, with_mark, without_marks}
 use Rattle.determinize_linear.specs.Private.Spent.{HasPlaces, IsSpent}
 use Rattle.determinize_linear.proofs.search.Marks.{is_marked-none, is_marked-with, is_marked-without}
-use Rattle.determinize_linear.proofs.search.Pending.{IsPending, pending_below, pending_choices, pending_more, run_steps, step_later}
-use Rattle.determinize_linear.proofs.search.Skipping.{found, found-held, found-here, found-new, found-start, tries, tries-held, tries-new}
+use Rattle.determinize_linear.proofs.search.Pending.{IsPending, pending_below, pending_choices, pending_more}
+use Rattle.determinize_linear.proofs.search.Pending.{run_steps, step_later}
+use Rattle.determinize_linear.proofs.search.Skipping.{found, found-held, found-here, found-new, found-start, tries}
+use Rattle.determinize_linear.proofs.search.Skipping.{tries-held, tries-new}
 
 -- the fuel of all runs is enough
 pub enough : (nfa : Nfa) → IsAccepted nfa → (text : Text) (p : ℕ × ℕ)

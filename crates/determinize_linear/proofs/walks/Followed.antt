@@ -1,9 +1,10 @@
 -- A walk from a position, one step after another.
--- Main statements: followed_start, followed_some, followed_none, followed_end, following-done,
--- following-dead, following-held.
--- Used by: the loop of `walk_from`.
+-- Main statements: followed_start, followed_some, followed_none, followed_all, followed_end, following-done,
+-- following-dead, following-marked.
+-- Used by: Walked.
 -- Idea: what follows the marked pairs is what follows the pair where the walk is, until a match is listed.
-use Rattle.std.proofs.Common.{◌≡◌, ◌<◌, ◌≤◌, ◌+◌, ◌∙◌, ◌⊎◌, ℕ, List, None, Option, Some, [], ◌∷◌, ap, arith, inl, inr, length, refl, slice_get, suc, sym, true}
+use Rattle.std.proofs.Common.{◌≡◌, ◌<◌, ◌≤◌, ◌+◌, ◌∙◌, ◌⊎◌, ℕ, List, None, Option, Some, [], ◌∷◌, ap, arith, inl, inr}
+use Rattle.std.proofs.Common.{length, refl, slice_get, suc, sym, true}
 use Rattle.std.specs.Option.{option_or}
 use Rattle.std.specs.Prelude.{All, drop}
 use Rattle.std.proofs.lemmas.List.Elements.{All-drop, All-head, All-tail}
@@ -119,8 +120,8 @@ module _ (d : Table) (text : Text) where
 
   module _ (m : RowMarks) (from at row : ℕ) (found all : Option HalfMatch) (is : IsFollowed d text m from at row found all)
     where
-      pub following-held : row < m.rows → is_set m at row ≡ true → following d text at row ≡ None
-      following-held below e = here (is.spent at row is.low below e)
+      pub following-marked : row < m.rows → is_set m at row ≡ true → following d text at row ≡ None
+      following-marked below e = here (is.spent at row is.low below e)
         where
           here : (following d text at row ≡ None) ⊎ ((at < at) × (following d text at row ≡ following d text at row))
               → following d text at row ≡ None

@@ -2,7 +2,8 @@
 -- Main statements: best_of_walk.
 -- Used by: `walk_from`.
 -- Idea: the walk from a position is that over the rest of the text (Shifts), which `along_text` knows.
-use Rattle.std.proofs.Common.{◌≡◌, ◌≤◌, ◌+◌, ◌-◌, ◌++◌, ◌∙◌, ℕ, List, None, Option, Some, [], ◌∷◌, ap, arith, length, map, refl, subst, suc, sym, true}
+use Rattle.std.proofs.Common.{◌≡◌, ◌≤◌, ◌+◌, ◌-◌, ◌++◌, ◌∙◌, ℕ, List, None, Option, Some, [], ◌∷◌, ap, arith, length}
+use Rattle.std.proofs.Common.{map, refl, subst, suc, sym, true}
 use Rattle.std.specs.Prelude.{All, drop, option_map}
 use Rattle.std.proofs.lemmas.List.{drop-append-le, drop-map, length-map}
 use Rattle.std.proofs.lemmas.List.Elements.{All-drop}

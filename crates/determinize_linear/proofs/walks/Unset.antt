@@ -1,8 +1,9 @@
 -- Marks of pairs of a position and a row, and how many are not set.
 -- Main statements: place_within, is_set-with, unset-with, unset_most, the ruleset one_bit.
--- Used by: `walk_from`, and Followed.
+-- Used by: Followed, Walked, `find_all_with`, and the marks.
 -- Idea: two pairs with one place are equal, since a row is below the number of rows.
-use Rattle.std.proofs.Common.{◌≡◌, ◌<◌, ◌≤◌, ◌*◌, ◌+◌, ◌∙◌, ◌/◌, ◌%◌, ◌⊎◌, ◌||◌, ℕ, List, ap, arith, false, inl, inr, nat_eq, refl, suc, sym, true, zero}
+use Rattle.std.proofs.Common.{◌≡◌, ◌<◌, ◌≤◌, ◌*◌, ◌+◌, ◌∙◌, ◌/◌, ◌%◌, ◌⊎◌, ◌||◌, ℕ, List, ap, arith, false, inl, inr}
+use Rattle.std.proofs.Common.{nat_eq, refl, suc, sym, true, zero}
 use Rattle.std.proofs.lemmas.Bool.{cases_lt, eqb-true}
 use Rattle.std.proofs.lemmas.Bool.Decides.{nat_tests}
 use Rattle.std.proofs.lemmas.Nat.{div-mul-add, mod-mul-add, mul-add-lt}

@@ -1,9 +1,10 @@
 -- A walk from a position, with the row, the marks and the number of steps.
 -- Main statements: walked_start, walked_step, nothing_follows, walked_all, walked_end, cost_some,
 -- cost_none, cost_most, has_place, unit_at, steps_enough.
--- Used by: `walk_from` and `search_from`.
+-- Used by: `walk_from`, `search_from` and `find_all_with`.
 -- Idea: each step finds a match at its position, or it marks a pair.
-use Rattle.std.proofs.Common.{◌≡◌, ◌<◌, ◌≤◌, ◌*◌, ◌+◌, ◌^◌, ◌∙◌, ◌⊎◌, ℕ, List, None, Option, Some, ap, arith, false, inl, inr, length, refl, slice_get, subst, suc, sym, true, zero}
+use Rattle.std.proofs.Common.{◌≡◌, ◌<◌, ◌≤◌, ◌*◌, ◌+◌, ◌^◌, ◌∙◌, ◌⊎◌, ℕ, List, None, Option, Some, ap, arith, false}
+use Rattle.std.proofs.Common.{inl, inr, length, refl, slice_get, subst, suc, sym, true, zero}
 use Rattle.std.specs.Option.{IfNone, IfSome}
 use Rattle.std.specs.Prelude.{All}
 use Rattle.std.proofs.lemmas.Bool.{cases_lt}
@@ -20,7 +21,8 @@ use Rattle.determinize_linear.specs.Private.Following.{IsWalkable, following, st
 use Rattle.determinize_linear.specs.Private.Paid.{IsPaid, end_of}
 use Rattle.determinize_linear.specs.Private.RowMarks.{HasMark, RowMarks, count_unset, is_set, place}
 use Rattle.determinize_linear.specs.Private.Walks.{IsWalked, matched}
-use Rattle.determinize_linear.proofs.walks.Followed.{followed_all, followed_end, followed_none, followed_some, followed_start, following-dead, following-done, following-held}
+use Rattle.determinize_linear.proofs.walks.Followed.{followed_all, followed_end, followed_none, followed_some}
+use Rattle.determinize_linear.proofs.walks.Followed.{followed_start, following-dead, following-done, following-marked}
 use Rattle.determinize_linear.proofs.walks.Unset.{place_within, unset-with}
 
 pub unit_at : (us : List (Option ℕ)) (i : ℕ) (u : Option ℕ) → All IsUnit us → slice_get us i ≡ Some u → IsUnit u
@@ -124,7 +126,7 @@ module _ (dfa : DfaValue) (old : RowMarks) (text : Text) (from : ℕ) (can : IsW
       where
         stop : (row ≡ 0) ⊎ (is_set m at row ≡ true) → following dfa.table text at row ≡ None
         stop (inl z) = rw z (following-dead dfa.table text at 0 are dead)
-        stop (inr e) = following-held dfa.table text m from at row found all is.followed
+        stop (inr e) = following-marked dfa.table text m from at row found all is.followed
             (omega (arith, is.rows, can.count, is.below)) e
 
     module _ (none : following dfa.table text at row ≡ None) where

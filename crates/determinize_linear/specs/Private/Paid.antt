@@ -3,8 +3,8 @@ use Rattle.std.specs.Prelude.{◌≤◌, ◌+◌, ◌<◌, ℕ, None, Option, So
 use Rattle.determinize_below.specs.declared.search.HalfMatch.{HalfMatch}
 use Rattle.determinize_below.specs.declared.search.Match.{Match}
 
--- some searches, up to a match with this end, took a try each and one for each of those that they
--- used up of the tries that were left; at most some more are left at the end
+-- searches from one position on, of which the last found a match with this end, took one try each,
+-- and else only tries that were left before and are no longer; at the end itself more may be left
 pub record IsPaid (left : ℕ → ℕ) (most left_before from end searches old new : ℕ) : Type 0 where
   pub low : from ≤ end
   pub further : (k : ℕ) → end < k → new + left k ≤ old + searches + left_before

@@ -1,8 +1,10 @@
-use Rattle.std.proofs.Common.{rules, ◌≡◌, ◌++◌, ◌∙◌, ◌∷◌, [], ap, append-nil, append_assoc, false, map, reverse, sym, true, OnOk, ℕ, List, subst}
+use Rattle.std.proofs.Common.{rules, ◌≡◌, ◌++◌, ◌∙◌, ◌∷◌, [], ap, append-nil, append_assoc, false, map, reverse, sym}
+use Rattle.std.proofs.Common.{true, OnOk, ℕ, List, subst}
 use Rattle.determinize_below.specs.Node.{node_of}
 use Rattle.determinize_below.specs.Semantics.{after_at, before_at, holds}
 use Rattle.ordered_reach.specs.Runs.{placed}
-use Rattle.determinize_linear.proofs.search.Choices.{choices_both, choices_byte, choices_capture, choices_look, choices_not_look, choices_union}
+use Rattle.determinize_linear.proofs.search.Choices.{choices_both, choices_byte, choices_capture, choices_look}
+use Rattle.determinize_linear.proofs.search.Choices.{choices_not_look, choices_union}
 use Rattle.determinize_linear.proofs.search.Targets.{reversed_target}
 use Rattle.determinize_linear.proofs.choices.push_choices.Goals as goal
 

@@ -9,7 +9,8 @@ use Rattle.determinize_dense.specs.Dfa.{IsDfaOf}
 use Rattle.determinize_dense.specs.Table.{start_row}
 use Rattle.determinize_find.specs.Private.BestAt.{IsBestAt, from_index}
 use Rattle.determinize_linear.proofs.walks.Preferred.{best_of_walk}
-use Rattle.determinize_linear.proofs.walks.Walked.{has_place, nothing_follows, unit_at, walked_all, walked_start, walked_step}
+use Rattle.determinize_linear.proofs.walks.Walked.{has_place, nothing_follows, unit_at, walked_all, walked_start}
+use Rattle.determinize_linear.proofs.walks.Walked.{walked_step}
 use Rattle.determinize_linear.proofs.dense.walk_from.Goals as goal
 
 pub loop-row-init : goal.loop-row-init

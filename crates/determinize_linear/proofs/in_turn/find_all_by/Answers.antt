@@ -1,4 +1,5 @@
-use Rattle.std.proofs.Common.{rules, ◌≡◌, ◌≤◌, ◌-◌, ◌*◌, ◌+◌, ◌++◌, ◌∷◌, ℕ, List, None, Option, Some, [], ap, arith, refl, subst, sym}
+use Rattle.std.proofs.Common.{rules, ◌≡◌, ◌≤◌, ◌-◌, ◌*◌, ◌+◌, ◌++◌, ◌∷◌, ℕ, List, None, Option, Some, [], ap, arith}
+use Rattle.std.proofs.Common.{refl, subst, sym}
 use Rattle.determinize_below.specs.declared.search.Match.{Match}
 use Rattle.determinize_find.specs.Matches.{AreMatches, IsNext, from}
 use Rattle.determinize_find.proofs.matches.NextMatch.{AreFirst, all_found, fewer, one_more}

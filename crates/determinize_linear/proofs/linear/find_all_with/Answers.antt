@@ -1,4 +1,5 @@
-use Rattle.std.proofs.Common.{rules, ◌≡◌, ◌+◌, ◌-◌, ◌≤◌, ◌∙◌, Bool, List, ap, arith, false, length, replicate, subst, sym}
+use Rattle.std.proofs.Common.{rules, ◌≡◌, ◌+◌, ◌-◌, ◌≤◌, ◌∙◌, Bool, List, ap, arith, false, length, replicate, subst}
+use Rattle.std.proofs.Common.{sym}
 use Rattle.determinize_below.specs.Semantics.{Text}
 use Rattle.determinize_core.specs.Tries.{edges_in_all}
 use Rattle.determinize_find.proofs.matches.OneList.{length-range}

@@ -1,5 +1,6 @@
 use Rattle.std.specs.Option.{is_some}
-use Rattle.std.proofs.Common.{rules, ◌≡◌, ◌+◌, ◌<◌, ◌∙◌, ◌++◌, ◌∷◌, ℕ, Bool, List, Some, [], ap, arith, false, length, refl, reverse, slice_get, subst, sym, true}
+use Rattle.std.proofs.Common.{rules, ◌≡◌, ◌+◌, ◌<◌, ◌∙◌, ◌++◌, ◌∷◌, ℕ, Bool, List, Some, [], ap, arith, false, length}
+use Rattle.std.proofs.Common.{refl, reverse, slice_get, subst, sym, true}
 use Rattle.std.proofs.lemmas.List.{length-append, length-reverse}
 use Rattle.std.proofs.lemmas.Option.{get_or_from_slice_get}
 use Rattle.determinize_below.specs.Edges.{is_match, is_match_node, pattern_in}
@@ -15,7 +16,8 @@ use Rattle.determinize_linear.proofs.search.Left.{left_marked, paid_match}
 use Rattle.determinize_linear.proofs.search.Marks.{places_with, places_without, with_mark-marked}
 use Rattle.determinize_linear.proofs.search.Matches.{best_match, best_nothing}
 use Rattle.determinize_linear.proofs.search.Pending.{run_steps}
-use Rattle.determinize_linear.proofs.search.UnderWay.{IsTop, IsUnderWay, begun, ended, entered, fewer_held, fewer_new, on_top, pushed, skipped, spent_after, stopped}
+use Rattle.determinize_linear.proofs.search.UnderWay.{IsTop, IsUnderWay, begun, ended, entered, fewer_held, fewer_new}
+use Rattle.determinize_linear.proofs.search.UnderWay.{on_top, pushed, skipped, spent_after, stopped}
 use Rattle.determinize_linear.proofs.linear.search_from.Goals as goal
 
 pub loop-at-init : goal.loop-at-init
