@@ -50,7 +50,8 @@ pub record AreClassesOf (nfa : Nfa) (p : Classes) : Type 0 where
 abbrev pub is_marked : List Bool → ℕ → Bool
 is_marked marks b = slice_index_or marks b false
 
--- a byte without a mark had none before, and the function has the same value on the byte before it
+-- no mark is removed, and on a byte without a mark the function has the same value as on the
+-- byte below it
 pub record MarksChanges {A : Type 0} (f : ℕ → A) (old new : List Bool) : Type 0 where
   pub was : (b : ℕ) → is_marked new b ≡ false → is_marked old b ≡ false
   pub same : (b : ℕ) → b < 255 → is_marked new (b + 1) ≡ false → f b ≡ f (b + 1)

@@ -3,10 +3,10 @@ use Rattle.std.specs.Prelude.{ℕ, ◌+◌, ◌*◌, List, cond, length, nat_lt,
 use Rattle.determinize_state.specs.Spelling.{spell}
 use Rattle.determinize_state.specs.Value.{Value}
 
--- the bytes of a value, if they are too many to lie in the state itself
-abbrev pub bytes_apart : Value → ℕ
-bytes_apart v = cond (nat_lt 30 (length (spell v))) (length (spell v)) 0
+-- the heap memory of a value: its encoding, if that does not fit in the state itself
+abbrev pub heap_bytes : Value → ℕ
+heap_bytes v = cond (nat_lt 30 (length (spell v))) (length (spell v)) 0
 
 -- the memory of the states and of the map, in which each is there once more, in bytes
 abbrev pub table_bytes : List Value → ℕ
-table_bytes states = length states * 72 + sum_by (λ v. bytes_apart v * 2) states
+table_bytes states = length states * 72 + sum_by (λ v. heap_bytes v * 2) states

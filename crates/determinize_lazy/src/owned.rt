@@ -182,8 +182,8 @@ impl<N: Allocator, A: Allocator + Copy> OwnedLazy<N, A> {
 
     /// Returns the heap memory that the cache uses now, in bytes.
     ///
-    /// This counts the cached states and their rows: 1104 bytes for each, and those of the state
-    /// twice if they are more than 30. It does not count the size of the `OwnedLazy` itself, the
+    /// This counts the cached states and their rows: 1104 bytes for each, and twice the
+    /// length of its encoding if that is more than 30. It does not count the size of the `OwnedLazy` itself, the
     /// NFA, free places of the map that finds a state by its bytes, spare capacity for states and
     /// rows, or an allocator that has a size.
     pub fn memory_usage(&self) -> usize

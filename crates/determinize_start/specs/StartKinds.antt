@@ -46,6 +46,6 @@ abbrev pub start_kind_of : ℕ → Option ℕ → Kind
 start_kind_of t None = Text
 start_kind_of t (Some b) = start_kind t b
 
--- whether some byte, or no byte, has the start kind
+-- whether a start behind some byte, or behind nothing, has this kind
 abbrev pub Occurs : ℕ → Kind → Type 0
 Occurs t kind = (p : Option ℕ) × IsUnit p × (start_kind_of t p ≡ kind)

@@ -1,4 +1,4 @@
--- The slots of a table of first states: one for each kind of start, anchored and unanchored.
+-- The slots of a table of start states: one for each kind of start, anchored and unanchored.
 use Rattle.std.specs.Prelude.{ℕ, ◌+◌, ◌++◌, Bool, true, false, cond, List, map, Option, slice_get}
 use Rattle.determinize_start.specs.StartKinds.{each_start, number_of}
 use Rattle.determinize_start.specs.declared.start.Start.{Start as Kind}

@@ -192,7 +192,7 @@ impl LookTables {
         }
     }
 
-    /// Returns the look-behind of the first state for a start kind.
+    /// Returns the look-behind of the start state for a start kind.
     #[tactic(auto, unfolding(crate::specs::LookTables::known_set, crate::specs::LookTables::insert_where, crate::specs::LookTables::start_have, crate::specs::LookTables::start_from_word, crate::specs::LookTables::start_half_crlf))]
     pub fn at_start(self, kind: Start) -> LookBehind
         ensures looks { result.looks ≡ tables.start_have self kind }

@@ -1,8 +1,8 @@
 //! The start configuration of a search, and start kinds.
 //!
-//! Given the NFA state to start from, the first state of a search depends on the byte before the
-//! search in reading order. Bytes that satisfy the same assertions have the same first state, so
-//! there are only six kinds of start, numbered from 0: a table of first states needs six entries
+//! Given the NFA state to start from, the start state of a search depends on the byte before the
+//! search in reading order. Bytes that satisfy the same assertions have the same start state, so
+//! there are only six kinds of start, numbered from 0: a table of start states needs six entries
 //! for each NFA state to start from, instead of 257. [`StartSlot`] numbers those of both starts of
 //! an NFA.
 //! `StartByteMap` maps a byte to its kind. No byte has the kind `Start::Text`.
@@ -193,8 +193,8 @@ impl Start {
     }
 }
 
-/// A slot of a table of first states: there are twelve, numbered from 0, first those of the
-/// anchored start by its kind, and then those of the unanchored one.
+/// A slot of a table of start states. There are twelve, numbered from 0: one for each kind of start
+/// from the anchored start, in the order of the kinds, and then the same from the unanchored start.
 #[derive(Clone, Copy, Debug, PartialEq, Eq)]
 pub struct StartSlot {
     /// Whether the search starts from the anchored start of the NFA.

@@ -8,11 +8,11 @@ use Rattle.determinize_syntax.specs.Words.{◌∈◌, is_name}
 abbrev pub openings : Bytes → ℕ
 openings text = count_by (λ c. c ∈ "(*+?{") text
 
--- the name as it opens a group
+-- the name between the signs that enclose it where a group opens
 abbrev pub bracketed : Bytes → Bytes
 bracketed name = codes "<" ++ name ++ codes ">"
 
--- a name is in two places of the text as it opens a group
+-- a name stands twice in the text between `<` and `>`, whether or not groups open there
 abbrev pub HasNameTwice : Bytes → Type 0
 HasNameTwice text = (name front between back : Bytes) × (is_name name ≡ true)
     × (text ≡ front ++ bracketed name ++ between ++ bracketed name ++ back)

@@ -156,7 +156,7 @@ fn first_alike<A: Allocator>(nfa: &NFA<A>, firsts: &[u8], byte: u8) -> usize
 
 impl<A: Allocator> NFA<A> {
     /// Marks each byte on which the state with this id has another target than on the byte before,
-    /// and maybe others. The id must be below the number of states.
+    /// and maybe others. Keeps all marks. The id must be below the number of states.
     pub fn mark_changes(&self, id: StateID, marks: &mut [bool; 256])
         requires { id < length self.now.states }
         ensures { MarksChanges (λ b. target_of (Some b) (state_at self.now id))

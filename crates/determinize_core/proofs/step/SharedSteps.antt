@@ -14,7 +14,7 @@ use Rattle.ordered_reach.proofs.lists.Prefixes.{Beginning-before}
 use Rattle.determinize_below.specs.ByteClasses.{is_marked, MarksChanges}
 use Rattle.determinize_below.specs.Semantics.{target_of}
 use Rattle.determinize_core.specs.Alike.{AreChanges}
-use Rattle.determinize_core.specs.Private.Sharing.{AreLeftAlike}
+use Rattle.determinize_core.specs.Private.Sharing.{HaveSameLookBehind}
 
 -- what is read of a list is in it
 In_fresh : (seen : ℕ → Bool) (xs : List ℕ) (x : ℕ) → In x (fresh nat_eq seen xs) → In x xs
@@ -37,7 +37,7 @@ IsLedAlike nfa b c s = target_of (Some b) (state_at nfa s) ≡ target_of (Some c
 module _ (nfa : Nfa) (v : Value) (b c : ℕ) where
   -- a step over bytes that leave the same look-behind, and that satisfy no further assertion
   pub one_step : (kind : MatchKind) → Each (IsLedAlike nfa b c) v.states
-      → AreLeftAlike (tables_of nfa) (Some b) (Some c)
+      → HaveSameLookBehind (tables_of nfa) (Some b) (Some c)
       → is_reopened nfa v (Some b) ≡ false → is_reopened nfa v (Some c) ≡ false
       → step nfa kind v (Some b) ≡ step nfa kind v (Some c)
   unfolding step

@@ -1,8 +1,9 @@
 //! The bytes over which the steps from one state are the same.
 //!
-//! A step depends on its byte by the targets of the NFA states that it reads, and by the assertions
-//! that the byte satisfies. The bytes where a target changes are marked once for a state, and then
-//! many pairs of bytes are found over which one step serves both. A mark too many costs only time.
+//! A step depends on its byte only through the targets of the NFA states that it reads, and the
+//! assertions that the byte satisfies. The bytes where a target changes are marked once for a
+//! state, and then many pairs of bytes are found over which one step serves both. A mark too many
+//! costs only time.
 
 ghost use Rattle.std.specs.Prelude.{◌≡◌, ℕ, ◌+◌, ◌<◌, ◌≤◌, IsTrue, Some, false};
 ghost use Rattle.determinize_below.specs.ByteClasses.{is_marked};
@@ -10,7 +11,7 @@ ghost use Rattle.determinize_below.specs.Nfa.{AllResolve};
 ghost use Rattle.determinize_below.specs.declared.search.MatchKind.{MatchKind as Kind};
 ghost use Rattle.determinize_below.specs.Unit.{byte_of};
 ghost use Rattle.determinize_core.specs.Alike.{AreChanges};
-ghost use Rattle.determinize_core.specs.Private.Sharing.{AreLeftAlike};
+ghost use Rattle.determinize_core.specs.Private.Sharing.{HaveSameLookBehind};
 ghost use Rattle.determinize_core.specs.Step.{is_reopened, step};
 
 use crate::determinize::reopening::reopened_under;
@@ -19,8 +20,8 @@ use determinize_start::look_tables::LookTables;
 use determinize_state::state::State;
 use std::alloc::Allocator;
 
-/// Returns marks at the bytes on which an NFA state of the state has another target than on the
-/// byte before, and maybe at others.
+/// Returns marks at the bytes on which some NFA state of the DFA state has another target than on
+/// the byte before, and maybe at others.
 pub fn changes<N: Allocator, A: Allocator>(nfa: &NFA<N>, state: &State<A>) -> [bool; 256]
     requires { AllResolve nfa.now state.now.states }
     ensures { AreChanges nfa.now state.now.states result }
@@ -32,7 +33,7 @@ pub fn changes<N: Allocator, A: Allocator>(nfa: &NFA<N>, state: &State<A>) -> [b
     marks
 }
 
-/// Returns whether no byte above the first has a mark, up to the last.
+/// Returns whether no byte above `first`, up to `last`, has a mark.
 fn is_unmarked(marks: &[bool; 256], first: u8, last: u8) -> bool
     ensures { IsTrue result → (b : ℕ) → first ≤ b → b < last → is_marked marks.now (b + 1) ≡ false }
 {
@@ -45,8 +46,8 @@ fn is_unmarked(marks: &[bool; 256], first: u8, last: u8) -> bool
 }
 
 /// Returns whether the look-behind after both units is the same.
-fn leaves_alike(tables: LookTables, first: Unit, second: Unit) -> bool
-    ensures { IsTrue result → AreLeftAlike tables (byte_of first) (byte_of second) }
+fn have_same_look_behind(tables: LookTables, first: Unit, second: Unit) -> bool
+    ensures { IsTrue result → HaveSameLookBehind tables (byte_of first) (byte_of second) }
 {
     let (first, second) = (tables.after(first), tables.after(second));
     first.looks == second.looks
@@ -81,7 +82,7 @@ pub fn steps_alike<N: Allocator, A: Allocator>(
         return false;
     }
     let (first, second) = (Unit::u8(first), Unit::u8(second));
-    if !leaves_alike(LookTables::of(nfa), first, second) {
+    if !have_same_look_behind(LookTables::of(nfa), first, second) {
         return false;
     }
     stays_closed(nfa, state, first) && stays_closed(nfa, state, second)

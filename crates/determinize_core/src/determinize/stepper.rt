@@ -109,7 +109,8 @@ impl<'n, N: Allocator, A: Allocator + Copy> Stepper<'n, N, A> {
     }
 
     /// Returns the state before the first unit for a kind of start: the state that `start` returns
-    /// for each byte of this kind, or behind no byte for `Start::Text`.
+    /// for each byte of this kind, or behind no byte for `Start::Text`. For a kind that does not
+    /// occur (`Start::occurs`) it is some state.
     ///
     /// - `start` is the NFA state to start from, below the number of states.
     pub fn start_of(&mut self, start: StateID, kind: Start) -> Result<State<A>, AllocError>

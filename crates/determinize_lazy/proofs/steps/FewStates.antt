@@ -31,7 +31,7 @@ use Rattle.determinize_core.specs.Step.{working_list}
 use Rattle.determinize_lazy.proofs.steps.Rule.{All-kept}
 use Rattle.determinize_lazy.specs.MostBytes.{most_bytes}
 use Rattle.determinize_lazy.specs.Private.Invariant.{IsSmall}
-use Rattle.determinize_engine.specs.StateBytes.{bytes_apart}
+use Rattle.determinize_engine.specs.StateBytes.{heap_bytes}
 use Rattle.determinize_start.specs.LookTables.{have_at_start}
 use Rattle.determinize_state.proofs.encoding.EncodedLength.{spell_short}
 use Rattle.determinize_table.specs.CacheBytes.{cache_bytes}
@@ -161,8 +161,8 @@ pub few_bytes : (limit : ℕ) (nfa : Nfa) (states : List Value) → length state
     → cache_bytes states ≤ most_bytes limit nfa
 few_bytes limit nfa states within each =
     let m : ℕ = 26 + 8 * pattern_count nfa + 10 * length nfa.states in
-    let one : (v : Value) → IsSmall nfa v → bytes_apart v * 2 ≤ m = λ v small. grind (arith, spell_short v, small.0, small.1) in
-    let sum = sum_by-le (λ v. bytes_apart v * 2) m states
-    (All-weaker (IsSmall nfa) (λ v. bytes_apart v * 2 ≤ m) one states each) in
+    let one : (v : Value) → IsSmall nfa v → heap_bytes v * 2 ≤ m = λ v small. grind (arith, spell_short v, small.0, small.1) in
+    let sum = sum_by-le (λ v. heap_bytes v * 2) m states
+    (All-weaker (IsSmall nfa) (λ v. heap_bytes v * 2 ≤ m) one states each) in
     let more : length states * (1104 + m) ≤ limit * (1104 + m) = mul-le-mul_right (1104 + m) within in
     omega (arith, sum, more)

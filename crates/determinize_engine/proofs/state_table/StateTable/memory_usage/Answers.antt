@@ -1,6 +1,6 @@
 use Rattle.determinize_core.proofs.Common.{ap, arith, get_or, length, rules, take_all, ◌<◌, ◌∙◌, ◌≡◌}
 use Rattle.std.specs.Prelude.{◌*◌}
-use Rattle.determinize_engine.specs.StateBytes.{bytes_apart}
+use Rattle.determinize_engine.specs.StateBytes.{heap_bytes}
 use Rattle.std.proofs.lemmas.List.Sums.{sum_by_more}
 use Rattle.determinize_engine.proofs.state_table.StateTable.memory_usage.Goals.{else-len-gt-SHORT, then-len-gt-SHORT}
 use Rattle.determinize_engine.proofs.state_table.StateTable.memory_usage.Goals as goal
@@ -15,7 +15,7 @@ pub loop-state-preserved : goal.loop-state-preserved
 loop-state-preserved g c =
     let same : c.deref-state-items.result.now ≡ c.args.self.now = c.deref-state-items.ensures.value ∙ c.self.view_is in
     let inside : c.loop-state.state-index < length c.args.self.now = rw same at c.loop-state-test.true in
-    let more = sum_by_more (λ v. bytes_apart v * 2) c.args.self.now c.loop-state.state-index c.state-item.result inside in
+    let more = sum_by_more (λ v. heap_bytes v * 2) c.args.self.now c.loop-state.state-index c.state-item.result inside in
     let item : c.state-item.result ≡ get_or c.args.self.now c.loop-state.state-index c.state-item.result =
     rw same at c.state-item.is in
     let bytes = c.memory_usage-len.ensures.bytes in
