@@ -4,12 +4,11 @@
 //! it. So a search also reads the unit ahead of its text, and a start state is no match state.
 
 ghost use Rattle.std.specs.Prelude.{[], Bool, Decides, ◌≡◌, ◌<◌, ◌≤◌, ℕ, List, Contains, false, length, true, None};
-ghost use Rattle.std.specs.Option.{IfNone, IfSome};
 ghost use Rattle.determinize_below.specs.Semantics.{Accepts, between};
 ghost use Rattle.determinize_below.specs.Search.{is_done};
 ghost use Rattle.determinize_below.specs.declared.search.MatchKind.TheVariants as kinds;
 ghost use Rattle.determinize_core.specs.Chain.{units};
-ghost use Rattle.determinize_engine.specs.Searches.{HasMatch, IsFarthestIn, IsPreferredIn, IsSearch, has_start, last_in, start_for, text_of};
+ghost use Rattle.determinize_engine.specs.Searches.{HasMatch, IsSearch, IsSearchResult, has_start, start_for, text_of};
 ghost use Rattle.determinize_core.specs.Walk.{ListsAccepted};
 ghost use Rattle.determinize_dense.specs.Dfa as dfas;
 ghost use Rattle.determinize_dense.specs.Dfa.{value_from};
@@ -322,16 +321,8 @@ impl<'n, N: Allocator, A: Allocator + Copy> Dfa<'n, N, A> {
     /// Does not allocate.
     pub fn search_input(&self, input: &Input<'_>) -> Option<HalfMatch>
         requires { has_start input.now.anchored ≡ true }
-        ensures last { result ≡ last_in self.now.nfa self.now.kind input.now }
-        ensures preferred { self.now.kind ≡ kinds.LeftmostFirst
-            → IfSome result (λ m. IsPreferredIn self.now.nfa input.now m) }
-        ensures farthest { self.now.kind ≡ kinds.All
-            → IfSome result (λ m. IsFarthestIn self.now.nfa input.now m) }
-        ensures none { is_done input.now ≡ false
-            → IfNone result (HasMatch self.now.nfa input.now → ⊥) }
+        ensures search { IsSearchResult self.now.nfa self.now.kind input.now result }
         ensures done { is_done input.now ≡ true → result ≡ None }
-        ensures within { IfSome result
-            (λ m. (input.now.start ≤ m.offset) × (m.offset ≤ input.now.end)) }
     {
         if input.is_done() {
             return None;

@@ -2,7 +2,7 @@
 use Rattle.std.specs.Prelude.{◌≡◌, ◌≤◌, ℕ, ◌+◌, ◌-◌, Bool, true, false, cond, Option, Some, None}
 use Rattle.std.specs.Prelude.{List, length, option_map, reverse, slice_get}
 use Rattle.std.specs.List.{slice_range}
-use Rattle.std.specs.Option.{IfSome}
+use Rattle.std.specs.Option.{IfNone, IfSome}
 use Rattle.determinize_below.specs.Semantics.{Nfa, Accepts, IsPreferredRun, Text, between}
 use Rattle.determinize_below.specs.Search.{Asked, is_done}
 use Rattle.determinize_below.specs.declared.search.Anchored.{Anchored}
@@ -83,3 +83,14 @@ abbrev pub IsFarthestIn : Nfa → Asked → HalfMatch → Type 0
 IsFarthestIn nfa asked m = (i : ℕ) × (m.offset ≡ index_after nfa.reverse asked i)
     × IsFarthestMatch nfa (start_for nfa asked.anchored) (text_of nfa.reverse asked)
     (Some record { pattern = m.pattern; offset = i })
+
+-- what a search of an input returns: the last match of the walk, in words of runs too; `None` only
+-- if no run accepts; and a match is in the range
+pub record IsSearchResult (nfa : Nfa) (kind : MatchKind) (asked : Asked) (found : Option HalfMatch)
+    : Type 0
+  where
+    pub last : found ≡ last_in nfa kind asked
+    pub preferred : kind ≡ LeftmostFirst → IfSome found (λ m. IsPreferredIn nfa asked m)
+    pub farthest : kind ≡ All → IfSome found (λ m. IsFarthestIn nfa asked m)
+    pub none : is_done asked ≡ false → IfNone found (HasMatch nfa asked → ⊥)
+    pub within : IfSome found (λ m. (asked.start ≤ m.offset) × (m.offset ≤ asked.end))

@@ -1,11 +1,9 @@
 //! What a lazy DFA and a whole one have in common: searches of inputs.
 
-ghost use Rattle.std.specs.Prelude.{Decides, ◌≡◌, ◌≤◌, Ok, None, false, true, IfOk};
-ghost use Rattle.std.specs.Option.{IfNone, IfSome};
+ghost use Rattle.std.specs.Prelude.{Decides, ◌≡◌, Ok, None, false, true, IfOk};
 ghost use Rattle.determinize_below.specs.Search.{is_done};
-ghost use Rattle.determinize_below.specs.declared.search.MatchKind.TheVariants as kinds;
 ghost use Rattle.determinize_engine.specs.Engines.{EngineValue};
-ghost use Rattle.determinize_engine.specs.Searches.{HasMatch, IsFarthestIn, IsPreferredIn, has_start, last_in};
+ghost use Rattle.determinize_engine.specs.Searches.{HasMatch, IsSearchResult, has_start};
 
 use determinize_below::{HalfMatch, Input};
 use std::alloc::AllocError;
@@ -26,17 +24,9 @@ pub trait Engine {
     /// `Lazy::search_input`.
     fn search_input(&mut self, input: &Input<'_>) -> Result<Option<HalfMatch>, Self::Error>
         requires { has_start input.now.anchored ≡ true }
-        ensures last { IfOk result (λ found. found
-            ≡ last_in (engine self.old).nfa (engine self.old).kind input.now) }
-        ensures preferred { (engine self.old).kind ≡ kinds.LeftmostFirst → IfOk result
-            (λ found. IfSome found (λ m. IsPreferredIn (engine self.old).nfa input.now m)) }
-        ensures farthest { (engine self.old).kind ≡ kinds.All → IfOk result
-            (λ found. IfSome found (λ m. IsFarthestIn (engine self.old).nfa input.now m)) }
-        ensures none { is_done input.now ≡ false → IfOk result
-            (λ found. IfNone found (HasMatch (engine self.old).nfa input.now → ⊥)) }
+        ensures search { IfOk result
+            (λ found. IsSearchResult (engine self.old).nfa (engine self.old).kind input.now found) }
         ensures done { is_done input.now ≡ true → result ≡ Ok None }
-        ensures within { IfOk result (λ found. IfSome found
-            (λ m. (input.now.start ≤ m.offset) × (m.offset ≤ input.now.end))) }
         ensures same { engine self.new ≡ engine self.old };
 
     /// Returns whether an input has a match, under both match kinds: as `Lazy::is_match`.

@@ -93,8 +93,8 @@ impl<A: Allocator + Copy> StateTable<A> {
     }
 
     /// Returns the heap memory that the states and the map use, in bytes: 72 for each state, and
-    /// twice the length of its encoding if that is more than 30. An allocator that has a size is not
-    /// counted, although each state has a copy of it.
+    /// twice the length of its encoding if that is more than 30. An allocator that has a size is
+    /// not counted, although each state has a copy of it.
     pub fn memory_usage(&self) -> usize
         ensures { result ≡ min (table_bytes self.now) usize.MAX }
     {

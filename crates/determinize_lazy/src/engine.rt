@@ -1,10 +1,8 @@
 //! A lazy DFA as an engine. The clauses are those of the trait, and those of `Lazy` on the cache.
 
-ghost use Rattle.std.specs.Prelude.{Decides, ◌≡◌, ◌≤◌, None, Ok, false, true, IfOk, OnErr, OnOk};
-ghost use Rattle.std.specs.Option.{IfNone, IfSome};
+ghost use Rattle.std.specs.Prelude.{Decides, ◌≡◌, None, Ok, false, true, IfOk, OnErr, OnOk};
 ghost use Rattle.determinize_below.specs.Search.{is_done};
-ghost use Rattle.determinize_below.specs.declared.search.MatchKind.TheVariants as kinds;
-ghost use Rattle.determinize_engine.specs.Searches.{HasMatch, IsFarthestIn, IsPreferredIn, has_start, last_in};
+ghost use Rattle.determinize_engine.specs.Searches.{HasMatch, IsSearchResult, has_start};
 ghost use Rattle.determinize_lazy.specs.Cache.{Grows, cache};
 ghost use Rattle.determinize_lazy.specs.CachedSearches.{IsCutOffIn, after_input, after_is_match};
 
@@ -20,17 +18,9 @@ impl<'n, N: Allocator, A: Allocator + Copy> Engine for Lazy<'n, N, A> {
 
     fn search_input(&mut self, input: &Input<'_>) -> Result<Option<HalfMatch>, AllocError>
         requires { has_start input.now.anchored ≡ true }
-        ensures last { IfOk result
-            (λ found. found ≡ last_in self.old.nfa self.old.kind input.now) }
-        ensures preferred { self.old.kind ≡ kinds.LeftmostFirst → IfOk result
-            (λ found. IfSome found (λ m. IsPreferredIn self.old.nfa input.now m)) }
-        ensures farthest { self.old.kind ≡ kinds.All → IfOk result
-            (λ found. IfSome found (λ m. IsFarthestIn self.old.nfa input.now m)) }
-        ensures none { is_done input.now ≡ false → IfOk result
-            (λ found. IfNone found (HasMatch self.old.nfa input.now → ⊥)) }
+        ensures search { IfOk result
+            (λ found. IsSearchResult self.old.nfa self.old.kind input.now found) }
         ensures done { is_done input.now ≡ true → result ≡ Ok None }
-        ensures within { IfOk result (λ found. IfSome found
-            (λ m. (input.now.start ≤ m.offset) × (m.offset ≤ input.now.end))) }
         ensures after { OnOk result (cache self.new ≡ after_input (cache self.old) input.now) }
         ensures failed { OnErr result
             (IsCutOffIn false (cache self.old) input.now (cache self.new)) }

@@ -4,7 +4,7 @@
 ghost use Rattle.std.specs.Prelude.{◌≡◌, ◌<◌, ◌≤◌, ◌*◌, false, length, min, true, Decides, None, Ok, IfOk, OnErr, OnOk};
 ghost use Rattle.determinize_below.specs.Nfa.{IsAccepted};
 ghost use Rattle.determinize_below.specs.Search.{is_done};
-ghost use Rattle.determinize_engine.specs.Searches.{has_start, start_for, text_of, HasMatch, IsFarthestIn, IsPreferredIn, last_in};
+ghost use Rattle.determinize_engine.specs.Searches.{has_start, start_for, text_of, HasMatch, IsSearchResult};
 ghost use Rattle.determinize_lazy.specs.Cache.{Grows, cache};
 ghost use Rattle.determinize_lazy.specs.MostBytes.{most_bytes};
 ghost use Rattle.determinize_lazy.specs.Private.Invariant.{IsLazy};
@@ -13,7 +13,6 @@ ghost use Rattle.determinize_lazy.specs.Private.Steps.{IsSound};
 ghost use Rattle.determinize_table.specs.CacheBytes.{cache_bytes};
 ghost use Rattle.determinize_table.specs.Table.{empty};
 ghost use Rattle.std.specs.Option.{IfNone, IfSome};
-ghost use Rattle.determinize_below.specs.declared.search.MatchKind.TheVariants as kinds;
 ghost use Rattle.determinize_lazy.specs.CachedSearches.{IsCutOffIn, after_input, after_is_match};
 
 use crate::lazy::Lazy;
@@ -182,10 +181,10 @@ impl<N: Allocator, A: Allocator + Copy> OwnedLazy<N, A> {
 
     /// Returns the heap memory that the cache uses now, in bytes.
     ///
-    /// This counts the cached states and their rows: 1104 bytes for each, and twice the
-    /// length of its encoding if that is more than 30. It does not count the size of the `OwnedLazy` itself, the
-    /// NFA, free places of the map that finds a state by its bytes, spare capacity for states and
-    /// rows, or an allocator that has a size.
+    /// This counts the cached states and their rows: 1104 bytes for each, and twice the length of
+    /// its encoding if that is more than 30. It does not count the size of the `OwnedLazy` itself,
+    /// the NFA, free places of the map that finds a state by its bytes, spare capacity for states
+    /// and rows, or an allocator that has a size.
     pub fn memory_usage(&self) -> usize
         ensures rows { length self.now.states * 1032 ≤ result }
         ensures value { result ≡ min (cache_bytes self.now.states) usize.MAX }
@@ -292,17 +291,9 @@ impl<N: Allocator, A: Allocator + Copy> Engine for OwnedLazy<N, A> {
     #[tactic(auto, unfolding(crate::specs::CachedSearches::after_input))]
     fn search_input(&mut self, input: &Input<'_>) -> Result<Option<HalfMatch>, AllocError>
         requires { has_start input.now.anchored ≡ true }
-        ensures last { IfOk result
-            (λ found. found ≡ last_in self.old.nfa self.old.kind input.now) }
-        ensures preferred { self.old.kind ≡ kinds.LeftmostFirst → IfOk result
-            (λ found. IfSome found (λ m. IsPreferredIn self.old.nfa input.now m)) }
-        ensures farthest { self.old.kind ≡ kinds.All → IfOk result
-            (λ found. IfSome found (λ m. IsFarthestIn self.old.nfa input.now m)) }
-        ensures none { is_done input.now ≡ false → IfOk result
-            (λ found. IfNone found (HasMatch self.old.nfa input.now → ⊥)) }
+        ensures search { IfOk result
+            (λ found. IsSearchResult self.old.nfa self.old.kind input.now found) }
         ensures done { is_done input.now ≡ true → result ≡ Ok None }
-        ensures within { IfOk result (λ found. IfSome found
-            (λ m. (input.now.start ≤ m.offset) × (m.offset ≤ input.now.end))) }
         ensures after { OnOk result (cache self.new ≡ after_input (cache self.old) input.now) }
         ensures failed { OnErr result
             (IsCutOffIn false (cache self.old) input.now (cache self.new)) }

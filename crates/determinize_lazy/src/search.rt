@@ -19,7 +19,6 @@ ghost use Rattle.std.specs.Option.{IfNone, IfSome};
 ghost use Rattle.determinize_below.specs.Nfa.{AllResolve};
 ghost use Rattle.determinize_below.specs.Semantics.{between};
 ghost use Rattle.determinize_below.specs.Search.{is_done};
-ghost use Rattle.determinize_below.specs.declared.search.MatchKind.TheVariants as kinds;
 ghost use Rattle.determinize_core.specs.Chain.{units};
 ghost use Rattle.determinize_core.specs.Step.{start_value};
 ghost use Rattle.determinize_core.specs.Value.{Value};
@@ -27,7 +26,7 @@ ghost use Rattle.determinize_lazy.specs.Cache.{Cache, Grows, IsCutOff, LazyValue
 ghost use Rattle.determinize_table.specs.Cursors.{IsCursor, cursor_value};
 ghost use Rattle.determinize_lazy.specs.Private.Searched.{Fails, GoesTo, HasStopped, IsNext, IsOver, IsOverText, IsPosition, IsShort, first_place, place, with_cursor};
 ghost use Rattle.determinize_lazy.specs.Private.Steps.{IsFailedStep, IsSound};
-ghost use Rattle.determinize_engine.specs.Searches.{HasMatch, IsFarthestIn, IsPreferredIn, IsSearch, has_start, last_in, start_for, text_of};
+ghost use Rattle.determinize_engine.specs.Searches.{HasMatch, IsSearch, IsSearchResult, has_start, start_for, text_of};
 ghost use Rattle.determinize_lazy.specs.CachedSearches.{IsCutOffIn, IsPlenty, IsPlentyIn, after_input, after_is_match, after_search, units_searched};
 
 use crate::lazy::Lazy;
@@ -312,17 +311,9 @@ impl<'n, N: Allocator, A: Allocator + Copy> Lazy<'n, N, A> {
     #[tactic(auto, unfolding(crate::specs::CachedSearches::after_input))]
     pub fn search_input(&mut self, input: &Input<'_>) -> Result<Option<HalfMatch>, AllocError>
         requires { has_start input.now.anchored ≡ true }
-        ensures last { IfOk result
-            (λ found. found ≡ last_in self.old.nfa self.old.kind input.now) }
-        ensures preferred { self.old.kind ≡ kinds.LeftmostFirst → IfOk result
-            (λ found. IfSome found (λ m. IsPreferredIn self.old.nfa input.now m)) }
-        ensures farthest { self.old.kind ≡ kinds.All → IfOk result
-            (λ found. IfSome found (λ m. IsFarthestIn self.old.nfa input.now m)) }
-        ensures none { is_done input.now ≡ false → IfOk result
-            (λ found. IfNone found (HasMatch self.old.nfa input.now → ⊥)) }
+        ensures search { IfOk result
+            (λ found. IsSearchResult self.old.nfa self.old.kind input.now found) }
         ensures done { is_done input.now ≡ true → result ≡ Ok None }
-        ensures within { IfOk result (λ found. IfSome found
-            (λ m. (input.now.start ≤ m.offset) × (m.offset ≤ input.now.end))) }
         ensures after { OnOk result (cache self.new ≡ after_input (cache self.old) input.now) }
         ensures unchanged { is_done input.now ≡ true → self.new ≡ self.old }
         ensures plenty { OnOk result (IsPlentyIn (cache self.old) input.now (cache self.new)) }

@@ -217,10 +217,8 @@ impl StartSlot {
         } else {
             number - Start::COUNT
         };
-        match Start::from_usize(kind) {
-            Some(kind) => Some(StartSlot { is_anchored, kind }),
-            None => None,
-        }
+        let kind = Start::from_usize(kind)?;
+        Some(StartSlot { is_anchored, kind })
     }
 
     /// Returns the number of the slot, from 0 to 11.

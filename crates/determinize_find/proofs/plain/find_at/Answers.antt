@@ -10,4 +10,4 @@ returns-clause-best g c =
     = search rules in
     best_in (g.E.Engine.engine c.args.engine.now).nfa c.args.input.now c.anchored-from.result c.args.at
     c.in_ok-found.found c.from_index.result from c.requires.forward c.requires.start c.requires.end
-    (c.in_ok-found.ensures.preferred c.requires.kind) c.in_ok-found.ensures.none c.from_index.ensures
+    (c.in_ok-found.ensures.search.preferred c.requires.kind) c.in_ok-found.ensures.search.none c.from_index.ensures

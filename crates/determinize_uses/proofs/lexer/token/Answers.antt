@@ -16,4 +16,4 @@ returns-clause-longest g c =
     let asked : c.anchored-rest.result ≡ rest = search rules in
     subst (λ (asked : Asked). IsFarthestIn c.args.lazy.now.nfa asked c.in-Some.last) asked
     (subst (λ o. IfSome o (λ m. IsFarthestIn c.args.lazy.now.nfa c.anchored-rest.result m)) c.in-Some.is
-    (c.in_ok-last.ensures.farthest c.requires.kind))
+    (c.in_ok-last.ensures.search.farthest c.requires.kind))

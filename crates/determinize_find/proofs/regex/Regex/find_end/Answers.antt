@@ -1,4 +1,5 @@
 use Rattle.std.proofs.Common.{IfOk, ap, subst}
+use Rattle.std.proofs.lemmas.Result.{IfOk-weaker}
 use Rattle.determinize_below.specs.Semantics.{Nfa}
 use Rattle.determinize_below.specs.Search.{Asked}
 use Rattle.determinize_find.specs.Endings.{IsEnding}
@@ -16,4 +17,6 @@ returns-clause-end g c =
     c.input_of-input.result c.input_of-input.ensures.value
     c.self.invariant.reads_forward c.self.invariant.prefix c.requires.start c.requires.in_haystack
     c.input_of-input.ensures.bytes
-    (c.search_input.ensures.preferred c.self.invariant.kind) c.search_input.ensures.none c.search_input.ensures.done)
+    (IfOk-weaker c.search_input.result _ _ (λ _ is. is.preferred c.self.invariant.kind) c.search_input.ensures.search)
+    (λ more. IfOk-weaker c.search_input.result _ _ (λ _ is. is.none more) c.search_input.ensures.search)
+    c.search_input.ensures.done)

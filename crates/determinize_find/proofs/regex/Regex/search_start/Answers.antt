@@ -26,7 +26,7 @@ at g c asked m e =
     c.self.invariant.reverse c.self.invariant.reads_forward
     (subst (λ (n : Nfa). IsEnded n c.args.haystack.now c.args.start c.args.end asked m)
     (sym (ap (λ (v : RegexValue). v.nfa) c.self.view_is)) e)
-    own (c.in_ok-begin.ensures.farthest c.self.invariant.kind_backward) c.in_ok-begin.ensures.none
+    own (c.in_ok-begin.ensures.search.farthest c.self.invariant.kind_backward) c.in_ok-begin.ensures.search.none
 
 pub returns-in_err-begin-clause-reverse : goal.returns-in_err-begin-clause-reverse
 returns-in_err-begin-clause-reverse g c = (

@@ -1,14 +1,14 @@
 use Rattle.determinize_lazy.proofs.Common.{cache, false, is_done, IsSearch, rules, start_for, sym, text_of, ◌∙◌}
 use Rattle.determinize_lazy.proofs.Common.{◌≡◌}
 use Rattle.determinize_lazy.proofs.finding.Searching.{search-is}
-use Rattle.determinize_engine.proofs.Ranges.{is-answer, IsAnswer, last-done, offset-within}
+use Rattle.determinize_engine.proofs.Ranges.{is-result, none-done, offset-within}
 use Rattle.determinize_lazy.specs.CachedSearches.{after_input, after_search}
 use Rattle.determinize_lazy.proofs.owned.OwnedLazyEngine.search_input.Given.{Over}
 use Rattle.determinize_lazy.proofs.owned.OwnedLazyEngine.search_input.Goals.{In_ok-found}
 use Rattle.determinize_lazy.proofs.owned.OwnedLazyEngine.search_input.Goals as goal
 
-pub returns-then-is_done-clause-last : goal.returns-then-is_done-clause-last
-returns-then-is_done-clause-last g c = last-done c.args.input.now (sym c.is_done.ensures ∙ c.if-is_done.true) _ _
+pub returns-then-is_done-clause-search : goal.returns-then-is_done-clause-search
+returns-then-is_done-clause-search g c = none-done c.args.input.now (sym c.is_done.ensures ∙ c.if-is_done.true)
 
 -- the search of the text
 answer : (g : Over) (c : In_ok-found g) → IsSearch c.args.self.now.nfa c.args.self.now.kind
@@ -24,16 +24,10 @@ pub returns : goal.returns
 unfolding after_input after_search
 returns g c =
     let more : is_done c.args.input.now ≡ false = sym c.is_done.ensures ∙ c.if-is_done.false in
-    let direction : c.is_reverse.result ≡ c.args.self.now.nfa.reverse = search rules in
-    let a : IsAnswer c.args.self.now.nfa c.args.self.now.kind c.args.input.now c.in_haystack.result =
-    is-answer c.search_range.ensures.sound.accepted more direction c.in_haystack.ensures.value
-    (answer g (goal.at.returns g c).In_ok-found) in record {
-      last = a.last;
-      preferred = a.preferred;
-      farthest = a.farthest;
-      none = λ _. a.none;
+    let direction : c.is_reverse.result ≡ c.args.self.now.nfa.reverse = search rules in record {
+      search = is-result c.search_range.ensures.sound.accepted more direction c.in_haystack.ensures.value
+          c.in_haystack.ensures.within (answer g (goal.at.returns g c).In_ok-found);
       done = search rules;
-      within = search rules;
       after = rw more c.in_ok-found.ensures.over.after;
       failed = search rules;
       grows = search rules;
