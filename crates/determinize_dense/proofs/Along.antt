@@ -1,119 +1,111 @@
 -- What follows a row, and the lists of the rows along a text.
--- Main statements: range_first, row_over-past, patterns_at-past, lists_along-done, lists_along-more, along_text.
--- Used by: `reading` and `overlapping`.
+-- Main statements: range_first, start_is, lists_along-done, lists_along-more, last_listed-done, last_listed-more,
+-- last_listed-dead, along_text.
+-- Used by: `reading`, `overlapping`, Inputs, and the searches of `determinize_linear` and `determinize_stored`.
 -- Idea: the row after each beginning of the units lists what the value after it lists.
-use Rattle.determinize_core.proofs.Common.{[], arith, Bool, chain, future, get_or_from_slice_get, IsAccepted, length}
-use Rattle.determinize_core.proofs.Common.{length-map, List, lists_of, MatchKind, Nfa, Option, refl, slice_get}
-use Rattle.determinize_core.proofs.Common.{slice_get_within, Some, start_value, suc, Text, units, Value}
-use Rattle.determinize_core.proofs.Common.{ℕ, ◌*◌, ◌++◌, ◌+◌, ◌-◌, ◌<◌, ◌∷◌, ◌≡◌, ◌≤◌}
-use Rattle.determinize_core.proofs.walk.WalkLoops.{value_after-push}
+use Rattle.determinize_core.proofs.Common.{[], add-one, after_at, arith, Bool, chain, ended_at, future, get_or_from_slice_get}
+use Rattle.determinize_core.proofs.Common.{IsAccepted, length, length-map, List, lists_of, MatchKind, Nfa, None, Option}
+use Rattle.determinize_core.proofs.Common.{option_or, refl, slice_get, slice_get_within, Some, start_value, step, suc}
+use Rattle.determinize_core.proofs.Common.{Text, units, Value, value_after, ℕ, ◌+◌, ◌-◌, ◌<◌, ◌∷◌, ◌≡◌, ◌≤◌}
 use Rattle.determinize_core.proofs.walk.WalkOfRuns.{chain-first, chain_leftmost, chain_of_all}
 use Rattle.determinize_core.proofs.walk.WalkValues.{length-chain}
-use Rattle.determinize_below.specs.declared.search.MatchKind.TheVariants as kinds
+use Rattle.determinize_core.specs.Walk.{IsWalkOfAll, last_listed}
+use Rattle.determinize_below.specs.declared.search.Anchored.{Anchored}
+use Rattle.determinize_below.specs.declared.search.Anchored.TheVariants.{No, Pattern, Yes}
 use Rattle.determinize_engine.proofs.Texts.{all_read}
-use Rattle.determinize_dense.proofs.Common.{All, IsFilled, IsUnit, patterns_at, row_after, row_over}
-use Rattle.determinize_dense.proofs.Common.{column_of, start_in, start_row, Table, value_from}
-use Rattle.determinize_dense.proofs.Least.{row_after-more}
-use Rattle.determinize_dense.proofs.Searching.{units-count}
+use Rattle.determinize_engine.specs.Searches.{start_for}
+use Rattle.determinize_dense.proofs.Common.{All, is_anchored, IsUnit, patterns_at, row_after, row_over, start_in}
+use Rattle.determinize_dense.proofs.Common.{start_row, Table}
 use Rattle.determinize_dense.specs.Dfa.{IsDfaOf}
-use Rattle.determinize_core.specs.Walk.{IsWalkOfAll}
-use Rattle.determinize_dense.specs.Reading.{lists_along, ListsAlong}
+use Rattle.determinize_dense.specs.Reading.{IsDead, lists_along, ListsAlong}
 use Rattle.std.specs.List.{range_with_len}
-use Rattle.std.proofs.Math.Nat.{mul-le-mul_right}
 use Rattle.std.specs.Prelude.{drop}
-use Rattle.std.proofs.lemmas.List.{drop_all, drop_more, get_or_past, length-drop}
-use Rattle.std.proofs.lemmas.List.Elements.{All-head, All-nil, All-push, All-tail}
+use Rattle.std.proofs.lemmas.List.{drop_all, drop_more, length-drop}
+use Rattle.std.proofs.lemmas.List.FromFn.{length-map-range_with_len}
+use Rattle.std.proofs.lemmas.List.Elements.{All-cons, All-head, All-nil, All-tail}
 
 -- the numbers from one up to another are that number, and those from the next one
 pub range_first : (a b : ℕ) → a < b → range_with_len a (b - a) ≡ a ∷ range_with_len (a + 1) (b - (a + 1))
 range_first a b h = let count : b - a ≡ suc (b - (a + 1)) = omega arith in rw count
 
--- no row has a number past the last
-pub row_over-past : (d : Table) → IsFilled d → (r : ℕ) (u : Option ℕ) → length d.patterns ≤ r → row_over d r u ≡ 0
-row_over-past d is r u past = get_or_past d.next (r * (d.class_count + 1) + column_of d u) 0
-    (omega (arith, mul-le-mul_right (d.class_count + 1) past))
-
-pub patterns_at-past : (d : Table) (r : ℕ) → length d.patterns ≤ r → patterns_at d r ≡ []
-patterns_at-past d r past = get_or_past d.patterns r [] past
+-- the state from which a search starts
+pub start_is : (nfa : Nfa) (a : Anchored) → start_in nfa (is_anchored a) ≡ start_for nfa a
+start_is nfa No = refl
+start_is nfa Yes = refl
+start_is nfa (Pattern p) = refl
 
 length_along : (d : Table) (r : ℕ) (us : List (Option ℕ)) → length (lists_along d r us) ≡ length us
 length_along d r [] = refl
 length_along d r (u ∷ us) = rw (length_along d (row_over d r u) us)
 
--- no list is left where no unit is, and over one unit more the first one is that of the next row
-pub lists_along-done : (d : Table) (r n : ℕ) (us : List (Option ℕ)) → length us ≤ n → lists_along d r (drop n us) ≡ []
-lists_along-done d r n us all = rw (drop_all n us all)
+module _ (d : Table) (r n : ℕ) where
+  -- no list is left where no unit is, and over one unit more the first one is that of the next row
+  pub lists_along-done : (us : List (Option ℕ)) → length us ≤ n → lists_along d r (drop n us) ≡ []
+  lists_along-done us all = rw (drop_all n us all)
 
-pub lists_along-more : (d : Table) (r n : ℕ) (us : List (Option ℕ)) (u : Option ℕ) → slice_get us n ≡ Some u
-    → lists_along d r (drop n us) ≡ patterns_at d (row_over d r u) ∷ lists_along d (row_over d r u) (drop (n + 1) us)
-lists_along-more d r n us u at = rw (drop_more us n u (slice_get_within us n u at), get_or_from_slice_get us n u u at)
+  pub lists_along-more : (us : List (Option ℕ)) (u : Option ℕ) → slice_get us n ≡ Some u → lists_along d r (drop n us)
+      ≡ patterns_at d (row_over d r u) ∷ lists_along d (row_over d r u) (drop (n + 1) us)
+  lists_along-more us u at = rw (drop_more us n u (slice_get_within us n u at), get_or_from_slice_get us n u u at)
 
--- the number of lists that are left is that of the units
-pub lists_left : (d : Table) (r n : ℕ) (text : Text)
-    → length (lists_along d r (drop n (units text))) ≡ length text.bytes + 1 - n
-lists_left d r n text = rw (length_along d r (drop n (units text)), length-drop, units-count text)
+  -- the number of lists that are left is that of the units
+  pub lists_left : (text : Text) → length (lists_along d r (drop n (units text))) ≡ length text.bytes + 1 - n
+  lists_left text = omega (arith, length_along d r (drop n (units text)), length-drop n (units text),
+      length-map-range_with_len (after_at text) 0 (suc (length text.bytes)))
+
+  -- so no match is left where no unit is, and over one unit more the first one is that of the next row
+  pub last_listed-done : (us : List (Option ℕ)) → length us ≤ n → last_listed n (lists_along d r (drop n us)) ≡ None
+  last_listed-done us all = rw (lists_along-done us all)
+
+  pub last_listed-more : (us : List (Option ℕ)) (u : Option ℕ) → slice_get us n ≡ Some u
+      → last_listed n (lists_along d r (drop n us))
+      ≡ option_or (last_listed (n + 1) (lists_along d (row_over d r u) (drop (n + 1) us)))
+      (ended_at n (patterns_at d (row_over d r u)))
+  last_listed-more us u at = rw (lists_along-more us u at, add-one)
 
 -- one position more, and no more
 pub ruleset along = (lists_along-done, lists_along-more, all_read)
 
-module _ (nfa : Nfa) (kind : MatchKind) (d : Table) (is : IsDfaOf nfa kind d) (anchored : Bool) (p : Option ℕ)
-    (behind : IsUnit p) where
-  -- the row, and the value, after the start and some units
-  abbrev row_at : List (Option ℕ) → ℕ
-  row_at us = row_after d (start_row nfa d anchored p) us
+-- no match is left from a row that none follows
+pub last_listed-dead : (d : Table) (us : List (Option ℕ)) (r n : ℕ) → IsDead d r → All IsUnit us
+    → last_listed n (lists_along d r us) ≡ None
+last_listed-dead d [] r n dead all = refl
+last_listed-dead d (u ∷ us) r n dead all =
+    let after = λ (more : List (Option ℕ)) (units : All IsUnit more). dead (u ∷ more)
+    (All-cons IsUnit u more (All-head IsUnit u us all) units) in
+    rw (last_listed-dead d us (row_over d r u) (suc n) after (All-tail IsUnit u us all), after [] (All-nil IsUnit))
 
-  -- the lists along more units are those of the values
-  pub lists_along-are : (done us : List (Option ℕ)) → All IsUnit done → All IsUnit us
-      → patterns_at d (row_at done) ∷ lists_along d (row_at done) us
-      ≡ lists_of (future nfa kind (value_from nfa kind anchored p done) us)
-  lists_along-are done [] before after = rw (is anchored p done behind before)
-  lists_along-are done (u ∷ us) before after =
-      let rest = lists_along-are (done ++ u ∷ []) us (All-push IsUnit done u before (All-head IsUnit u us after))
-      (All-tail IsUnit u us after) in
-      let row = row_after-more d done (u ∷ []) (start_row nfa d anchored p) in
-      let value = value_after-push nfa kind (start_value nfa (start_in nfa anchored) p) done u in
-      rw (is anchored p done behind before, rw (row, value) at rest)
-
--- and along a text those of the walk
-values_along : (nfa : Nfa) (kind : MatchKind) (d : Table) → IsDfaOf nfa kind d → (anchored : Bool) (text : Text)
-    → IsUnit text.behind → All IsUnit (units text)
-    → patterns_at d (start_row nfa d anchored text.behind)
-    ∷ lists_along d (start_row nfa d anchored text.behind) (units text)
-    ≡ lists_of (chain nfa kind (start_in nfa anchored) text)
-unfolding chain
-values_along nfa kind d is anchored text behind all =
-    lists_along-are nfa kind d is anchored text.behind behind [] (units text) (All-nil IsUnit) all
-
--- a list that begins a list
-first_of_list : (first : List ℕ) (others all : List (List ℕ)) → first ∷ others ≡ all → slice_get all 0 ≡ Some []
-    → [] ∷ others ≡ all
-first_of_list first others [] is at = cc
-first_of_list first others (x ∷ xs) is at = cc
+-- the lists along units are those of the values, if row and value list the same after all units
+lists_along-are : (nfa : Nfa) (kind : MatchKind) (d : Table) (us : List (Option ℕ)) (r : ℕ) (v : Value)
+    → ((more : List (Option ℕ)) → All IsUnit more
+    → patterns_at d (row_after d r more) ≡ (value_after nfa kind v more).patterns) → All IsUnit us
+    → patterns_at d r ∷ lists_along d r us ≡ lists_of (future nfa kind v us)
+lists_along-are nfa kind d [] r v same all = rw (same [] (All-nil IsUnit))
+lists_along-are nfa kind d (u ∷ us) r v same all =
+    let rest = lists_along-are nfa kind d us (row_over d r u) (step nfa kind v u)
+    (λ more units. same (u ∷ more) (All-cons IsUnit u more (All-head IsUnit u us all) units))
+    (All-tail IsUnit u us all) in
+    rw (same [] (All-nil IsUnit), rest)
 
 -- what a list says that is that of a walk, behind its start
-module _ (nfa : Nfa) (kind : MatchKind) (start : ℕ) (text : Text) (lists : List (List ℕ))
-    (walk : [] ∷ lists ≡ lists_of (chain nfa kind start text)) where
-  count_is : length lists ≡ length text.bytes + 1
-  count_is =
-      let count = length-map (chain nfa kind start text) (λ (v : Value). v.patterns) in
-      grind (arith, count, length-chain nfa kind start text)
-
-  module _ (accepted : IsAccepted nfa) where
-    all_is : kind ≡ kinds.All → IsWalkOfAll nfa start text ([] ∷ lists)
-    all_is k = rw (walk, k) (chain_of_all nfa accepted start text)
-
-    along_walk : ListsAlong nfa kind start text lists
-    along_walk = record {
-      count = count_is;
-      walk = walk;
-      all = λ k i xs at. (all_is k).matches i xs at;
-      leftmost = λ k. rw (walk, k) (chain_leftmost nfa accepted start text);
-    }
+along_walk : (nfa : Nfa) (kind : MatchKind) (start : ℕ) (text : Text) (lists : List (List ℕ)) → IsAccepted nfa
+    → [] ∷ lists ≡ lists_of (chain nfa kind start text) → ListsAlong nfa kind start text lists
+along_walk nfa kind start text lists accepted walk = record {
+  count = grind (arith, length-map (chain nfa kind start text) (λ (v : Value). v.patterns),
+      length-chain nfa kind start text);
+  walk = walk;
+  all = λ k. let is : IsWalkOfAll nfa start text ([] ∷ lists) = rw (walk, k) (chain_of_all nfa accepted start text) in
+      is.matches;
+  leftmost = λ k. rw (walk, k) (chain_leftmost nfa accepted start text);
+}
 
 -- the lists along a text, from the row of its start, are those of the walk
 pub along_text : (nfa : Nfa) (kind : MatchKind) (d : Table) → IsAccepted nfa → IsDfaOf nfa kind d → (anchored : Bool)
     (text : Text) → IsUnit text.behind → All IsUnit (units text) → (start : ℕ) → start_in nfa anchored ≡ start
     → ListsAlong nfa kind start text (lists_along d (start_row nfa d anchored text.behind) (units text))
-along_text nfa kind d accepted is anchored text behind all start same = along_walk nfa kind start text _
-    (first_of_list _ _ _ (rw same at (values_along nfa kind d is anchored text behind all))
-    (chain-first nfa kind start text)) accepted
+unfolding chain
+along_text nfa kind d accepted is anchored text behind all start same =
+    let row : ℕ = start_row nfa d anchored text.behind in
+    let are = lists_along-are nfa kind d (units text) row (start_value nfa (start_in nfa anchored) text.behind)
+    (λ more after. is anchored text.behind more behind after) all in
+    rw (← same) (along_walk nfa kind (start_in nfa anchored) text _ accepted
+    (let first = chain-first nfa kind (start_in nfa anchored) text in cc))

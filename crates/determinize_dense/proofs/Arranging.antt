@@ -2,10 +2,10 @@
 -- Main statements: grouping-by_rank, arranged-least, arranged-ordered.
 -- Used by: `arranged`.
 -- Idea: each block has one row, and the ranks of blocks ascend.
-use Rattle.determinize_core.proofs.Common.{arith, length, List, slice_index, ℕ, ◌+◌, ◌<◌, ◌∙◌, ◌≡◌}
+use Rattle.determinize_core.proofs.Common.{arith, length, List, slice_index, ℕ, ◌+◌, ◌<◌, ◌∙◌, ◌≡◌, ◌≤◌}
 use Rattle.determinize_dense.proofs.Common.{DfaValue}
 use Rattle.std.proofs.Math.Nat.{mul-le-mul_right}
-use Rattle.determinize_dense.proofs.Offsets.{less-by-offset, upto-by-offset}
+use Rattle.determinize_dense.proofs.Merging.{merged-least}
 use Rattle.determinize_dense.specs.Least.{IsLeast}
 use Rattle.determinize_dense.specs.Private.Minimizing.{IsGrouping, IsMerged}
 use Rattle.determinize_dense.specs.Private.Order.{AreRanks, IsOrdered, IsRank}
@@ -14,33 +14,25 @@ use Rattle.determinize_dense.specs.Private.Rows.{offset_of}
 
 module _ (v : DfaValue) {ranks : List ℕ} {p : Blocks} (are : AreRanks v.table ranks) (is : IsByRank ranks p) where
   -- each block has one row
-  one : (r s : ℕ) → r < length v.table.patterns → s < length v.table.patterns → AreTogether p r s → r ≡ s
-  one r s h l e = grind (arith, is.back r, is.back s)
+  same_row : (r s : ℕ) → r < length v.table.patterns → s < length v.table.patterns → AreTogether p r s → r ≡ s
+  same_row r s h l e = grind (arith, is.back r, is.back s)
 
   pub grouping-by_rank : IsGrouping v.table p
   grouping-by_rank = record {
     blocks = is.blocks;
     count = is.count ∙ are.count;
-    patterns = λ r s h l e. rw (one r s h l e);
-    stable = λ c _ r s h l e. rw (one r s h l e);
+    patterns = λ r s h l e. rw (same_row r s h l e);
+    stable = λ c _ r s h l e. rw (same_row r s h l e);
   }
 
   module _ {w : DfaValue} (m : IsMerged v p w) where
-    block-below : (b : ℕ) → b < length w.table.patterns → b < length p.members
-    block-below b h = omega arith
-
-    member-below : (b : ℕ) → b < length p.members → slice_index p.members b < length v.table.patterns
-    member-below b h = omega (arith, is.blocks.rows b h)
-
     pub arranged-least : IsLeast v.nfa v.table → IsLeast w.nfa w.table
-    arranged-least least = record {
-      reached = m.reached;
-      apart = λ b c h l other.
-          let i = block-below b h in
-          let j = block-below c l in
-          m.apart b c i j (least.apart (slice_index p.members b) (slice_index p.members c) (member-below b i)
-          (member-below c j) (λ same. other (grind (arith, is.blocks.own b i, is.blocks.own c j))));
-    }
+    arranged-least least = merged-least v w p (record {
+      blocks = is.blocks;
+      count = is.count ∙ are.count;
+      patterns = λ r s h l e. rw (same_row r s h l e);
+      apart = λ r s h l other. least.apart r s h l (λ same. other (rw same));
+    }) m
 
     -- only block 0 has row 0
     later : (b : ℕ) → 0 < b → b < length p.members → 0 < slice_index p.members b
@@ -56,10 +48,12 @@ module _ (v : DfaValue) {ranks : List ℕ} {p : Blocks} (are : AreRanks v.table 
     arranged-ordered {first} {second} lists scans = record {
       dead = m.dead;
       some = λ b some h l.
-          let i = block-below b h in
-          rw (m.patterns b i) ((rank-is b i).some (later b some i) (lists.upto b (upto-by-offset w.table l)));
+          let i : b < length p.members = omega arith in
+          let upto : b ≤ first = grind arith in
+          rw (m.patterns b i) ((rank-is b i).some (later b some i) (lists.upto b upto));
       none = λ b h l.
-          let i = block-below b h in
-          rw (m.patterns b i) ((rank-is b i).none (lists.past b (less-by-offset w.table l) i));
+          let i : b < length p.members = omega arith in
+          let past : first < b = grind arith in
+          rw (m.patterns b i) ((rank-is b i).none (lists.past b past i));
       more = mul-le-mul_right (w.table.class_count + 1) (grind (arith, lists.upto first, scans.past first));
     }

@@ -1,22 +1,16 @@
 -- A search of an input, in words of runs.
--- Main statements: start_is, found-search, found-decides.
+-- Main statements: found-search, found-decides.
 -- Used by: the searches of `Dfa`.
 -- Idea: the start is that of the anchored mode, and what a table finds is the last match of the walk.
 use Rattle.determinize_core.proofs.Common.{Asked, Bool, Decides, false, HalfMatch, is_some}
 use Rattle.determinize_engine.specs.Searches.{HasMatch, IsSearch}
-use Rattle.determinize_core.proofs.Common.{Nfa, Option, refl, Text, ◌≡◌}
+use Rattle.determinize_core.proofs.Common.{Option, refl, Text}
 use Rattle.determinize_engine.specs.Searches.{start_for, text_of}
 use Rattle.determinize_dense.proofs.Common.{DfaValue, is_anchored, IsFound, start_in}
 use Rattle.determinize_below.specs.declared.search.Anchored.{Anchored}
-use Rattle.determinize_below.specs.declared.search.Anchored.TheVariants.{No, Pattern, Yes}
+use Rattle.determinize_dense.proofs.Along.{start_is}
 use Rattle.determinize_engine.proofs.Ranges.{match-decides}
 use Rattle.determinize_engine.proofs.SearchMatches.{is-search}
-
--- the state from which a search starts
-pub start_is : (nfa : Nfa) (a : Anchored) → start_in nfa (is_anchored a) ≡ start_for nfa a
-start_is nfa No = refl
-start_is nfa Yes = refl
-start_is nfa (Pattern p) = refl
 
 module _ {d : DfaValue} where
   -- what a search finds

@@ -49,40 +49,40 @@ module _ (nfa : Nfa) (kind : MatchKind) (d e : Table) (is_d : IsDfaOf nfa kind d
   abbrev row_of : {r : ℕ} → IsReachedRow nfa d r → ℕ
   row_of k = row_after e (start_row nfa e k.0 k.1) k.2
 
-  below : {r : ℕ} (k : IsReachedRow nfa d r) → row_of k < length e.patterns
-  below k = row_after-below nfa e rows k.2 (start_row nfa e k.0 k.1) (rows.starts k.0 k.1 k.3) k.4
+  row_of-below : {r : ℕ} (k : IsReachedRow nfa d r) → row_of k < length e.patterns
+  row_of-below k = row_after-below nfa e rows k.2 (start_row nfa e k.0 k.1) (rows.starts k.0 k.1 k.3) k.4
 
   -- both list the same patterns along all units
-  along : {r : ℕ} (k : IsReachedRow nfa d r) (us : List (Option ℕ)) → All IsUnit us
+  listed-alike : {r : ℕ} (k : IsReachedRow nfa d r) (us : List (Option ℕ)) → All IsUnit us
       → patterns_at d (row_after d r us) ≡ patterns_at e (row_after e (row_of k) us)
-  along {r} k us all =
+  listed-alike {r} k us all =
       let units = All-append IsUnit k.2 us k.4 all in
       grind (arith, row_after-more, is_d k.0 k.1 (k.2 ++ us) k.3 units, is_e k.0 k.1 (k.2 ++ us) k.3 units)
 
   -- rows with one row of the other table are one
-  one_row : (r s : ℕ) → r < length d.patterns → s < length d.patterns → (j : IsReachedRow nfa d r)
+  same_row : (r s : ℕ) → r < length d.patterns → s < length d.patterns → (j : IsReachedRow nfa d r)
       → (k : IsReachedRow nfa d s) → row_of j ≡ row_of k → r ≡ s
-  one_row r s h l j k same = by_cases (cases_eq r s) (λ one. one) (λ differ.
+  same_row r s h l j k same = by_cases (cases_eq r s) (λ same. same) (λ differ.
       let a : AreApart d r s = least.apart r s h l differ in
-      absurd (a.2 (grind (arith, along j a.0 a.1, along k a.0 a.1))))
+      absurd (a.2 (grind (arith, listed-alike j a.0 a.1, listed-alike k a.0 a.1))))
 
-  abbrev place : (r : ℕ) → (r < length d.patterns) ⊎ (length d.patterns ≤ r) → ℕ
-  place r (inl h) = row_of (least.reached r h)
-  place r (inr h) = 0
+  abbrev row_for : (r : ℕ) → (r < length d.patterns) ⊎ (length d.patterns ≤ r) → ℕ
+  row_for r (inl h) = row_of (least.reached r h)
+  row_for r (inr h) = 0
 
   -- each row has its row of the other table
-  there : (r : ℕ) → r < length d.patterns → (c : (r < length d.patterns) ⊎ (length d.patterns ≤ r))
-      → (k : IsReachedRow nfa d r) × (place r c ≡ row_of k)
-  there r l (inl h) = (least.reached r h, refl)
-  there r l (inr h) = absurd (omega arith)
+  row_for-is : (r : ℕ) → r < length d.patterns → (c : (r < length d.patterns) ⊎ (length d.patterns ≤ r))
+      → (k : IsReachedRow nfa d r) × (row_for r c ≡ row_of k)
+  row_for-is r l (inl h) = (least.reached r h, refl)
+  row_for-is r l (inr h) = absurd (omega arith)
 
   fewest : length d.patterns ≤ length e.patterns
-  fewest = pigeonhole (length d.patterns) (length e.patterns) (λ r. place r (cases_lt r (length d.patterns)))
-      (λ r h. let k = there r h (cases_lt r (length d.patterns)) in rw k.1 (below k.0))
+  fewest = pigeonhole (length d.patterns) (length e.patterns) (λ r. row_for r (cases_lt r (length d.patterns)))
+      (λ r h. let k = row_for-is r h (cases_lt r (length d.patterns)) in rw k.1 (row_of-below k.0))
       (λ r s h l same.
-      let j = there r h (cases_lt r (length d.patterns)) in
-      let k = there s l (cases_lt s (length d.patterns)) in
-      one_row r s h l j.0 k.0 (sym j.1 ∙ same ∙ k.1))
+      let j = row_for-is r h (cases_lt r (length d.patterns)) in
+      let k = row_for-is s l (cases_lt s (length d.patterns)) in
+      same_row r s h l j.0 k.0 (sym j.1 ∙ same ∙ k.1))
 
 pub least_is_least : LeastIsLeast
 least_is_least nfa kind d e is_d least is_e rows = fewest nfa kind d e is_d least is_e rows

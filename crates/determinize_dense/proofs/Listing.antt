@@ -50,31 +50,7 @@ module _ (nfa : Nfa) (accepted : IsAccepted nfa) (start : ℕ) (text : Text) whe
       (leftmost_walk nfa accepted start text).matches (length text.bytes) (last_value LeftmostFirst)
       (chain-last LeftmostFirst) x listed
 
--- a list of one
-one_listed : (y x : ℕ) → Contains (y ∷ []) x → y ≡ x
-one_listed y x c = grind arith
-
 module _ (nfa : Nfa) (accepted : IsAccepted nfa) (start : ℕ) (text : Text) where
-  -- the value after the bytes
-  abbrev before_last : Value
-  before_last = value_after nfa LeftmostFirst (start_value nfa start text.behind) (map Some text.bytes)
-
-  abbrev match_before : Option HalfMatch
-  match_before = last_match (future nfa LeftmostFirst (start_value nfa start text.behind) (map Some text.bytes))
-
-  last_value-step : last_value nfa accepted start text LeftmostFirst ≡ step nfa LeftmostFirst before_last text.ahead
-  last_value-step = rw (units_listed text)
-      (value_after-push nfa LeftmostFirst (start_value nfa start text.behind) (map Some text.bytes) text.ahead)
-
-  last_match-ends : last_match (chain nfa LeftmostFirst start text)
-      ≡ option_or (ended_at (length text.bytes) (last_value nfa accepted start text LeftmostFirst).patterns)
-      match_before
-  last_match-ends =
-      let over = rw (length-map text.bytes Some) at (last_match-push nfa LeftmostFirst
-      (start_value nfa start text.behind) (map Some text.bytes) text.ahead) in
-      rw (units_listed text)
-      (ap last_match (chain_is_future nfa LeftmostFirst start text.behind text.ahead text.bytes) ∙ over)
-
   -- of a list of one pattern at most, and a match that ends before
   preferred_of : (xs : List ℕ) → length xs ≤ 1 → (m : Option HalfMatch)
       → IfSome m (λ found. found.offset < length text.bytes)
@@ -87,27 +63,30 @@ module _ (nfa : Nfa) (accepted : IsAccepted nfa) (start : ℕ) (text : Text) whe
   preferred_of [] few (Some m) before p = record {
     preferred = λ x. (
       λ c. absurd (omega (arith, c.1)),
-      λ r.
-          absurd (omega (arith, ((each_answer_is_one nfa text start).1 _ _ _ _ _ _ r.1 p.1).0)),
+      λ r. absurd (omega (arith, ((each_answer_is_one nfa text start).1 _ _ _ _ _ _ r.1 p.1).0)),
     );
     few = few;
   }
   preferred_of (y ∷ []) few m before p = record {
     preferred = λ x. (
-      λ c. rw (← one_listed y x c) p,
+      λ c. let same : y ≡ x = grind arith in rw (← same) p,
       λ r. (0, omega arith, sym ((each_answer_is_one nfa text start).1 _ _ _ _ _ _ r.1 p.1).1),
     );
     few = few;
   }
   preferred_of (y ∷ z ∷ ys) few m before p = absurd (omega arith)
 
+  -- the last value lists a pattern exactly if the last match, which is the preferred one, ends with the text
   preferred-listed : ListsPreferred nfa text start (length text.bytes)
       (last_value nfa accepted start text LeftmostFirst).patterns
-  preferred-listed = preferred_of _
-      (one_pattern nfa LeftmostFirst before_last text.ahead refl _ last_value-step) match_before
-      (rw length-map at (last_match-within nfa LeftmostFirst (start_value nfa start text.behind)
-      (map Some text.bytes)))
-      (rw last_match-ends at (leftmost_walk nfa accepted start text).found)
+  preferred-listed =
+      let first : Value = start_value nfa start text.behind in
+      let before = last_match-within nfa LeftmostFirst first (map Some text.bytes) in
+      let found = rw (chain_is_future nfa LeftmostFirst start text.behind text.ahead text.bytes, last_match-push,
+      length-map) at (leftmost_walk nfa accepted start text).found in
+      let few = one_pattern nfa LeftmostFirst _ text.ahead refl _
+      (value_after-push nfa LeftmostFirst first (map Some text.bytes) text.ahead) in
+      rw (units_listed text) (preferred_of _ few _ (rw length-map at before) found)
 
 module _ {nfa : Nfa} (kind : MatchKind) {s start : ℕ} (text : Text) {list : List ℕ} (accepted : IsAccepted nfa)
     (same : s ≡ start) (is : list ≡ (value_after nfa kind (start_value nfa s text.behind) (units text)).patterns) where

@@ -1,5 +1,5 @@
 -- Offsets of rows.
--- Main statements: rows_at-offsets, same-offset, upto-by-offset, stored-offsets, inverse-is.
+-- Main statements: rows_at-offsets, same-offset, stored-offsets, inverse-is.
 -- Used by: the entries of a `Dfa`, `order` and `bytes`.
 -- Idea: an offset is a number times the columns, so it is divided by them, and ordered as the numbers are.
 use Rattle.determinize_core.proofs.Common.{[], arith, length, length-map, List, map, refl}
@@ -50,14 +50,6 @@ module _ (d : Table) where
 
   pub offset-zero : {r : ℕ} → offset_of d r ≡ 0 → r ≡ 0
   offset-zero {r} e = grind (arith, divided r (d.class_count + 1))
-
-  -- a row up to an offset is not a later one
-  pub upto-by-offset : {r s : ℕ} → offset_of d r ≤ offset_of d s → r ≤ s
-  upto-by-offset {r} {s} h = grind arith
-
-  -- a row with a smaller offset is an earlier one
-  pub less-by-offset : {r s : ℕ} → offset_of d r < offset_of d s → r < s
-  less-by-offset {r} {s} h = grind arith
 
 -- the entries of a DFA as offsets
 pub stored-offsets : (v : DfaValue) → IsDfa v → (offsets : List ℕ)

@@ -20,14 +20,14 @@ ordering-first zeros none start = grind (arith, length-replicate)
 module _ {ranks numbers members : List ℕ} (rank row : ℕ)
     (is : IsOrdering ranks (rank * length ranks + row) numbers members) (h : row < length ranks) where
   -- a row whose turn is this one
-  here : (r : ℕ) → r < length ranks → turn_of ranks r ≡ rank * length ranks + row
+  turn-is : (r : ℕ) → r < length ranks → turn_of ranks r ≡ rank * length ranks + row
       → (slice_index ranks r ≡ rank) × (r ≡ row)
-  here r l e = same_from_place (slice_index ranks r) r rank row (length ranks) l h e
+  turn-is r l e = same_from_place (slice_index ranks r) r rank row (length ranks) l h e
 
   -- the row has another rank
   pub ordering-skip : (slice_index ranks row ≡ rank → ⊥)
       → IsOrdering ranks (rank * length ranks + (row + 1)) numbers members
-  ordering-skip other = grind (arith, here)
+  ordering-skip other = grind (arith, turn-is)
 
   -- or this one, and so the next block
   pub ordering-push : slice_index ranks row ≡ rank → IsOrdering ranks (rank * length ranks + (row + 1))
@@ -37,34 +37,34 @@ module _ {ranks numbers members : List ℕ} (rank row : ℕ)
     rows = grind (arith, pushed);
     before = grind (arith, pushed);
     own = grind (arith, pushed, get_or-set_at, get_or-set_other);
-    back = λ r l before. grind (arith, pushed, get_or-set_at, get_or-set_other, here r l);
+    back = λ r l before. grind (arith, pushed, get_or-set_at, get_or-set_other, turn-is r l);
     ascend = λ b c l m. grind (arith, pushed, is.ascend b c l, is.before b);
   }
 
 -- all rows have their blocks
 module _ {ranks numbers members : List ℕ} (is : IsOrdering ranks (4 * length ranks) numbers members)
     (few : All (λ rank. rank < 4) ranks) (some : 0 < length ranks) (first : slice_index ranks 0 ≡ 0) where
-  all : (r : ℕ) → r < length ranks
+  placed : (r : ℕ) → r < length ranks
       → (slice_index numbers r < length members) × (slice_index members (slice_index numbers r) ≡ r)
-  all r h = is.back r h (omega (arith, mul-add-lt (slice_index ranks r) (length ranks) r 4 (few r 0 h) h))
+  placed r h = is.back r h (omega (arith, mul-add-lt (slice_index ranks r) (length ranks) r 4 (few r 0 h) h))
 
   -- row 0 has the first turn
   first-block : slice_index numbers 0 ≡ 0
-  first-block = grind (arith, all 0 some, is.ascend 0 (slice_index numbers 0))
+  first-block = grind (arith, placed 0 some, is.ascend 0 (slice_index numbers 0))
 
   pub ordering-blocks : AreBlocks record { numbers = numbers; members = members }
-  ordering-blocks = grind (arith, all, first-block)
+  ordering-blocks = grind (arith, placed, first-block)
 
   pub ordering-by_rank : IsByRank ranks record { numbers = numbers; members = members }
   ordering-by_rank =
       let upto : length members ≤ length numbers = few_blocks ordering-blocks in
       let more : length ranks ≤ length members = pigeonhole (length ranks) (length members)
-      (λ r. slice_index numbers r) (λ r h. (all r h).0) (λ r s h l e. grind (arith, all r h, all s l)) in
+      (λ r. slice_index numbers r) (λ r h. (placed r h).0) (λ r s h l e. grind (arith, placed r h, placed s l)) in
       record {
         blocks = ordering-blocks;
         count = is.count;
         rows = omega arith;
-        back = λ r h. (all r h).1;
+        back = λ r h. (placed r h).1;
         ascend = λ b c h l. grind (arith, is.rows c l, is.ascend b c h l);
       }
 

@@ -19,9 +19,6 @@ use Rattle.determinize_core.proofs.step.AlikeBytes.{each_need_is_tested}
 use Rattle.determinize_core.proofs.walk.WalkLoops.{value_after-push}
 use Rattle.determinize_engine.proofs.LastUnits.{step_over}
 
-pub no_units : All IsUnit []
-no_units = All-nil IsUnit
-
 module _ (nfa : Nfa) (kind : MatchKind) where
   -- a start value is reached
   pub reached-start : (anchored : Bool) (p : Option ℕ) → IsUnit p

@@ -5,7 +5,7 @@
 use Rattle.determinize_core.proofs.Common.{[], ap, append-nil, append_assoc, arith, Bool, drop, ended_at, future}
 use Rattle.determinize_core.proofs.Common.{get_or, get_or_from_slice_get, HalfMatch, is_nonempty, is_some}
 use Rattle.determinize_core.proofs.Common.{last_match, length, length-append, length-map, length-take-le, List, map}
-use Rattle.determinize_core.proofs.Common.{Option, option_or, refl, slice_get_within}
+use Rattle.determinize_core.proofs.Common.{None, Option, option_or, refl, slice_get_within}
 use Rattle.determinize_core.proofs.Common.{Some, start_value, suc, sym, take, take-append-drop, take_all}
 use Rattle.determinize_core.proofs.Common.{take_more, Text, true, true≢false, units, Value, value_after, zero, ℕ}
 use Rattle.determinize_core.proofs.Common.{◌++◌, ◌+◌, ◌-◌, ◌<◌, ◌∙◌, ◌∷◌, ◌≡◌, ◌≤◌}
@@ -30,17 +30,17 @@ module _ {d : DfaValue} {anchored : Bool} {p : Option ℕ} where
   row-start behind is below = record { behind = behind; units = All-nil IsUnit; reached = is; below = below }
 
   module _ {us : List (Option ℕ)} {row : ℕ} (at : IsRowFrom d anchored p us row) where
-    abbrev here : ℕ
-    here = row_after d.table (start_row d.nfa d.table anchored p) us
+    abbrev row_reached : ℕ
+    row_reached = row_after d.table (start_row d.nfa d.table anchored p) us
 
     pub row-offset : IsOffset d.table row
-    row-offset = (here, at.below, at.reached)
+    row-offset = (row_reached, at.below, at.reached)
 
     -- a unit more
     pub row-push : (u : Option ℕ) {next : ℕ} → IsUnit u → IsNext d.table row u next
         → IsRowFrom d anchored p (us ++ u ∷ []) next
     row-push u unit goes =
-        let after = goes here at.below at.reached in
+        let after = goes row_reached at.below at.reached in
         let push = row_after-more d.table us (u ∷ []) (start_row d.nfa d.table anchored p) in
         record {
           behind = at.behind;
@@ -49,18 +49,11 @@ module _ {d : DfaValue} {anchored : Bool} {p : Option ℕ} where
           below = rw push after.0;
         }
 
-    -- a byte more of a text
-    pub row-byte : (bytes : List ℕ) (i : ℕ) {u : Option ℕ} {next : ℕ} → us ≡ map Some (take i bytes)
-        → i < length bytes → u ≡ Some (get_or bytes i 0) → IsUnit u → IsNext d.table row u next
-        → IsRowFrom d anchored p (map Some (take (i + 1) bytes)) next
-    row-byte bytes i {u} so_far inside u_is unit goes =
-        rw (take_more bytes i 0 inside, map_push, ← so_far, ← u_is) (row-push u unit goes)
-
     -- the row lists what the value lists
     pub patterns-are : IsDfa d → {r : ℕ} → IsRowAt d.table row r
         → patterns_at d.table r ≡ (value_from d.nfa d.kind anchored p us).patterns
     patterns-are is {r} is_at =
-        let same : r ≡ here = same-offset d.table (sym is_at.1 ∙ at.reached) in
+        let same : r ≡ row_reached = same-offset d.table (sym is_at.1 ∙ at.reached) in
         rw same (is.tells anchored p us at.behind at.units)
 
 -- the next row has an offset
@@ -85,11 +78,6 @@ module _ (d : DfaValue) (anchored : Bool) (text : Text) where
       let after = rw append_assoc at (over (us ++ u ∷ []) rest (All-tail IsUnit u rest all) (λ more units.
       rw append_assoc (none (u ∷ more) (All-cons IsUnit u more unit units)))) in
       rw (after, last_match-push, none (u ∷ []) (All-cons IsUnit u [] unit (All-nil IsUnit)))
-
--- the units are the bytes and what is ahead of them
-pub units-count : (text : Text) → length (units text) ≡ length text.bytes + 1
-units-count text =
-    grind (arith, units_listed text, length-append (map Some text.bytes) (text.ahead ∷ []), length-map text.bytes Some)
 
 -- a search at its start
 pub searched-start : {d : DfaValue} {anchored : Bool} {text : Text} {row : ℕ} → IsDfa d
@@ -117,7 +105,7 @@ module _ {d : DfaValue} {anchored : Bool} {text : Text} {read row matched end : 
   found-all all = found-last (rw (take_all read (units text) all) at so_far)
 
   -- or is in row 0
-  pub found-dead : All IsUnit (units text) → row ≡ 0 → (earliest : Bool) → IsFound d earliest anchored text found
+  found-dead : All IsUnit (units text) → row ≡ 0 → (earliest : Bool) → IsFound d earliest anchored text found
   found-dead all dead =
       let none = λ (more : List (Option ℕ)) (after : All IsUnit more). is.over anchored text.behind
       (take read (units text)) more s.at.behind s.at.units after (offset-zero d.table (sym s.at.reached ∙ dead)) in
@@ -126,8 +114,7 @@ module _ {d : DfaValue} {anchored : Bool} {text : Text} {read row matched end : 
       found-last (so_far ∙ sym (rw take-append-drop at same))
 
   -- or has a match, where any will do
-  pub found-first : is_some found ≡ true → {earliest : Bool} → earliest ≡ true
-      → IsFound d earliest anchored text found
+  found-first : is_some found ≡ true → {earliest : Bool} → earliest ≡ true → IsFound d earliest anchored text found
   unfolding chain
   found-first some early = record {
     accepted = is.accepted;
@@ -138,25 +125,20 @@ module _ {d : DfaValue} {anchored : Bool} {text : Text} {read row matched end : 
         rw some (sym (rw take-append-drop at more));
   }
 
--- a row that lists patterns has a match
-some_ended : (end : ℕ) (ps : List ℕ) → is_nonempty ps ≡ true → is_some (ended_at end ps) ≡ true
-some_ended end [] some = absurd (true≢false (sym some))
-some_ended end (x ∷ ps) some = refl
-
--- which takes the place of the last one
-takes : (end : ℕ) (ps : List ℕ) (last : Option HalfMatch) → is_nonempty ps ≡ true
-    → option_or (ended_at end ps) last ≡ ended_at end ps
-takes end [] last some = absurd (true≢false (sym some))
-takes end (x ∷ ps) last some = refl
+-- a list of patterns has a match, which takes the place of the last one
+match_of_some : (end : ℕ) (ps : List ℕ) (last : Option HalfMatch) → is_nonempty ps ≡ true
+    → (is_some (ended_at end ps) ≡ true) × (option_or (ended_at end ps) last ≡ ended_at end ps)
+match_of_some end [] last some = absurd (true≢false (sym some))
+match_of_some end (x ∷ ps) last some = (refl, refl)
 
 module _ {d : DfaValue} {anchored : Bool} {text : Text} {read row matched end : ℕ} (is : IsDfa d)
     (s : IsSearched d anchored text read row matched end) {next : ℕ} (r : IsRead d.table text read row next) where
-  there : IsRowFrom d anchored text.behind (take read (units text) ++ r.unit ∷ []) next
-  there = row-push s.at r.unit r.is_unit r.goes
+  row-next : IsRowFrom d anchored text.behind (take read (units text) ++ r.unit ∷ []) next
+  row-next = row-push s.at r.unit r.is_unit r.goes
 
   -- its row
-  abbrev now : ℕ
-  now = row_after d.table (start_row d.nfa d.table anchored text.behind) (take read (units text) ++ r.unit ∷ [])
+  abbrev row_next : ℕ
+  row_next = row_after d.table (start_row d.nfa d.table anchored text.behind) (take read (units text) ++ r.unit ∷ [])
 
   within : read < length (units text)
   within = slice_get_within (units text) read r.unit r.at
@@ -165,47 +147,53 @@ module _ {d : DfaValue} {anchored : Bool} {text : Text} {read row matched end : 
   taken = rw (take_more (units text) read r.unit within, get_or_from_slice_get (units text) read r.unit r.unit r.at)
 
   -- the last match of the values so far and of one more
-  last_is : last_of d anchored text (take (read + 1) (units text))
-      ≡ option_or (ended_at read (patterns_at d.table now)) (last_of d anchored text (take read (units text)))
-  last_is =
-      let tells = is.tells anchored text.behind (take read (units text) ++ r.unit ∷ []) there.behind there.units in
+  last-is : last_of d anchored text (take (read + 1) (units text))
+      ≡ option_or (ended_at read (patterns_at d.table row_next)) (last_of d anchored text (take read (units text)))
+  last-is =
+      let tells = is.tells anchored text.behind (take read (units text) ++ r.unit ∷ []) row-next.behind row-next.units in
       rw (taken, last_match-push, length-take-le read (units text) (omega (arith, within)), tells)
 
   -- a row more that lists none
-  keeps : patterns_at d.table now ≡ [] → IsSearched d anchored text (read + 1) next matched end
-  keeps none = record { at = rw taken there; listing = s.listing; so_far = rw (last_is, none) s.so_far }
+  searched-kept : patterns_at d.table row_next ≡ [] → IsSearched d anchored text (read + 1) next matched end
+  searched-kept none = record { at = rw taken row-next; listing = s.listing; so_far = rw (last-is, none) s.so_far }
 
   -- it is row 0
   pub searched-dead : next ≡ 0 → IsSearched d anchored text (read + 1) next matched end
   searched-dead dead =
-      let zero : now ≡ 0 = offset-zero d.table (sym there.reached ∙ dead) in
-      keeps (rw zero (dead_zero d is (omega (arith, there.below)) [] (All-nil IsUnit)))
+      let zero : row_next ≡ 0 = offset-zero d.table (sym row-next.reached ∙ dead) in
+      searched-kept (rw zero (dead_zero d is (omega (arith, row-next.below)) [] (All-nil IsUnit)))
+
+  -- there the search ends
+  pub found-in_dead : next ≡ 0 → All IsUnit (units text) → {found : Option HalfMatch} → IsMatch d.table matched end found
+      → (earliest : Bool) → IsFound d earliest anchored text found
+  found-in_dead dead all f = found-dead is (searched-dead dead) f all dead
 
   module _ {last_match last_special : ℕ} (o : IsOrdered d.table last_match last_special) where
     -- or behind those that list some
     pub searched-none : last_match < next → IsSearched d anchored text (read + 1) next matched end
-    searched-none h = keeps (o.none now there.below (rw there.reached at h))
+    searched-none h = searched-kept (o.none row_next row-next.below (rw row-next.reached at h))
 
     -- or one of them
-    lists_some : (next ≡ 0 → ⊥) → next ≤ last_match → is_nonempty (patterns_at d.table now) ≡ true
-    lists_some not upto = o.some now (grind (arith, there.reached)) there.below (rw there.reached at upto)
+    module _ (not : next ≡ 0 → ⊥) (upto : next ≤ last_match) where
+      match-some : (last : Option HalfMatch) → (is_some (ended_at read (patterns_at d.table row_next)) ≡ true)
+          × (option_or (ended_at read (patterns_at d.table row_next)) last ≡ ended_at read (patterns_at d.table row_next))
+      match-some last = match_of_some read (patterns_at d.table row_next) last
+          (o.some row_next (grind (arith, row-next.reached)) row-next.below (rw row-next.reached at upto))
 
-    pub searched-some : (next ≡ 0 → ⊥) → next ≤ last_match → IsSearched d anchored text (read + 1) next next read
-    searched-some not upto = record {
-      at = rw taken there;
-      listing = row-offset there;
-      so_far = λ m h e.
-          let same : now ≡ m = same-offset d.table (sym there.reached ∙ e) in
-          let place = takes read (patterns_at d.table now) (last_of d anchored text (take read (units text)))
-          (lists_some not upto) in
-          rw (last_is, place, same);
-    }
+      pub searched-some : IsSearched d anchored text (read + 1) next next read
+      searched-some = record {
+        at = rw taken row-next;
+        listing = row-offset row-next;
+        so_far = λ m h e.
+            let same : row_next ≡ m = same-offset d.table (sym row-next.reached ∙ e) in
+            rw (last-is, (match-some (last_of d anchored text (take read (units text)))).1, same);
+      }
 
-    -- which has a match
-    pub match-some : (next ≡ 0 → ⊥) → next ≤ last_match → {found : Option HalfMatch} → IsMatch d.table next read found
-        → is_some found ≡ true
-    match-some not upto f = rw (f now there.below there.reached)
-        (some_ended read (patterns_at d.table now) (lists_some not upto))
+      -- with its match the search ends, if any will do
+      pub found-in_some : {found : Option HalfMatch} → IsMatch d.table next read found → {earliest : Bool}
+          → earliest ≡ true → IsFound d earliest anchored text found
+      found-in_some f = found-first is searched-some f
+          (rw (f row_next row-next.below row-next.reached) (match-some None).0)
 
 -- the order of rows, of what a DFA is seen as
 pub ordered : {v d : DfaValue} {last_match last_special : ℕ} → v ≡ d → IsOrdered v.table last_match last_special
@@ -226,21 +214,13 @@ module _ {d : DfaValue} {anchored : Bool} {text : Text} {row matched end to last
   searched-stays {read} h stays s = stays-more (to - read) read (omega arith) stays s
 
 -- how far a search has come, over one unit more
-module _ {d : DfaValue} {text : Text} {read row matched end i here listing at next last_match last_special : ℕ}
-    (come : HasCome d text read row matched end i here listing at) (offset : IsOffset d.table next)
-    (r : IsRead d.table text i here next) (o : IsOrdered d.table last_match last_special) where
-  -- to a row that lists no pattern
-  pub come-none : last_match < next → HasCome d text read row matched end (i + 1) next listing at
-  come-none past = record {
-    at = offset;
-    listing = come.listing;
-    searched = λ anchored sound s. searched-none sound (come.searched anchored sound s) r o past;
-  }
-
-  -- which a scan leaves
-  pub come-scanned : last_match < next → {to : ℕ} → i + 1 ≤ to → StaysOver d.table next text (i + 1) to
+module _ {d : DfaValue} {text : Text} {read row matched end i now listing at next last_match last_special : ℕ}
+    (come : HasCome d text read row matched end i now listing at) (offset : IsOffset d.table next)
+    (r : IsRead d.table text i now next) (o : IsOrdered d.table last_match last_special) where
+  -- to a row that lists no pattern, and over the units that lead this to itself
+  pub come-none : last_match < next → {to : ℕ} → i + 1 ≤ to → StaysOver d.table next text (i + 1) to
       → HasCome d text read row matched end to next listing at
-  come-scanned past more stays = record {
+  come-none past more stays = record {
     at = offset;
     listing = come.listing;
     searched = λ anchored sound s. searched-stays sound o past more stays

@@ -25,16 +25,12 @@ use Rattle.determinize_dense.proofs.Reached.{reached-tested}
 use Rattle.determinize_start.proofs.kinds.StartSlots.{slot_number-below}
 use Rattle.determinize_engine.specs.declared.state_table.TheConstants.{MAX_STATES}
 
--- units after units
-after-more : (nfa : Nfa) (kind : MatchKind) (us rest : List (Option ℕ)) (v : Value)
-    → value_after nfa kind v (us ++ rest) ≡ value_after nfa kind (value_after nfa kind v us) rest
-after-more nfa kind [] rest v = refl
-after-more nfa kind (u ∷ us) rest v = after-more nfa kind us rest (step nfa kind v u)
-
 -- the dead value stays along units
-dead-stays : (nfa : Nfa) (kind : MatchKind) (us : List (Option ℕ)) → value_after nfa kind dead us ≡ dead
-dead-stays nfa kind [] = refl
-dead-stays nfa kind (u ∷ us) = rw (dead_stays nfa kind u).0 (dead-stays nfa kind us)
+dead_after : (nfa : Nfa) (kind : MatchKind) (us rest : List (Option ℕ)) (v : Value) → value_after nfa kind v us ≡ dead
+    → value_after nfa kind v (us ++ rest) ≡ dead
+dead_after nfa kind [] [] v is = is
+dead_after nfa kind [] (u ∷ rest) v is = dead_after nfa kind [] rest (step nfa kind v u) (rw is (dead_stays nfa kind u).0)
+dead_after nfa kind (u ∷ us) rest v is = dead_after nfa kind us rest (step nfa kind v u) is
 
 -- other classes of the same bytes
 classes-as : {nfa : Nfa} {p q : Classes} → q.of_bytes ≡ p.of_bytes → AreClassesOf nfa p → AreClassesOf nfa q
@@ -111,9 +107,6 @@ module _ (b : Building) (is : IsBuilding b) (whole : length b.next ≡ length b.
   unit-there c h = by_cases (cases_lt c (length b.classes.firsts))
       (λ k. (Some (first_of b.classes c), is.sound.bytes c k, is.sound.own c k)) (λ k. (None, tt, omega arith))
 
-  few : length table.patterns ≤ MAX_STATES
-  few = omega (arith, count)
-
   -- each row is reached
   row-reached : (r : ℕ) → r < length table.patterns → IsReachedRow b.nfa table r
   row-reached r h =
@@ -130,7 +123,7 @@ module _ (b : Building) (is : IsBuilding b) (whole : length b.next ≡ length b.
     first = λ i h. rw count (are.within i h);
     column = column-below;
     units = unit-there;
-    few = few;
+    few = omega (arith, count);
     narrow = omega (arith, is.sound.few);
     within = λ r u h unit. rw count (slice_get_within b.values (row_over table r u) _
         (row_over-step r (get_or b.values r dead) u (slice_get-get_or b.values r dead (omega (arith, count))) unit));
@@ -145,10 +138,8 @@ module _ (b : Building) (is : IsBuilding b) (whole : length b.next ≡ length b.
         (row_after-steps us _ _ (start-at anchored p h) all);
     reached = row-reached;
     over = λ anchored p us rest h all _ end.
-        let first : Value = start_value b.nfa (start_in b.nfa anchored) p in
         let at = rw end at (row_after-steps us _ _ (start-at anchored p h) all) in
-        let here : value_after b.nfa b.kind first us ≡ dead = of_some (sym at ∙ is.first) in
-        rw (after-more b.nfa b.kind us rest first, here, dead-stays b.nfa b.kind rest);
+        rw (dead_after b.nfa b.kind us rest _ (of_some (sym at ∙ is.first)));
   }
 
   -- the values are those that are reached

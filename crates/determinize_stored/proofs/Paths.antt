@@ -1,6 +1,6 @@
 -- What follows a row, and the last match along units.
--- Main statements: column-below, dead_stop, dead_if, none_along, stepped-some,
--- stepped-none, goes_on, last_more, last_done, last_dead, match_of_lists, finds.
+-- Main statements: column-below, dead_stop, dead_if, stepped-some, stepped-none, goes_on, last_done, last_dead,
+-- match_of_lists, finds.
 -- Used by: `stored`, `search` and `laws`.
 -- Idea: the rows that are left say what is found after what was found so far.
 use Rattle.determinize_core.proofs.Common.{[], ap, arith, false, HalfMatch, length, List, lists_of, None, Option, refl}
@@ -16,10 +16,10 @@ use Rattle.determinize_below.specs.Search.{Asked, is_done}
 use Rattle.determinize_below.specs.Semantics.{Nfa, Text}
 use Rattle.determinize_below.specs.Truth.{IsUnit}
 use Rattle.determinize_below.specs.declared.search.Anchored.{Anchored}
-use Rattle.determinize_below.specs.declared.search.Anchored.TheVariants.{No, Pattern, Yes}
 use Rattle.determinize_core.proofs.Common.{Bool}
 use Rattle.determinize_core.specs.Chain.{chain}
-use Rattle.determinize_dense.proofs.Along.{along_text}
+use Rattle.determinize_dense.proofs.Along.{along_text, last_listed-dead, last_listed-done, last_listed-more, start_is}
+use Rattle.ordered_reach.proofs.lists.Pieces.{option_or-assoc}
 use Rattle.determinize_dense.specs.Dfa.{is_anchored, start_in}
 use Rattle.determinize_dense.specs.Table.{start_row}
 use Rattle.determinize_engine.proofs.TextUnits.{text_units}
@@ -66,40 +66,6 @@ pub dead_if : (s : Stored) (r : ℕ) (stops : Bool) → IsWhole s → Decides st
 dead_if s r stops whole decides so =
     let is = decides.0 so in subst (λ n. IsDead s.table n) (sym is.0) (dead_stop s whole is.1)
 
--- no match is along units from a row that none follows
-pub none_along : (d : Table) (us : List (Option ℕ)) (r n : ℕ) → IsDead d r → All IsUnit us
-    → last_listed n (lists_along d r us) ≡ None
-none_along d [] r n dead all = refl
-none_along d (u ∷ us) r n dead all =
-    let unit = All-head IsUnit u us all in
-    let here : patterns_at d (row_over d r u) ≡ [] = dead (u ∷ []) (λ k e l. grind (arith, unit)) in
-    let rest : last_listed (suc n) (lists_along d (row_over d r u) us) ≡ None =
-    none_along d us (row_over d r u) (suc n) (λ vs units. dead (u ∷ vs) (grind (arith, unit, units)))
-    (All-tail IsUnit u us all) in
-    rw (rest, here) refl
-
--- the match of a list at an offset
-abbrev pub here_at : ℕ → List ℕ → Option HalfMatch
-here_at n patterns = option_map (λ pattern. record { pattern = pattern; offset = n }) (slice_get patterns 0)
-
-or_assoc : (a b c : Option HalfMatch) → option_or (option_or a b) c ≡ option_or a (option_or b c)
-or_assoc None b c = refl
-or_assoc (Some x) b c = refl
-
--- over one unit more
-pub last_more : (d : Table) (us : List (Option ℕ)) (r n : ℕ) (u : Option ℕ) (found all : Option HalfMatch)
-    → slice_get us n ≡ Some u → option_or (last_listed n (lists_along d r (drop n us))) found ≡ all
-    → option_or (last_listed (n + 1) (lists_along d (row_over d r u) (drop (n + 1) us)))
-    (option_or (here_at n (patterns_at d (row_over d r u))) found) ≡ all
-last_more d us r n u found all at so_far =
-    let more : lists_along d r (drop n us)
-    ≡ patterns_at d (row_over d r u) ∷ lists_along d (row_over d r u) (drop (n + 1) us) =
-    rw (drop_more us n u (slice_get_within us n u at), get_or_from_slice_get us n u u at) refl in
-    let e : n + 1 ≡ suc n = omega arith in
-    ap (λ k. option_or (last_listed k (lists_along d (row_over d r u) (drop (n + 1) us)))
-    (option_or (here_at n (patterns_at d (row_over d r u))) found)) e
-    ∙ sym (or_assoc _ _ found) ∙ (rw more at so_far)
-
 -- what is found after a row whose first pattern is this
 abbrev pub stepped : ℕ → Option ℕ → Option HalfMatch → Option HalfMatch
 stepped n first found = option_or (option_map (λ pattern. record { pattern = pattern; offset = n }) first) found
@@ -120,30 +86,23 @@ pub goes_on : (d : Table) (us : List (Option ℕ)) (r n : ℕ) (u : Option ℕ) 
     → option_or (last_listed n (lists_along d r (drop n us))) found ≡ all
     → option_or (last_listed (n + 1) (lists_along d row (drop (n + 1) us))) now ≡ all
 goes_on d us r n u found all row first now at over listed is so_far =
-    let more = last_more d us r n u found all at so_far in
-    rw (is, listed, over) more
+    rw (is, listed, over, ← option_or-assoc) (rw (last_listed-more d r n us u at) at so_far)
 
 -- where no unit is left
 pub last_done : (d : Table) (us : List (Option ℕ)) (r n : ℕ) (found all : Option HalfMatch) → length us ≤ n
     → option_or (last_listed n (lists_along d r (drop n us))) found ≡ all → found ≡ all
-last_done d us r n found all past so_far = rw (drop_all n us past) at so_far
+last_done d us r n found all past so_far = rw (last_listed-done d r n us past) at so_far
 
 -- where no match is left
 pub last_dead : (d : Table) (us : List (Option ℕ)) (r n : ℕ) (found all : Option HalfMatch) → IsDead d r
     → All IsUnit (drop n us) → option_or (last_listed n (lists_along d r (drop n us))) found ≡ all → found ≡ all
-last_dead d us r n found all dead left so_far = rw (none_along d (drop n us) r n dead left) at so_far
+last_dead d us r n found all dead left so_far = rw (last_listed-dead d (drop n us) r n dead left) at so_far
 
 -- the last match of a walk is that of its lists
 pub match_of_lists : (lists : List (List ℕ)) (vs : List Value) → [] ∷ lists ≡ lists_of vs
     → last_match vs ≡ last_listed 0 lists
 match_of_lists lists [] e = absurd (let no : ⊥ = cc e in no)
 match_of_lists lists (v ∷ vs) e = ap (λ ls. last_listed 0 ls) (sym (let tails : lists ≡ lists_of vs = cc e in tails))
-
--- where a search starts
-start_is : (nfa : Nfa) (a : Anchored) → start_in nfa (is_anchored a) ≡ start_for nfa a
-start_is nfa No = refl
-start_is nfa Yes = refl
-start_is nfa (Pattern p) = refl
 
 unit_get : (xs : List ℕ) (i : ℕ) → All (λ b. b < 256) xs → IsUnit (slice_get xs i)
 unit_get [] i small = tt

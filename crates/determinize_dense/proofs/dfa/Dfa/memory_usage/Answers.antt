@@ -3,8 +3,6 @@ use Rattle.determinize_core.proofs.Common.{ℕ, ◌*◌, ◌+◌, ◌≡◌}
 use Rattle.determinize_dense.proofs.Common.{patterns_at}
 use Rattle.determinize_dense.proofs.Lists.{items-at}
 use Rattle.std.proofs.lemmas.List.Sums.{sum_by_more}
-use Rattle.determinize_dense.proofs.dfa.Dfa.memory_usage.Given.{Over}
-use Rattle.determinize_dense.proofs.dfa.Dfa.memory_usage.Goals.{After-deref-list-items}
 use Rattle.determinize_dense.proofs.dfa.Dfa.memory_usage.Goals as goal
 
 abbrev list_bytes : List ℕ → ℕ
@@ -18,14 +16,8 @@ loop-list-init g c =
     c.self.invariant.stored.dfa.table.size in
     omega (arith, c.size_of_val-bytes.ensures, c.size_of_val-bytes.type_inv)
 
--- the number of lists
-count-is : (g : Over) (c : After-deref-list-items g)
-    → length c.deref-list-items.result.now ≡ length c.args.self.now.table.patterns
-count-is g c = rw (c.deref-list-items.ensures.value, ← c.self.view_is, length-map)
-
 pub loop-list-preserved : goal.loop-list-preserved
 loop-list-preserved g c =
-    let count = count-is g (goal.at.loop-list-preserved g c).After-deref-list-items in
     let room = rw c.deref-list-items.ensures.value at c.loop-list-test.true in
     let list : c.list-item.result.items ≡ patterns_at c.args.self.now.table c.loop-list.list-index =
     rw (← c.self.view_is) (items-at (λ list. list.items) c.self.inside.patterns.items room
@@ -33,11 +25,10 @@ loop-list-preserved g c =
     let size : c.len.result ≡ length (patterns_at c.args.self.now.table c.loop-list.list-index) =
     rw (← list) (search rules) in
     let more = sum_by_more list_bytes c.args.self.now.table.patterns c.loop-list.list-index []
-    (omega (arith, c.loop-list-test.true)) in
+    (rw (← c.self.view_is, length-map) room) in
     omega (arith, c.loop-list.invariant)
 
 pub returns : goal.returns
-returns g c =
-    let count = count-is g (goal.at.returns g c).After-deref-list-items in
-    rw (take_all c.loop-list.list-index c.args.self.now.table.patterns (omega (arith, c.loop-list-test.false)))
+returns g c = rw (take_all c.loop-list.list-index c.args.self.now.table.patterns
+    (rw (← c.self.view_is, length-map, ← c.deref-list-items.ensures.value) c.loop-list-test.false))
     at c.loop-list.invariant

@@ -1,7 +1,6 @@
 use Rattle.determinize_core.proofs.Common.{between, false, rules, subst, sym, Text, units, ◌<◌, ◌≡◌}
-use Rattle.determinize_dense.proofs.Along.{along_text}
+use Rattle.determinize_dense.proofs.Along.{along_text, start_is}
 use Rattle.determinize_dense.proofs.Common.{All, is_anchored, IsUnit, start_row}
-use Rattle.determinize_dense.proofs.Inputs.{start_is}
 use Rattle.determinize_dense.specs.Reading.{lists_along, ListsAlong}
 use Rattle.determinize_engine.proofs.TextUnits.{text_units}
 use Rattle.determinize_engine.specs.Searches.{start_for}

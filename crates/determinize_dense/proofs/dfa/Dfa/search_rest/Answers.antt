@@ -1,9 +1,8 @@
 use Rattle.determinize_core.proofs.Common.{arith, length, ℕ, ◌+◌, ◌-◌, ◌<◌, ◌≡◌}
-use Rattle.determinize_dense.proofs.Searching.{come-none, come-scanned, come-some, found-dead, found-first, match-some}
-use Rattle.determinize_dense.proofs.Searching.{ordered, searched-dead, searched-some}
+use Rattle.determinize_dense.proofs.Searching.{come-none, come-some, found-in_dead, found-in_some, ordered}
 use Rattle.determinize_dense.specs.Private.Searching.{HasCome}
 use Rattle.determinize_dense.proofs.dfa.Dfa.search_rest.Given.{Over}
-use Rattle.determinize_dense.proofs.dfa.Dfa.search_rest.Goals.{After-over_byte-row, After-scan-read}
+use Rattle.determinize_dense.proofs.dfa.Dfa.search_rest.Goals.{After-scan-read}
 use Rattle.determinize_dense.proofs.dfa.Dfa.search_rest.Goals.{else-read-pauses, then-read-pauses}
 use Rattle.determinize_dense.proofs.dfa.Dfa.search_rest.Goals as goal
 
@@ -51,18 +50,11 @@ loop-read-preserved-in-loop-read-2 g c = record {
   come = c.loop-read-2.invariant.come;
 }
 
--- a row that lists no patterns
-plain : (g : Over) (c : After-over_byte-row g) → c.self.inside.last_match < c.over_byte-row.result
-    → HasCome c.args.self.now c.args.text.now c.args.read c.args.row c.args.matched c.args.offset
-    (c.loop-read-2.read + 1) c.over_byte-row.result c.loop-read-2.matched c.loop-read-2.offset
-plain g c past = come-none c.loop-read-2.invariant.come c.over_byte-row.ensures.offset c.over_byte-row.ensures.read
-    (ordered c.self.view_is c.self.invariant.ordered) past
-
--- a scan out of it
+-- a scan out of a row that lists no patterns
 scanned : (g : Over) (c : After-scan-read g)
     → HasCome c.args.self.now c.args.text.now c.args.read c.args.row c.args.matched c.args.offset
     c.scan-read.result c.over_byte-row.result c.loop-read-2.matched c.loop-read-2.offset
-scanned g c = come-scanned c.loop-read-2.invariant.come c.over_byte-row.ensures.offset c.over_byte-row.ensures.read
+scanned g c = come-none c.loop-read-2.invariant.come c.over_byte-row.ensures.offset c.over_byte-row.ensures.read
     (ordered c.self.view_is c.self.invariant.ordered) c.if-row-self.true c.scan-read.ensures.more
     c.scan-read.ensures.stays
 
@@ -91,22 +83,17 @@ loop-read-2-preserved-else-record g c =
 
 pub returns-then-row-eq0 : goal.returns-then-row-eq0
 returns-then-row-eq0 g c = λ anchored sound s.
-    found-dead sound (searched-dead sound (c.loop-read-2.invariant.come.searched anchored sound s)
-    c.over_byte-row.ensures.read c.if-row-eq0.true) c.match_of.ensures c.len.ensures.units
-    c.if-row-eq0.true c.args.is_earliest
+    found-in_dead sound (c.loop-read-2.invariant.come.searched anchored sound s) c.over_byte-row.ensures.read
+    c.if-row-eq0.true c.len.ensures.units c.match_of.ensures c.args.is_earliest
 
 same_end : (n : ℕ) → n + 1 - 1 ≡ n
 same_end n = omega arith
 
 pub returns-then-is_earliest : goal.returns-then-is_earliest
 returns-then-is_earliest g c = λ anchored sound s.
-    let before = c.loop-read-2.invariant.come.searched anchored sound s in
-    let order = ordered c.self.view_is c.self.invariant.ordered in
-    let found = rw same_end at c.match_of-then-is_earliest.ensures in
-    found-first sound (searched-some sound before c.over_byte-row.ensures.read order c.if-row-eq0.false
-    c.if-row-self.false) found
-    (match-some sound before c.over_byte-row.ensures.read order c.if-row-eq0.false c.if-row-self.false found)
-    c.if-is_earliest.true
+    found-in_some sound (c.loop-read-2.invariant.come.searched anchored sound s) c.over_byte-row.ensures.read
+    (ordered c.self.view_is c.self.invariant.ordered) c.if-row-eq0.false c.if-row-self.false
+    (rw same_end at c.match_of-then-is_earliest.ensures) c.if-is_earliest.true
 
 pub loop-read-2-preserved-else-is_earliest : goal.loop-read-2-preserved-else-is_earliest
 loop-read-2-preserved-else-is_earliest g c =
@@ -131,7 +118,9 @@ loop-read-2-preserved g c =
     let behind = c.if-row-stop.false in
     record {
       within = omega (arith, c.loop-read-2.invariant.upto);
-      come = plain g (goal.at.loop-read-2-preserved g c).After-over_byte-row (omega arith);
+      come = come-none c.loop-read-2.invariant.come c.over_byte-row.ensures.offset c.over_byte-row.ensures.read
+          (ordered c.self.view_is c.self.invariant.ordered) (let behind : c.self.inside.last_match
+          < c.over_byte-row.result = omega arith in behind) (omega arith) (λ i l h. absurd (omega arith));
       upto = c.loop-read-2.invariant.upto;
       past = past;
       since = omega arith;

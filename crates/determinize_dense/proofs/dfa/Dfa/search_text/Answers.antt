@@ -1,6 +1,6 @@
 use Rattle.determinize_core.proofs.Common.{arith, length, ◌≡◌}
-use Rattle.determinize_dense.proofs.Searching.{found-dead, found-first, match-some, ordered, row-start}
-use Rattle.determinize_dense.proofs.Searching.{searched-dead, searched-none, searched-some, searched-start}
+use Rattle.determinize_dense.proofs.Searching.{found-in_dead, found-in_some, ordered, row-start, searched-none}
+use Rattle.determinize_dense.proofs.Searching.{searched-some, searched-start}
 use Rattle.determinize_dense.proofs.dfa.Dfa.search_text.Goals.{else-row-self, then-row-self+else-is_earliest}
 use Rattle.determinize_dense.proofs.dfa.Dfa.search_text.Goals as goal
 
@@ -8,25 +8,20 @@ pub loop-read-init : goal.loop-read-init
 loop-read-init g c = record {
   within = omega arith;
   searched = searched-start c.start_row-row.ensures.sound
-      (row-start (rw c.behind.ensures at c.start_row-row.ensures.unit)
-      (rw c.behind.ensures at c.start_row-row.ensures.value) (rw c.behind.ensures at c.start_row-row.ensures.limit));
+      (rw c.behind.ensures at (row-start {d = c.args.self.now} c.start_row-row.ensures.unit c.start_row-row.ensures.value
+      c.start_row-row.ensures.limit));
 }
 
 pub returns-then-row-eq0 : goal.returns-then-row-eq0
 returns-then-row-eq0 g c =
-    let sound = c.start_row-row.ensures.sound in
-    found-dead sound (searched-dead sound c.loop-read.invariant.searched c.over_byte-row.ensures.read c.if-row-eq0.true)
-    c.match_of.ensures c.len.ensures.units c.if-row-eq0.true c.args.is_earliest
+    found-in_dead c.start_row-row.ensures.sound c.loop-read.invariant.searched c.over_byte-row.ensures.read
+    c.if-row-eq0.true c.len.ensures.units c.match_of.ensures c.args.is_earliest
 
 pub returns-then-is_earliest : goal.returns-then-is_earliest
 returns-then-is_earliest g c =
-    let sound = c.start_row-row.ensures.sound in
-    let found = c.match_of-then-is_earliest.ensures in
-    let order = ordered c.self.view_is c.self.invariant.ordered in
-    found-first sound (searched-some sound c.loop-read.invariant.searched
-    c.over_byte-row.ensures.read order c.if-row-eq0.false c.if-row-self.true) found
-    (match-some sound c.loop-read.invariant.searched c.over_byte-row.ensures.read order
-    c.if-row-eq0.false c.if-row-self.true found) c.if-is_earliest.true
+    found-in_some c.start_row-row.ensures.sound c.loop-read.invariant.searched c.over_byte-row.ensures.read
+    (ordered c.self.view_is c.self.invariant.ordered) c.if-row-eq0.false c.if-row-self.true
+    c.match_of-then-is_earliest.ensures c.if-is_earliest.true
 
 pub loop-read-preserved : goal.loop-read-preserved
 loop-read-preserved g c =

@@ -1,5 +1,4 @@
 use Rattle.determinize_core.proofs.Common.{arith, length, ◌*◌, ◌+◌, ◌<◌}
-use Rattle.determinize_dense.proofs.Common.{IsFilled}
 use Rattle.std.proofs.lemmas.Grind.{get_or_default_zero}
 use Rattle.determinize_dense.proofs.Refining.{entry-below}
 use Rattle.determinize_dense.proofs.Tables.{entry-at}
@@ -20,5 +19,4 @@ returns-clause-value g c =
 
 pub returns-clause-limit : goal.returns-clause-limit
 returns-clause-limit g c = rw (returns-clause-value g c) (entry-below c.args.self.now.table
-    (let table : IsFilled c.args.self.now.table = rw (← c.self.view_is) c.self.invariant.table in table)
-    c.args.row c.args.column c.requires.row c.requires.column)
+    (rw c.self.view_is at c.self.invariant).table c.args.row c.args.column c.requires.row c.requires.column)

@@ -1,17 +1,10 @@
-use Rattle.determinize_core.proofs.Common.{arith, length, length-map, length_push, rules, slice_index, ◌≡◌}
+use Rattle.determinize_core.proofs.Common.{arith, length-map, length_push, rules, slice_index, ◌≡◌}
 use Rattle.determinize_dense.proofs.Collecting.{each-push}
 use Rattle.determinize_dense.specs.Private.Minimizing.{entry}
-use Rattle.determinize_dense.proofs.rows.Rows.targets.Given.{Over}
-use Rattle.determinize_dense.proofs.rows.Rows.targets.Goals.{After-len-row-end}
 use Rattle.determinize_dense.proofs.rows.Rows.targets.Goals as goal
 
--- the number of rows
-count-is : (g : Over) (c : After-len-row-end g) → c.len-row-end.result ≡ length c.args.self.now.table.patterns
-count-is g c = rw (← c.self.view_is, length-map) (search rules)
-
 pub entry-requires-clause-row : goal.entry-requires-clause-row
-entry-requires-clause-row g c =
-    omega (arith, count-is g (goal.at.entry-requires-clause-row g c).After-len-row-end, c.loop-row-test.true)
+entry-requires-clause-row g c = rw (← c.self.view_is, length-map) (search rules)
 
 pub block-requires : goal.block-requires
 block-requires g c = rw c.requires.parts c.entry.ensures.limit
@@ -19,7 +12,7 @@ block-requires g c = rw c.requires.parts c.entry.ensures.limit
 pub loop-row-preserved : goal.loop-row-preserved
 loop-row-preserved g c = record {
   count = grind (arith, length_push);
-  below = omega (arith, count-is g (goal.at.loop-row-preserved g c).After-len-row-end, c.loop-row-test.true);
+  below = rw (← c.self.view_is, length-map) (search rules);
   blocks = each-push 0
       (λ r v. v ≡ slice_index c.args.parts.now.numbers (entry c.args.self.now.table r c.args.column))
       _ c.in_ok-push.ensures.items c.loop-row.invariant.count c.loop-row.invariant.blocks
@@ -31,6 +24,6 @@ returns-clause-filled g c = rw (← c.self.view_is) c.self.invariant.table
 
 pub returns-clause-targets : goal.returns-clause-targets
 returns-clause-targets g c = record {
-  count = omega (arith, count-is g (goal.at.returns-clause-targets g c).After-len-row-end);
+  count = rw (← c.self.view_is, length-map) (search rules);
   blocks = c.loop-row.invariant.blocks;
 }
