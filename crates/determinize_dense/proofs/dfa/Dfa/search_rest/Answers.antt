@@ -7,48 +7,16 @@ use Rattle.determinize_dense.proofs.dfa.Dfa.search_rest.Goals.{else-read-pauses,
 use Rattle.determinize_dense.proofs.dfa.Dfa.search_rest.Goals as goal
 
 pub loop-read-init : goal.loop-read-init
-loop-read-init g c = record {
-  within = c.requires.read;
-  come = record { at = c.requires.row; listing = c.requires.matched; searched = λ anchored sound s. s };
-}
+loop-read-init g c = grind arith
 
 pub loop-read-2-init : goal.loop-read-2-init
-loop-read-2-init g c =
-    let room = c.loop-read-test.true in
-    let len = c.len.ensures.value in
-    elim c.if-read-pauses.branch [
-      | then-read-pauses w ↦
-          let paused = w.if-read-pauses.true in
-          let min_is = w.min.ensures in
-          let all = w.len-then-read-pauses.ensures.value in
-          rw w.stop-is record {
-            within = c.loop-read.invariant.within;
-            come = c.loop-read.invariant.come;
-            upto = omega arith;
-            past = omega arith;
-            since = omega arith;
-            more = λ h. absurd (omega arith);
-          }
-      | else-read-pauses w ↦
-          let all = w.len-else-read-pauses.ensures.value in
-          rw w.stop-is record {
-            within = c.loop-read.invariant.within;
-            come = c.loop-read.invariant.come;
-            upto = omega arith;
-            past = c.self.invariant.ordered.more;
-            since = omega arith;
-            more = λ h. absurd (omega arith);
-          }
-    ]
+loop-read-2-init g c = grind arith
 
 pub loop-read-smaller-in-loop-read-2 : goal.loop-read-smaller-in-loop-read-2
 loop-read-smaller-in-loop-read-2 g c = omega (arith, c.loop-read-2.invariant.more c.loop-read-2-test.false)
 
 pub loop-read-preserved-in-loop-read-2 : goal.loop-read-preserved-in-loop-read-2
-loop-read-preserved-in-loop-read-2 g c = record {
-  within = c.loop-read-2.invariant.within;
-  come = c.loop-read-2.invariant.come;
-}
+loop-read-preserved-in-loop-read-2 g c = grind arith
 
 -- a scan out of a row that lists no patterns
 scanned : (g : Over) (c : After-scan-read g)

@@ -5,12 +5,7 @@ use Rattle.determinize_dense.proofs.dfa.Dfa.search_text.Goals.{else-row-self, th
 use Rattle.determinize_dense.proofs.dfa.Dfa.search_text.Goals as goal
 
 pub loop-read-init : goal.loop-read-init
-loop-read-init g c = record {
-  within = omega arith;
-  searched = searched-start c.start_row-row.ensures.sound
-      (rw c.behind.ensures at (row-start {d = c.args.self.now} c.start_row-row.ensures.unit c.start_row-row.ensures.value
-      c.start_row-row.ensures.limit));
-}
+loop-read-init g c = grind arith
 
 pub returns-then-row-eq0 : goal.returns-then-row-eq0
 returns-then-row-eq0 g c =
