@@ -9,12 +9,7 @@ abbrev list_bytes : List ℕ → ℕ
 list_bytes list = 24 + length list * 4
 
 pub loop-list-init : goal.loop-list-init
-loop-list-init g c =
-    let size : length c.as_slice.result.now
-    ≡ length c.args.self.now.table.patterns * (c.args.self.now.table.class_count + 1) =
-    rw (c.as_slice.ensures.value, c.self.invariant.stored.count, ← c.self.view_is)
-    c.self.invariant.stored.dfa.table.size in
-    omega (arith, c.size_of_val-bytes.ensures, c.size_of_val-bytes.type_inv)
+loop-list-init g c = grind arith
 
 pub loop-list-preserved : goal.loop-list-preserved
 loop-list-preserved g c =
