@@ -1,24 +1,60 @@
 -- A walk from a position, one step after another.
--- Main statements: followed_start, followed_some, followed_none, followed_all, followed_end, following-marked.
+-- Main statements: followed_start, followed_some, followed_none, followed_all, followed_end, following-done,
+-- following-dead, following-marked.
 -- Used by: Walked.
 -- Idea: what follows the marked pairs is what follows the pair where the walk is, until a match is listed.
 use Rattle.std.proofs.Common.{◌≡◌, ◌<◌, ◌≤◌, ◌+◌, ◌∙◌, ◌⊎◌, ℕ, List, None, Option, Some, [], ◌∷◌, ap, arith, inl, inr}
 use Rattle.std.proofs.Common.{length, refl, slice_get, suc, sym, true}
 use Rattle.std.specs.Option.{option_or}
+use Rattle.std.specs.Prelude.{All, drop}
+use Rattle.std.proofs.lemmas.List.Elements.{All-drop, All-head, All-tail}
 use Rattle.ordered_reach.proofs.lists.Pieces.{option_or-None, option_or-assoc}
 use Rattle.determinize_below.specs.Semantics.{Text}
+use Rattle.determinize_below.specs.Truth.{IsUnit}
 use Rattle.determinize_below.specs.declared.search.HalfMatch.{HalfMatch}
 use Rattle.determinize_core.specs.Chain.{units}
 use Rattle.determinize_core.specs.LastMatch.{ended_at}
+use Rattle.determinize_core.specs.Walk.{last_listed}
+use Rattle.determinize_dense.specs.Reading.{IsDead, lists_along}
 use Rattle.determinize_dense.specs.Table.{Table, patterns_at, row_over}
-use Rattle.determinize_dense.proofs.Along.{last_listed-more}
+use Rattle.determinize_dense.proofs.Along.{lists_along-done, lists_along-more}
 use Rattle.determinize_linear.specs.Private.Following.{NoneFollows, following}
 use Rattle.determinize_linear.specs.Private.Paid.{end_of}
 use Rattle.determinize_linear.specs.Private.RowMarks.{HasMark, RowMarks, is_set}
 use Rattle.determinize_linear.specs.Private.Walks.{IsFollowed}
 use Rattle.determinize_linear.proofs.walks.Unset.{is_set-with}
 
+-- no match is listed along units from a row that none follows
+none_along : (d : Table) (us : List (Option ℕ)) (r n : ℕ) → IsDead d r → All IsUnit us
+    → last_listed n (lists_along d r us) ≡ None
+none_along d [] r n dead all = refl
+none_along d (u ∷ us) r n dead all =
+    let unit = All-head IsUnit u us all in
+    let here : patterns_at d (row_over d r u) ≡ [] = dead (u ∷ []) (λ k e l. grind (arith, unit)) in
+    let later : last_listed (suc n) (lists_along d (row_over d r u) us) ≡ None =
+    none_along d us (row_over d r u) (suc n) (λ vs units. dead (u ∷ vs) (grind (arith, unit, units)))
+    (All-tail IsUnit u us all) in
+    rw (later, here) refl
+
 module _ (d : Table) (text : Text) where
+  -- a step
+  following-more : (at row : ℕ) (u : Option ℕ) → slice_get (units text) at ≡ Some u
+      → following d text at row
+      ≡ option_or (following d text (at + 1) (row_over d row u)) (ended_at at (patterns_at d (row_over d row u)))
+  following-more at row u is =
+      let e : suc at ≡ at + 1 = omega arith in
+      ap (λ ls. last_listed at ls) (lists_along-more d row at (units text) u is)
+      ∙ ap (λ k. option_or (last_listed k (lists_along d (row_over d row u) (drop (at + 1) (units text))))
+      (ended_at at (patterns_at d (row_over d row u)))) e
+
+  -- where no match follows: at the end of the text, in the dead row, and at a marked pair
+  pub following-done : (at row : ℕ) → length (units text) ≤ at → following d text at row ≡ None
+  following-done at row past = ap (λ ls. last_listed at ls) (lists_along-done d row at (units text) past)
+
+  pub following-dead : (at row : ℕ) → All IsUnit (units text) → IsDead d row → following d text at row ≡ None
+  following-dead at row all dead =
+      none_along d (drop at (units text)) row at dead (All-drop IsUnit at (units text) all)
+
   pub followed_start : (m : RowMarks) (from row : ℕ) → NoneFollows d text from m
       → IsFollowed d text m from from row None (following d text from row)
   followed_start m from row none = record {
@@ -32,7 +68,7 @@ module _ (d : Table) (text : Text) where
       (is : IsFollowed d text m from at row found all) (unit : slice_get (units text) at ≡ Some u)
       (goes : next ≡ row_over d row u) where
     step : following d text at row ≡ option_or (following d text (at + 1) next) (ended_at at (patterns_at d next))
-    step = rw goes (last_listed-more d row at (units text) u unit)
+    step = rw goes (following-more at row u unit)
 
     -- a step to a row that lists a match
     pub followed_some : (x : ℕ) → slice_get (patterns_at d next) 0 ≡ Some x

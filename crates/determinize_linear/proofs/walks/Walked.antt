@@ -6,8 +6,7 @@
 use Rattle.std.proofs.Common.{◌≡◌, ◌<◌, ◌≤◌, ◌*◌, ◌+◌, ◌^◌, ◌∙◌, ◌⊎◌, ℕ, List, None, Option, Some, ap, arith, false}
 use Rattle.std.proofs.Common.{inl, inr, length, refl, slice_get, subst, suc, sym, true, zero}
 use Rattle.std.specs.Option.{IfNone, IfSome}
-use Rattle.std.specs.Prelude.{All, drop}
-use Rattle.std.proofs.lemmas.List.Elements.{All-drop}
+use Rattle.std.specs.Prelude.{All}
 use Rattle.std.proofs.lemmas.Bool.{cases_lt}
 use Rattle.std.proofs.lemmas.Option.{get_or_from_slice_get, slice_get_within}
 use Rattle.ordered_reach.proofs.Cases.{by_cases}
@@ -15,7 +14,6 @@ use Rattle.determinize_below.specs.Semantics.{Nfa, Text}
 use Rattle.determinize_below.specs.Truth.{IsUnit}
 use Rattle.determinize_below.specs.declared.search.HalfMatch.{HalfMatch}
 use Rattle.determinize_core.specs.Chain.{units}
-use Rattle.determinize_dense.proofs.Along.{last_listed-dead, last_listed-done}
 use Rattle.determinize_dense.specs.Reading.{IsDead}
 use Rattle.determinize_dense.specs.Table.{DfaValue, Table, patterns_at, row_over}
 use Rattle.determinize_engine.proofs.Texts.{all_read}
@@ -24,7 +22,7 @@ use Rattle.determinize_linear.specs.Private.Paid.{IsPaid, end_of}
 use Rattle.determinize_linear.specs.Private.RowMarks.{HasMark, RowMarks, count_unset, is_set, place}
 use Rattle.determinize_linear.specs.Private.Walks.{IsWalked, matched}
 use Rattle.determinize_linear.proofs.walks.Followed.{followed_all, followed_end, followed_none, followed_some}
-use Rattle.determinize_linear.proofs.walks.Followed.{followed_start, following-marked}
+use Rattle.determinize_linear.proofs.walks.Followed.{followed_start, following-dead, following-done, following-marked}
 use Rattle.determinize_linear.proofs.walks.Unset.{place_within, unset-with}
 
 pub unit_at : (us : List (Option ℕ)) (i : ℕ) (u : Option ℕ) → All IsUnit us → slice_get us i ≡ Some u → IsUnit u
@@ -123,12 +121,11 @@ module _ (dfa : DfaValue) (old : RowMarks) (text : Text) (from : ℕ) (can : IsW
     pub nothing_follows : All IsUnit (units text) → IsDead dfa.table 0
         → (at ≤ length text.bytes → (row ≡ 0) ⊎ (is_set m at row ≡ true)) → following dfa.table text at row ≡ None
     nothing_follows are dead ends = by_cases (cases_lt (length text.bytes) at)
-        (λ l. last_listed-done dfa.table row at (units text) (all_read text l refl))
+        (λ l. following-done dfa.table text at row (all_read text l refl))
         (λ l. stop (ends (omega arith)))
       where
         stop : (row ≡ 0) ⊎ (is_set m at row ≡ true) → following dfa.table text at row ≡ None
-        stop (inl z) = rw z (last_listed-dead dfa.table (drop at (units text)) 0 at dead
-            (All-drop IsUnit at (units text) are))
+        stop (inl z) = rw z (following-dead dfa.table text at 0 are dead)
         stop (inr e) = following-marked dfa.table text m from at row found all is.followed
             (omega (arith, is.rows, can.count, is.below)) e
 

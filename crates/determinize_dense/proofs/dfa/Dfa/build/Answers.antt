@@ -1,4 +1,4 @@
-use Rattle.determinize_core.proofs.Common.{ap, arith, Err, rules, sym, ◌∙◌, ◌≡◌}
+use Rattle.determinize_core.proofs.Common.{ap, arith, Err, rules, sym, ℕ, ◌<◌, ◌∙◌, ◌≡◌, ◌≤◌}
 use Rattle.determinize_dense.proofs.Building.{more-as, same_err}
 use Rattle.determinize_dense.proofs.Counting.{each_count_is_one}
 use Rattle.determinize_dense.proofs.dfa.Dfa.build.Goals as goal
@@ -8,6 +8,9 @@ returns-in_err-rows-clause-many g c = λ same.
     let e : c.from_residual-in_err-rows.result ≡ Err c.in_err-rows.field-0.0 = search rules in
     more-as c.in_ok-builder.ensures.nfa c.in_ok-builder.ensures.kind c.in_ok-builder.ensures.limit
     (c.in_err-rows.ensures.many (ap Err (same_err (sym e ∙ same))))
+
+not-more : {count limit least : ℕ} → least < count → count ≤ limit → limit ≡ least → ⊥
+not-more more few same = omega arith
 
 pub returns : goal.returns
 returns g c =
@@ -19,8 +22,7 @@ returns g c =
       states = rw c.in_ok-arranged.ensures.rows states;
       few = rw (c.in_ok-arranged.ensures.rows, ← c.in_ok-builder.ensures.limit) c.in_ok-rows.ensures.few;
       many = search rules;
-      more = λ more.
-          let fewer = (each_count_is_one c.args.nfa.now c.args.match_kind _ _ states).1 more in
-          absurd (let no : ⊥ = omega (arith, fewer, c.in_ok-rows.ensures.few, c.in_ok-builder.ensures.limit) in no);
+      more = λ more. absurd (not-more ((each_count_is_one c.args.nfa.now c.args.match_kind _ _ states).1 more)
+          c.in_ok-rows.ensures.few c.in_ok-builder.ensures.limit);
       zero = search rules;
     }
