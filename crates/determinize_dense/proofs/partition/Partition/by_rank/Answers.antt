@@ -9,10 +9,7 @@ use Rattle.determinize_dense.proofs.partition.Partition.by_rank.Goals.{then-rank
 use Rattle.determinize_dense.proofs.partition.Partition.by_rank.Goals as goal
 
 pub loop-rank-init : goal.loop-rank-init
-loop-rank-init g c = record {
-  below = omega arith;
-  ordering = ordering-first (search rules) c.in_ok-members.ensures.items (omega arith);
-}
+loop-rank-init g c = grind (arith, ordering-first)
 
 pub loop-row-init : goal.loop-row-init
 loop-row-init g c = record { below = omega arith; ordering = rw add-zero c.loop-rank.invariant.ordering }
@@ -31,13 +28,7 @@ loop-row-preserved g c = record {
 }
 
 pub loop-rank-preserved : goal.loop-rank-preserved
-loop-rank-preserved g c = record {
-  below = omega (arith, c.loop-rank-test.true);
-  ordering =
-      let n = length c.args.ranks.now in
-      let turn : c.loop-rank.rank * n + c.loop-row.row ≡ (c.loop-rank.rank + 1) * n = omega arith in
-      rw turn at c.loop-row.invariant.ordering;
-}
+loop-rank-preserved g c = grind arith
 
 -- all rows have their blocks
 whole : (g : Over) (c : After-loop-rank g) → 4 ≤ c.loop-rank.rank

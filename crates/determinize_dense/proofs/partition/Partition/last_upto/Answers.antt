@@ -33,18 +33,10 @@ pub loop-last-init : goal.loop-last-init
 loop-last-init g c = record { there = c.requires.ranks.blocks.some; upto = grind arith }
 
 pub loop-last-preserved : goal.loop-last-preserved
-loop-last-preserved g c =
-    let count = count-is g (goal.at.loop-last-preserved g c).After-len in
-    let member = member-is g (goal.at.loop-last-preserved g c).After-index c.loop-last-test.true in
-    record { there = omega arith; upto = grind arith }
+loop-last-preserved g c = rw (← c.self.view_is) (grind (arith, get_or_default_zero))
 
 pub returns-after-loop-last : goal.returns-after-loop-last
-returns-after-loop-last g c =
-    let count = count-is g (goal.at.returns-after-loop-last g c).After-len in
-    record {
-      last = last-upto c.requires.ranks c.loop-last.invariant.there c.loop-last.invariant.upto
-          (λ h. absurd (omega arith));
-    }
+returns-after-loop-last g c = rw (← c.self.view_is) (grind (arith, last-upto))
 
 pub returns-else-ranks-index : goal.returns-else-ranks-index
 returns-else-ranks-index g c = record {

@@ -1,3 +1,4 @@
+use Rattle.determinize_dense.proofs.Splitting.{pushed}
 use Rattle.determinize_core.proofs.Common.{arith, length, length_push, ◌+◌, ◌≡◌, ◌≤◌}
 use Rattle.determinize_dense.proofs.Collecting.{merged-push}
 use Rattle.determinize_dense.proofs.Splitting.{few_blocks}
@@ -14,11 +15,4 @@ pub loop-column-preserved : goal.loop-column-preserved
 loop-column-preserved g c =
     let columns : c.alphabet_len-column-end.result ≡ c.args.self.now.table.class_count + 1 =
     rw (← c.self.view_is) c.alphabet_len-column-end.ensures.count in
-    record {
-      below = omega (arith, c.loop-column-test.true);
-      size = grind (arith, length_push);
-      entries = merged-push c.args.self.now.table c.args.parts.now _ c.loop-row.row-index c.loop-column.column
-          c.in_ok-push.ensures.items c.loop-column.invariant.entries c.loop-column.invariant.size
-          (omega (arith, c.loop-column-test.true))
-          (rw (c.entry.ensures.value, c.loop-row.invariant.items) at c.block.ensures.value);
-    }
+    grind (arith, pushed, merged-push)

@@ -9,11 +9,7 @@ pub split-requires : goal.split-requires
 split-requires g c = grind (arith, length-replicate)
 
 pub loop-parts-init : goal.loop-parts-init
-loop-parts-init g c = record {
-  partition = partition-first c.args.self.now.table c.in_ok-whole.whole c.in_ok-parts.parts
-      c.in_ok-first_rows.first_rows.items (rw c.len.ensures.value at c.in_ok-whole.ensures.numbers)
-      c.in_ok-first_rows.ensures (rw c.as_slice.ensures.value at c.in_ok-parts.ensures);
-}
+loop-parts-init g c = grind (arith, partition-first)
 
 pub loop-parts-smaller : goal.loop-parts-smaller
 loop-parts-smaller g c = refined-less c.in_ok-refined.ensures (λ same. c.if-len.false (omega arith))

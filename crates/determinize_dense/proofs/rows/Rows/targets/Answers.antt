@@ -1,3 +1,4 @@
+use Rattle.determinize_dense.proofs.Splitting.{pushed}
 use Rattle.determinize_core.proofs.Common.{arith, length-map, length_push, rules, slice_index, ◌≡◌}
 use Rattle.determinize_dense.proofs.Collecting.{each-push}
 use Rattle.determinize_dense.specs.Private.Minimizing.{entry}
@@ -10,14 +11,7 @@ pub block-requires : goal.block-requires
 block-requires g c = rw c.requires.parts c.entry.ensures.limit
 
 pub loop-row-preserved : goal.loop-row-preserved
-loop-row-preserved g c = record {
-  count = grind (arith, length_push);
-  below = rw (← c.self.view_is, length-map) (search rules);
-  blocks = each-push 0
-      (λ r v. v ≡ slice_index c.args.parts.now.numbers (entry c.args.self.now.table r c.args.column))
-      _ c.in_ok-push.ensures.items c.loop-row.invariant.count c.loop-row.invariant.blocks
-      (rw c.entry.ensures.value at c.block.ensures.value);
-}
+loop-row-preserved g c = rw (← c.self.view_is, length-map) (grind (arith, pushed))
 
 pub returns-clause-filled : goal.returns-clause-filled
 returns-clause-filled g c = rw (← c.self.view_is) c.self.invariant.table
