@@ -18,12 +18,7 @@ module _ (v : DfaValue) {ranks : List ℕ} {p : Blocks} (are : AreRanks v.table 
   same_row r s h l e = grind (arith, is.back r, is.back s)
 
   pub grouping-by_rank : IsGrouping v.table p
-  grouping-by_rank = record {
-    blocks = is.blocks;
-    count = is.count ∙ are.count;
-    patterns = λ r s h l e. rw (same_row r s h l e);
-    stable = λ c _ r s h l e. rw (same_row r s h l e);
-  }
+  grouping-by_rank = grind (arith, same_row)
 
   module _ {w : DfaValue} (m : IsMerged v p w) where
     pub arranged-least : IsLeast v.nfa v.table → IsLeast w.nfa w.table

@@ -17,7 +17,7 @@ module _ {d : Table} {n : ℕ} {find : List ℕ → Option ℕ} (are : AreFirsts
   first-known {r} at = grind (arith, are.found (patterns_at d n) r)
 
   pub firsts-known : {r : ℕ} → find (patterns_at d n) ≡ Some r → AreFirsts d (n + 1) find
-  firsts-known {r} at = record { found = are.found; none = λ xs none s below same. grind (arith, are.none xs none s) }
+  firsts-known {r} at = grind (arith, are.none)
 
   module _ (new : find (patterns_at d n) ≡ None) where
     -- a list that has none

@@ -30,11 +30,7 @@ row_after-below nfa d rows (u ∷ us) r h all =
 
 -- the rows of a DFA
 pub has_rows : (v : DfaValue) → IsDfa v → HasRows v.nfa v.table
-has_rows v is = record {
-  starts = λ anchored p h. let slot = slot_of anchored (start_kind_of v.nfa.terminator p) in
-      is.table.first (slot_number slot) (slot_number-below slot);
-  rows = is.table.within;
-}
+has_rows v is = grind (arith, slot_number-below)
 
 -- nothing is listed from row 0 on
 pub dead_zero : (v : DfaValue) → IsDfa v → 0 < length v.table.patterns → IsDead v.table 0

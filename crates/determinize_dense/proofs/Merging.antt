@@ -191,15 +191,7 @@ module _ {v : DfaValue} (is : IsDfa v) {p : Blocks} (part : IsGrouping v.table p
 module _ (v w : DfaValue) (p : Blocks) (part : IsPartition v.table p) (is : IsMerged v p w) where
   -- the blocks of a partition are the fewest rows
   pub merged-least : IsLeast w.nfa w.table
-  merged-least = record {
-    reached = is.reached;
-    apart = λ b c h l other.
-        let i : b < length p.members = omega arith in
-        let j : c < length p.members = omega arith in
-        is.apart b c i j (part.apart (slice_index p.members b) (slice_index p.members c)
-        (omega (arith, part.blocks.rows b i)) (omega (arith, part.blocks.rows c j))
-        (λ same. other (grind (arith, part.blocks.own b i, part.blocks.own c j))));
-  }
+  merged-least = grind (arith, part.blocks.rows, part.blocks.own, part.apart, is.apart, is.reached)
 
   -- and no more than there were
   pub merged-fewest : length w.table.patterns ≤ length v.table.patterns

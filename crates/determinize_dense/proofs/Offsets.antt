@@ -54,21 +54,12 @@ module _ (d : Table) where
 -- the entries of a DFA as offsets
 pub stored-offsets : (v : DfaValue) → IsDfa v → (offsets : List ℕ)
     → offsets ≡ map (λ row. row * (v.table.class_count + 1)) v.table.next → IsStored v offsets
-stored-offsets v dfa offsets are = rw are record {
-  dfa = dfa;
-  count = length-map v.table.next (λ row. row * (v.table.class_count + 1));
-  entries = λ e h. get_or-map (λ row. row * (v.table.class_count + 1)) v.table.next e 0 0 (rw length-map at h);
-}
+stored-offsets v dfa offsets are = rw are (grind (arith, length-map, get_or-map))
 
 -- the product of an offset and the inverse of the columns has the row
 pub inverse-is : (d : Table) → IsFilled d → IsInverse d (4294967296 / (d.class_count + 1) + 1)
 inverse-is d is =
-    let few : (r : ℕ) → r < length d.patterns → r * (d.class_count + 1) < 4294967296 = λ r h.
-    omega (arith, h, mul-le-mul_left r is.narrow) in
-    record {
-      room = λ r h. inverse-room r (d.class_count + 1) (omega arith) (few r h);
-      row = λ r h. inverse-row r (d.class_count + 1) (omega arith) (few r h);
-    }
+    let few = λ (r : ℕ) (h : r < length d.patterns). mul-le-mul_left r is.narrow in grind (arith, few, inverse-room, inverse-row)
 
 -- each entry is the number of a row
 pub entries_within : (d : Table) → IsFilled d → All (λ row. row < length d.patterns) d.next

@@ -18,9 +18,7 @@ member-is g c h = rw (← c.self.view_is) (grind (arith, get_or_default_zero))
 -- its member is a row
 row-there : (g : Over) (c : After-index g) → c.loop-last.last + 1 < c.len.result
     → c.index.result.now < length c.args.ranks.now
-row-there g c h =
-    let count = count-is g (goal.at.After-index g c).After-len in
-    rw (member-is g c h) (omega (arith, c.requires.ranks.blocks.rows (c.loop-last.last + 1)))
+row-there g c h = grind (arith, get_or_default_zero)
 
 pub bounds-ranks-index : goal.bounds-ranks-index
 bounds-ranks-index g c = row-there g (goal.at.bounds-ranks-index g c).After-index c.loop-last-test.true

@@ -29,7 +29,7 @@ module _ (g : Over) (c : After-index-in-loop-row g) where
   member-is = let below = block-below in rw (← c.self.view_is) (grind (arith, get_or_default_zero))
 
   member-there : c.index-in-loop-row.result.now < length c.args.values.now
-  member-there = rw (c.requires, member-is) (are.rows c.index.result.now block-below)
+  member-there = grind (arith, get_or_default_zero)
 
 pub offset_bounds-values-index : goal.offset_bounds-values-index
 offset_bounds-values-index g c =

@@ -13,9 +13,7 @@ there g c = rw c.alphabet_len.ensures.count (entry-at _ c.self.invariant.table c
     (rw (← c.self.view_is) at c.requires.row) (rw (← c.self.view_is) at c.requires.column))
 
 pub returns-clause-value : goal.returns-clause-value
-returns-clause-value g c =
-    let inside = there g (goal.at.returns-clause-value g c).After-alphabet_len in
-    rw (← c.self.view_is, ← c.alphabet_len.ensures.count) (grind (arith, get_or_default_zero))
+returns-clause-value g c = rw (← c.self.view_is) (grind (arith, get_or_default_zero, there))
 
 pub returns-clause-limit : goal.returns-clause-limit
 returns-clause-limit g c = rw (returns-clause-value g c) (entry-below c.args.self.now.table

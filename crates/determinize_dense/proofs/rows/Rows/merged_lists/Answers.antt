@@ -1,3 +1,4 @@
+use Rattle.determinize_dense.proofs.Splitting.{pushed}
 use Rattle.determinize_core.proofs.Common.{[], arith, get_or, length, length-map, length_push}
 use Rattle.determinize_core.proofs.Common.{slice_index, ℕ, ◌<◌, ◌≡◌}
 use Rattle.determinize_dense.proofs.Common.{patterns_at}
@@ -17,16 +18,8 @@ loop-row-preserved g c =
     rw row_is (c.requires.blocks.rows c.loop-row.row-index room) in
     let rows : row < length c.self.inside.patterns.items =
     rw length-map at (rw (c.requires.count, ← c.self.view_is) at member) in
-    let copy : c.in_ok-clone.field-0.items ≡ c.index.result.now.items =
-    same_from_all_zip _ c.index.result.now.items c.in_ok-clone.field-0.items c.in_ok-clone.ensures.cases.0
+    let copy = same_from_all_zip _ c.index.result.now.items c.in_ok-clone.field-0.items c.in_ok-clone.ensures.cases.0
     (λ x y e. e) in
     let list : c.in_ok-clone.field-0.items ≡ patterns_at c.args.self.now.table row =
     rw (copy, ← c.self.view_is) (items-at (λ list. list.items) c.self.inside.patterns.items rows c.index.ensures) in
-    record {
-      items = items;
-      below = omega arith;
-      count = grind (arith, length_push);
-      rows = each-push [] (λ b l. l ≡ patterns_at c.args.self.now.table (slice_index c.args.parts.now.members b)) _
-          (rw (c.in_ok-push.ensures.items, map_push)) (rw length-map c.loop-row.invariant.count)
-          c.loop-row.invariant.rows (rw row_is at list);
-    }
+    grind (arith, pushed, map_push, length-map, list)

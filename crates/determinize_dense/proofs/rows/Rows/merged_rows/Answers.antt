@@ -6,10 +6,7 @@ use Rattle.determinize_dense.proofs.rows.Rows.merged_rows.Goals as goal
 use Rattle.determinize_engine.specs.declared.state_table.TheConstants.{MAX_STATES}
 
 pub overflow_cast-block : goal.overflow_cast-block
-overflow_cast-block g c =
-    let limit : length c.args.self.now.table.patterns ≤ MAX_STATES =
-    rw (← c.self.view_is) c.self.invariant.table.few in
-    omega (arith, few_blocks c.requires.blocks)
+overflow_cast-block g c = omega (arith, few_blocks c.requires.blocks, (rw c.self.view_is at c.self.invariant).table.few)
 
 pub loop-column-preserved : goal.loop-column-preserved
 loop-column-preserved g c =

@@ -15,9 +15,7 @@ block-requires g c = rw (c.requires.count, ← c.self.view_is)
 
 pub overflow_cast-starts : goal.overflow_cast-starts
 overflow_cast-starts g c =
-    let limit : length c.args.self.now.table.patterns ≤ MAX_STATES =
-    rw (← c.self.view_is) c.self.invariant.table.few in
-    omega (arith, few_blocks c.requires.blocks)
+    omega (arith, few_blocks c.requires.blocks, (rw c.self.view_is at c.self.invariant).table.few)
 
 pub loop-number-preserved : goal.loop-number-preserved
 loop-number-preserved g c = rw (← c.self.view_is) (grind (arith, length-set, get_or-set_at, get_or-set_other))
