@@ -18,7 +18,4 @@ loop-list-preserved g c =
     }
 
 pub returns-clause-ids : goal.returns-clause-ids
-returns-clause-ids g c =
-    let lists = map (λ list. list.items) c.args.lists.now in
-    let count = length-map c.args.lists.now (λ list. list.items) in
-    rw (take_all c.loop-list.list-index lists (omega (arith, c.loop-list-test.false))) at c.loop-list.invariant.ids
+returns-clause-ids g c = grind (arith, length-map, take_all)

@@ -14,14 +14,9 @@ loop-list-init g c = grind arith
 pub loop-list-preserved : goal.loop-list-preserved
 loop-list-preserved g c =
     let room = rw c.deref-list-items.ensures.value at c.loop-list-test.true in
-    let list : c.list-item.result.items ≡ patterns_at c.args.self.now.table c.loop-list.list-index =
-    rw (← c.self.view_is) (items-at (λ list. list.items) c.self.inside.patterns.items room
-    (rw c.deref-list-items.ensures.value at c.list-item.is)) in
-    let size : c.len.result ≡ length (patterns_at c.args.self.now.table c.loop-list.list-index) =
-    rw (← list) (search rules) in
-    let more = sum_by_more list_bytes c.args.self.now.table.patterns c.loop-list.list-index []
-    (rw (← c.self.view_is, length-map) room) in
-    omega (arith, c.loop-list.invariant)
+    let list = items-at (λ list. list.items) c.self.inside.patterns.items room
+    (rw c.deref-list-items.ensures.value at c.list-item.is) in
+    rw (← c.self.view_is) (grind (arith, length-map, list, sum_by_more list_bytes))
 
 pub returns : goal.returns
 returns g c = rw (take_all c.loop-list.list-index c.args.self.now.table.patterns

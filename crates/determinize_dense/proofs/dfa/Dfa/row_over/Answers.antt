@@ -4,10 +4,7 @@ use Rattle.std.proofs.Math.Nat.{add_comm}
 use Rattle.determinize_dense.proofs.dfa.Dfa.row_over.Goals as goal
 
 pub bounds-column-row : goal.bounds-column-row
-bounds-column-row g c =
-    let stored = rw c.self.view_is at c.self.invariant.stored in
-    let entry = over-stored _ _ stored c.requires.0 c.args.unit c.requires.1 c.column.ensures.unit in
-    rw (rest-length, c.deref.ensures.value) (omega (arith, entry.0))
+bounds-column-row g c = grind (arith, over-stored, rest-length)
 
 pub returns-clause-value : goal.returns-clause-value
 returns-clause-value g c = λ r h e.

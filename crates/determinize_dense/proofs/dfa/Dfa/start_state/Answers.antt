@@ -3,5 +3,4 @@ use Rattle.determinize_dense.proofs.Least.{dead_zero}
 use Rattle.determinize_dense.proofs.dfa.Dfa.start_state.Goals as goal
 
 pub returns-clause-dead : goal.returns-clause-dead
-returns-clause-dead g c =
-    dead_zero c.args.self.now c.start_row-offset.ensures.sound (omega (arith, c.start_row-offset.ensures.limit))
+returns-clause-dead g c = grind (arith, dead_zero)

@@ -1,3 +1,4 @@
+use Rattle.std.proofs.lemmas.List.{length-replicate}
 use Rattle.determinize_core.proofs.Common.{arith, length, rules, ◌*◌, ◌+◌, ◌≡◌, ◌≤◌}
 use Rattle.std.proofs.Math.Nat.{add-zero}
 use Rattle.determinize_dense.specs.Private.Partition.{IsOrdering}
@@ -9,7 +10,7 @@ use Rattle.determinize_dense.proofs.partition.Partition.by_rank.Goals.{then-rank
 use Rattle.determinize_dense.proofs.partition.Partition.by_rank.Goals as goal
 
 pub loop-rank-init : goal.loop-rank-init
-loop-rank-init g c = grind (arith, ordering-first)
+loop-rank-init g c = grind (arith, length-replicate)
 
 pub loop-row-init : goal.loop-row-init
 loop-row-init g c = record { below = omega arith; ordering = rw add-zero c.loop-rank.invariant.ordering }

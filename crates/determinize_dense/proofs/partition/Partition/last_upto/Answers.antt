@@ -34,11 +34,7 @@ pub loop-last-preserved : goal.loop-last-preserved
 loop-last-preserved g c = rw (← c.self.view_is) (grind (arith, get_or_default_zero))
 
 pub returns-after-loop-last : goal.returns-after-loop-last
-returns-after-loop-last g c = rw (← c.self.view_is) (grind (arith, last-upto))
+returns-after-loop-last g c = rw (← c.self.view_is) (grind arith)
 
 pub returns-else-ranks-index : goal.returns-else-ranks-index
-returns-else-ranks-index g c = record {
-  last = last-upto c.requires.ranks c.loop-last.invariant.there c.loop-last.invariant.upto
-      (λ h. rw (← member-is g (goal.at.returns-else-ranks-index g c).After-index c.loop-last-test.true)
-      c.if-ranks-index.false);
-}
+returns-else-ranks-index g c = grind (arith, get_or_default_zero, c.requires.ranks.ascend (c.loop-last.last + 1))

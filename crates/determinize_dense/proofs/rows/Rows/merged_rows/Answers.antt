@@ -1,4 +1,5 @@
 use Rattle.determinize_dense.proofs.Splitting.{pushed}
+use Rattle.determinize_dense.proofs.Splitting.{pushed}
 use Rattle.determinize_core.proofs.Common.{arith, length, length_push, ◌+◌, ◌≡◌, ◌≤◌}
 use Rattle.determinize_dense.proofs.Collecting.{merged-push}
 use Rattle.determinize_dense.proofs.Splitting.{few_blocks}
@@ -10,6 +11,4 @@ overflow_cast-block g c = omega (arith, few_blocks c.requires.blocks, (rw c.self
 
 pub loop-column-preserved : goal.loop-column-preserved
 loop-column-preserved g c =
-    let columns : c.alphabet_len-column-end.result ≡ c.args.self.now.table.class_count + 1 =
-    rw (← c.self.view_is) c.alphabet_len-column-end.ensures.count in
-    grind (arith, pushed, merged-push)
+    rw (← c.self.view_is, ← c.alphabet_len-column-end.ensures.count) (grind (arith, pushed, merged-push))

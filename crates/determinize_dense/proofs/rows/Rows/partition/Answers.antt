@@ -1,9 +1,10 @@
+use Rattle.determinize_dense.proofs.Splitting.{few_blocks}
 use Rattle.determinize_core.proofs.Common.{arith, length-replicate, None, true}
 use Rattle.determinize_dense.proofs.Refining.{partition-first, refined-less, refined-stable}
 use Rattle.determinize_dense.proofs.rows.Rows.partition.Goals as goal
 
 pub whole-requires : goal.whole-requires
-whole-requires g c = omega (arith, c.len.ensures.rows.starts true None tt)
+whole-requires g c = grind (arith, c.len.ensures.rows.starts true None tt)
 
 pub split-requires : goal.split-requires
 split-requires g c = grind (arith, length-replicate)
@@ -12,7 +13,7 @@ pub loop-parts-init : goal.loop-parts-init
 loop-parts-init g c = grind (arith, partition-first)
 
 pub loop-parts-smaller : goal.loop-parts-smaller
-loop-parts-smaller g c = refined-less c.in_ok-refined.ensures (λ same. c.if-len.false (omega arith))
+loop-parts-smaller g c = grind (arith, few_blocks)
 
 pub returns-then-len-clause-stable : goal.returns-then-len-clause-stable
-returns-then-len-clause-stable g c = refined-stable c.in_ok-refined.ensures (omega arith)
+returns-then-len-clause-stable g c = grind arith
