@@ -1,6 +1,6 @@
 -- Offsets of rows.
--- Main statements: rows_at-offsets, same-offset, stored-offsets, inverse-is.
--- Used by: the entries of a `Dfa`, `order` and `bytes`.
+-- Main statements: rows_at-offsets, same-offset, row-of, upto-by-offset, stored-offsets, inverse-is.
+-- Used by: the entries of a `Dfa`, `order`, `walker` and `bytes`.
 -- Idea: an offset is a number times the columns, so it is divided by them, and ordered as the numbers are.
 use Rattle.determinize_core.proofs.Common.{[], arith, length, length-map, List, map, refl}
 use Rattle.determinize_core.proofs.Common.{ℕ, ◌*◌, ◌+◌, ◌-◌, ◌<◌, ◌∷◌, ◌≡◌, ◌≤◌}
@@ -47,6 +47,10 @@ module _ (d : Table) where
   -- rows with one offset are one
   pub same-offset : {r s : ℕ} → offset_of d r ≡ offset_of d s → r ≡ s
   same-offset {r} {s} e = grind (arith, divided r (d.class_count + 1), divided s (d.class_count + 1))
+
+  -- the row at an offset
+  pub row-of : {offset r : ℕ} → offset ≡ offset_of d r → offset / (d.class_count + 1) ≡ r
+  row-of {offset} {r} e = grind (arith, divided r (d.class_count + 1))
 
   pub offset-zero : {r : ℕ} → offset_of d r ≡ 0 → r ≡ 0
   offset-zero {r} e = grind (arith, divided r (d.class_count + 1))

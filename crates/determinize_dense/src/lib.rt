@@ -5,11 +5,11 @@
 //! serves any number of searches. The matches are those of `determinize_lazy::Lazy`.
 //!
 //! - `dfa`: the type, and its table. `build`: its construction, with `error`. `rows`: the rows
-//!   until they are in order. `search`: searches, with `pauses`. `reading`: steps by hand.
-//!   `overlapping`: all patterns at each position. `bytes`: a DFA as bytes. `minimize`: the fewest
-//!   rows, by `partition`. `order`: the order of rows. `laws`: what a DFA lists where a text ends,
-//!   that no table which lists the same along all units has fewer rows, and that the number of
-//!   states is one.
+//!   until they are in order. `search`: searches, with `pauses`. `reading`: steps by hand, and
+//!   `walker` faster ones. `overlapping`: all patterns at each position. `bytes`: a DFA as bytes.
+//!   `minimize`: the fewest rows, by `partition`. `order`: the order of rows. `laws`: what a DFA
+//!   lists where a text ends, that no table which lists the same along all units has fewer rows,
+//!   and that the number of states is one.
 #![tactic(auto)]
 
 mod build;
@@ -25,8 +25,10 @@ mod pauses;
 pub mod reading;
 mod rows;
 mod search;
+pub mod walker;
 
 pub use crate::dfa::Dfa;
 pub use crate::error::DfaError;
 pub use crate::overlapping::Overlapping;
 pub use crate::reading::{RowId, RowIds};
+pub use crate::walker::Walker;

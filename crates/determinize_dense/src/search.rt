@@ -10,6 +10,7 @@ ghost use Rattle.determinize_below.specs.declared.search.MatchKind.TheVariants a
 ghost use Rattle.determinize_core.specs.Chain.{units};
 ghost use Rattle.determinize_engine.specs.Searches.{HasMatch, IsSearch, IsSearchResult, has_start, start_for, text_of};
 ghost use Rattle.determinize_core.specs.Walk.{ListsAccepted};
+ghost use Rattle.determinize_state.specs.Value.{is_nonempty};
 ghost use Rattle.determinize_dense.specs.Dfa as dfas;
 ghost use Rattle.determinize_dense.specs.Dfa.{value_from};
 ghost use Rattle.determinize_dense.specs.Meaning.{ListsPreferred};
@@ -83,6 +84,16 @@ impl<'n, N: Allocator, A: Allocator + Copy> Dfa<'n, N, A> {
         ensures dead { patterns_at self.now.table 0 ≡ [] }
     {
         offset * self.inverse / SCALE
+    }
+
+    /// Returns whether the row at an offset lists a pattern.
+    #[inline(always)]
+    pub(crate) fn is_listing(&self, offset: usize) -> bool
+        requires { IsOffset self.now.table offset }
+        ensures { (r : ℕ) → IsRowAt self.now.table offset r
+            → result ≡ is_nonempty (patterns_at self.now.table r) }
+    {
+        offset != 0 && offset <= self.last_match
     }
 
     /// Returns the match of a row, or `None` if it lists no patterns.
