@@ -2,9 +2,7 @@ pub mod BothWays
 pub mod Counts
 pub mod FoundStates
 pub mod MadeNfa
-pub mod OnePattern
 pub mod Recorded
-pub mod RecordedStates
 pub mod StatesById
 pub mod Steps
 pub mod Validation

@@ -1,23 +1,22 @@
 -- The transitions of a state in one list are those that the definitions by kinds give it.
--- Main statements: leads_is, arc_resolves, edges_are, byte_arc, arc_reads, and edge_arc, arc_leads, leads_arc.
--- Used by: Choices, and the folder reversing, which speaks only of the list.
+-- Main statements: arc_leads, leads_arc, arc_resolves, edge_in, edge_taken, byte_taken, arc_reads.
+-- Used by: Choices, FoundStates, Recorded, and the loops over the transitions of a state.
 -- Idea: a case for each kind, here only; of a table the runs are as TableRuns says.
-use Rattle.determinize_nfa.proofs.Common.{All, Arc, Assertion, BinaryUnion, Bool, ByteRange, Dense, Free, In}
-use Rattle.determinize_nfa.proofs.Common.{In_cases, In_flat_map_from, In_head, In_map, In_map_from, In_none, In_tail}
-use Rattle.determinize_nfa.proofs.Common.{List, Look, Node, None, Range, Some, Sparse, Test, Transition, Union, []}
-use Rattle.determinize_nfa.proofs.Common.{ap, append-nil, arcs_of, arith, by_test, cond, edges_of, eq-eqb, eqb-true}
-use Rattle.determinize_nfa.proofs.Common.{false, flat_map, get_or, is_first, is_sparse_sound, leads_to, list_all}
-use Rattle.determinize_nfa.proofs.Common.{list_any, map, matches, nat_eq, nat_lt, nat_tests, next_of, not, refl}
-use Rattle.determinize_nfa.proofs.Common.{resolves, runs, slice_get-get_or, some_injective, suc, sym, target_of}
-use Rattle.determinize_nfa.proofs.Common.{targets_in, true, ℕ, ◌&&◌, ◌<◌, ◌∷◌, ◌≡◌, ◌≤◌}
+use Rattle.determinize_nfa.proofs.Common.{All, Arc, Assertion, BinaryUnion, Bool, ByteRange, Dense, Free, In, In_cases}
+use Rattle.determinize_nfa.proofs.Common.{In_flat_map_from, In_head, In_map, In_map_from, In_none, In_tail, List, Look}
+use Rattle.determinize_nfa.proofs.Common.{Node, None, Option, Range, Some, Sparse, Test, Transition, Union, [], ap}
+use Rattle.determinize_nfa.proofs.Common.{append-nil, arcs_of, arith, by_test, cond, edges_of, eq-eqb, eqb-true, false}
+use Rattle.determinize_nfa.proofs.Common.{flat_map, get_or, is_first, is_sparse_sound, leads_to, list_all, list_any}
+use Rattle.determinize_nfa.proofs.Common.{map, matches, nat_eq, nat_lt, nat_tests, next_of, not, refl, resolves, runs}
+use Rattle.determinize_nfa.proofs.Common.{slice_get-get_or, some_injective, suc, sym, target_of, targets_in, true, ℕ}
+use Rattle.determinize_nfa.proofs.Common.{◌&&◌, ◌<◌, ◌∷◌, ◌≡◌, ◌≤◌}
 use Rattle.std.proofs.Math.Bool.{or-false}
 use Rattle.std.proofs.lemmas.List.Folds.{list_all-map}
 use Rattle.determinize_below.specs.Semantics.{Capture}
 use Rattle.determinize_below.specs.Transition.{ascends_from, sparse_target}
 use Rattle.ordered_reach.proofs.lists.Elements.{In_flat_map}
-use Rattle.determinize_nfa.proofs.kinds.OneArc.{range_target, range_target_is}
 use Rattle.determinize_nfa.proofs.kinds.TableRuns.{byte_run, run_target}
-use Rattle.determinize_nfa.proofs.kinds.TestedLists.{all_by, any_by, any_from}
+use Rattle.determinize_nfa.proofs.kinds.TestedLists.{In_one, all_by, any_by, any_from}
 
 -- where a state leads
 any_map : {A : Type 0} (f : A → Arc) (t : ℕ) (xs : List A)
@@ -109,28 +108,32 @@ edges_are holds (Look look next) = sym (append-nil (cond (holds look) (next ∷ 
 edges_are holds (Union ids) = frees_free holds ids
 edges_are holds s = refl
 
-pub edge_arc : {P : Type 0} (holds : Assertion → Bool) (node : Node) (t : ℕ) → In t (edges_of holds node)
-    → (In (Free t) (arcs_of node) → P) → ((look : Assertion) → In (Test look t) (arcs_of node) → holds look ≡ true → P)
-    → P
-edge_arc {P} holds node t k f g =
-    In_flat_map_from (free_of holds) (arcs_of node) t (rw (edges_are holds node) at k) one
+-- a transition of a state leads without input where these assertions hold
+pub edge_in : (holds : Assertion → Bool) (node : Node) (a : Arc) (t : ℕ) → In a (arcs_of node)
+    → In t (free_of holds a) → In t (edges_of holds node)
+edge_in holds node a t k i = rw (edges_are holds node) (In_flat_map (free_of holds) (arcs_of node) a t k i)
+
+-- the transition leads from position i to position k, where u is the next byte and these assertions hold
+abbrev pub Takes : Option ℕ → (Assertion → Bool) → ℕ → ℕ → Arc → Type 0
+Takes u holds i k (Range r) = (k ≡ suc i) × (b : ℕ) × (u ≡ Some b) × (matches r b ≡ true)
+Takes u holds i k (Test look next) = (k ≡ i) × (holds look ≡ true)
+Takes u holds i k (Free next) = k ≡ i
+
+-- some transition of the state leads from position i to t at position k
+abbrev pub IsTaken : Option ℕ → (Assertion → Bool) → ℕ → ℕ → Node → ℕ → Type 0
+IsTaken u holds i k node t = (a : Arc) × In a (arcs_of node) × (next_of a ≡ t) × Takes u holds i k a
+
+pub edge_taken : (u : Option ℕ) (holds : Assertion → Bool) (node : Node) (i t : ℕ) → In t (edges_of holds node)
+    → IsTaken u holds i i node t
+edge_taken u holds node i t k =
+    In_flat_map_from (free_of holds) (arcs_of node) t (rw (edges_are holds node) at k) from_arc
   where
-    one : (a : Arc) → In a (arcs_of node) → In t (free_of holds a) → P
-    one (Range r) i j = In_none t j
-    one (Test look next) i j = by_test (holds look)
-        (λ e. In_cases t next [] (rw e at j) (λ z. g look (rw z i) e) (λ l. In_none t l))
+    from_arc : (a : Arc) → In a (arcs_of node) → In t (free_of holds a) → IsTaken u holds i i node t
+    from_arc (Range r) d j = In_none t j
+    from_arc (Test look next) d j = by_test (holds look)
+        (λ e. (Test look next, d, sym (In_one t next (rw e at j)), (refl, e)))
         (λ e. In_none t (rw e at j))
-    one (Free next) i j = In_cases t next [] j (λ z. f (rw z i)) (λ l. In_none t l)
-
-pub free_edge : (holds : Assertion → Bool) (node : Node) (t : ℕ) → In (Free t) (arcs_of node)
-    → In t (edges_of holds node)
-free_edge holds node t k = rw (edges_are holds node)
-    (In_flat_map (free_of holds) (arcs_of node) (Free t) t k (In_head t []))
-
-pub test_edge : (holds : Assertion → Bool) (node : Node) (look : Assertion) (t : ℕ) → In (Test look t) (arcs_of node)
-    → holds look ≡ true → In t (edges_of holds node)
-test_edge holds node look t k e = rw (edges_are holds node)
-    (In_flat_map (free_of holds) (arcs_of node) (Test look t) t k (rw e (In_head t [])))
+    from_arc (Free next) d j = (Free next, d, sym (In_one t next j), refl)
 
 -- the target of a sparse state over a byte of a transition is that of the transition
 ascends_low : (ts : List Transition) (low : ℕ) (r : Transition) → ascends_from low ts ≡ true → In r ts → low ≤ r.start
@@ -159,27 +162,31 @@ sparse_from (r ∷ rs) b t e = by_test (matches r b)
     (λ z. (r, In_head r rs, some_injective r.next t (rw z at e), z))
     (λ z. let d = sparse_from rs b t (rw z at e) in (d.0, In_tail d.0 r rs d.1, d.2, d.3))
 
-pub byte_arc : (node : Node) (b t : ℕ) → target_of (Some b) node ≡ Some t
-    → (r : Transition) × In (Range r) (arcs_of node) × (r.next ≡ t) × (matches r b ≡ true)
-byte_arc (ByteRange r) b t e = range_target_is r (Some b) t e
-    (λ c u m z. (r, In_head (Range r) [], sym z, (let k : c ≡ b = cc in rw k at m)))
-byte_arc (Sparse rs) b t e = let d = sparse_from rs b t e in (d.0, In_map Range d.0 rs d.1, d.2, d.3)
-byte_arc (Dense ids) b t e = let d = byte_run ids b t e in (d.0, In_map Range d.0 (runs 0 0 ids) d.1, d.2, d.3)
-byte_arc s b t e = absurd (let k : None ≡ Some t = e in cc)
+pub byte_taken : (u : Option ℕ) (holds : Assertion → Bool) (node : Node) (i t : ℕ) → target_of u node ≡ Some t
+    → IsTaken u holds i (suc i) node t
+byte_taken None holds node i t e = absurd (grind (arith, e))
+byte_taken (Some b) holds (ByteRange r) i t e = by_test (matches r b)
+    (λ z. (Range r, In_head (Range r) [], some_injective r.next t (rw z at e), (refl, b, refl, z)))
+    (λ z. absurd (let k : None ≡ Some t = rw z at e in cc))
+byte_taken (Some b) holds (Sparse rs) i t e =
+    let d = sparse_from rs b t e in (Range d.0, In_map Range d.0 rs d.1, d.2, (refl, b, refl, d.3))
+byte_taken (Some b) holds (Dense ids) i t e =
+    let d = byte_run ids b t e in (Range d.0, In_map Range d.0 (runs 0 0 ids) d.1, d.2, (refl, b, refl, d.3))
+byte_taken (Some b) holds s i t e = absurd (let k : None ≡ Some t = e in cc)
 
 range_in : (rs : List Transition) (r : Transition) → In (Range r) (map Range rs) → In r rs
 range_in rs r k = In_map_from Range (Range r) rs k (λ x i e. let z : r ≡ x = cc in rw z i)
 
+no_range : {P : Type 0} (ids : List ℕ) (r : Transition) → In (Range r) (map Free ids) → P
+no_range ids r k = In_map_from Free (Range r) ids k (λ x i e. cc)
+
 pub arc_reads : (node : Node) (r : Transition) (b : ℕ) → is_sparse_sound node ≡ true → In (Range r) (arcs_of node)
     → matches r b ≡ true → target_of (Some b) node ≡ Some r.next
-arc_reads (ByteRange x) r b h k m = In_cases (Range r) (Range x) [] k
-    (λ e. let z : x ≡ r = cc in rw z (range_target r b m))
-    (λ i. In_none (Range r) i)
+arc_reads (ByteRange x) r b h k m = let e = In_one (Range r) (Range x) k in let z : x ≡ r = cc in rw (z, m) refl
 arc_reads (Sparse rs) r b h k m = sparse_at rs 0 r b h (range_in rs r k) m
 arc_reads (Dense ids) r b h k m = run_target ids r (range_in (runs 0 0 ids) r k) b m
-arc_reads (Look look next) r b h k m = In_cases (Range r) (Test look next) [] k (λ e. cc) (λ i. In_none (Range r) i)
-arc_reads (Union ids) r b h k m = In_map_from Free (Range r) ids k (λ x i e. cc)
-arc_reads (BinaryUnion x y) r b h k m = In_cases (Range r) (Free x) (Free y ∷ []) k (λ e. cc)
-    (λ i. In_cases (Range r) (Free y) [] i (λ e. cc) (λ j. In_none (Range r) j))
-arc_reads (Capture next) r b h k m = In_cases (Range r) (Free next) [] k (λ e. cc) (λ i. In_none (Range r) i)
+arc_reads (Look look next) r b h k m = let e = In_one (Range r) (Test look next) k in cc
+arc_reads (Union ids) r b h k m = no_range ids r k
+arc_reads (BinaryUnion x y) r b h k m = no_range (x ∷ y ∷ []) r k
+arc_reads (Capture next) r b h k m = no_range (next ∷ []) r k
 arc_reads s r b h k m = In_none (Range r) k

@@ -2,11 +2,10 @@
 -- Main statements: run_target, byte_run, runs_on, runs_end, length-runs.
 -- Used by: ArcsOfStates, Counts, and `run_from` of `arcs`.
 -- Idea: induction on the rest of the table; the first run has begun at an earlier byte, with the same target since.
-use Rattle.determinize_nfa.proofs.Common.{In, In_cases, In_head, In_none, In_tail, List, None, Some, Transition, []}
-use Rattle.determinize_nfa.proofs.Common.{ap, arith, by_cases, by_test, cases_lt, drop, drop-cons, eqb-true, false}
-use Rattle.determinize_nfa.proofs.Common.{false≢true, get_or, get_or_past, is_first, length, matches, nat_eq}
-use Rattle.determinize_nfa.proofs.Common.{nat_tests, refl, runs, some_injective, suc, sym, true, ℕ, ◌+◌, ◌<◌, ◌∙◌}
-use Rattle.determinize_nfa.proofs.Common.{◌∷◌, ◌≡◌, ◌≤◌}
+use Rattle.determinize_nfa.proofs.Common.{In, In_cases, In_head, In_none, In_tail, List, None, Some, Transition, [], ap}
+use Rattle.determinize_nfa.proofs.Common.{arith, by_cases, by_test, cases_lt, drop, drop-cons, eqb-true, false}
+use Rattle.determinize_nfa.proofs.Common.{false≢true, get_or, get_or_past, is_first, length, matches, nat_eq, nat_tests}
+use Rattle.determinize_nfa.proofs.Common.{refl, runs, some_injective, suc, sym, true, ℕ, ◌+◌, ◌<◌, ◌∙◌, ◌∷◌, ◌≡◌, ◌≤◌}
 use Rattle.determinize_below.specs.Transition.{dense_target}
 use Rattle.determinize_nfa.specs.Private.Arcs.{with_run}
 use Rattle.determinize_nfa.specs.Reversal.{runs_in}

@@ -1,10 +1,13 @@
 -- A test of the elements of a list, and its elements.
--- Main statements: any_by, any_from, all_by, any_In.
--- Used by: ArcsOfStates, FoundStates.
+-- Main statements: In_one, any_by, any_from, all_by, any_In.
+-- Used by: ArcsOfStates, and the folder reversing.
 -- Idea: induction on the list.
 use Rattle.determinize_nfa.proofs.Common.{Bool, In, In_cases, In_head, In_none, In_tail, List, [], and_parts, by_test}
-use Rattle.determinize_nfa.proofs.Common.{eqb-true, false≢true, list_all, list_any, nat_eq, or_left, or_right, true}
-use Rattle.determinize_nfa.proofs.Common.{ℕ, ◌∷◌, ◌≡◌}
+use Rattle.determinize_nfa.proofs.Common.{eqb-true, false≢true, list_all, list_any, nat_eq, or_left, or_right, true, ℕ}
+use Rattle.determinize_nfa.proofs.Common.{◌∷◌, ◌≡◌}
+
+pub In_one : {A : Type 0} (x y : A) → In x (y ∷ []) → x ≡ y
+In_one x y k = In_cases x y [] k (λ e. e) (λ i. In_none x i)
 
 pub any_by : {A : Type 0} (p : A → Bool) (x : A) (xs : List A) → In x xs → p x ≡ true → list_any p xs ≡ true
 any_by p x [] k e = In_none x k

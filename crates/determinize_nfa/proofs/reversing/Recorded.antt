@@ -1,187 +1,288 @@
--- What the recorded transitions say of the NFA: each is a transition of it, and those of the states so far are there.
--- Main statements: the records IsSound, HasNode and IsRecorded, grown_then, node_stays.
--- Used by: all of this folder.
--- Idea: what is recorded only grows, and an entry keeps its place, so a fact of one entry stays true.
-use Rattle.determinize_nfa.proofs.Common.{Arc, Assertion, Bool, ByteRange, Free, In, In_append_cases, In_append_left}
-use Rattle.determinize_nfa.proofs.Common.{In_append_right, In_cases, In_head, In_none, IsClosed, List, Look, Nfa}
-use Rattle.determinize_nfa.proofs.Common.{Node, Range, Some, Test, Turned, [], added, ap, arcs_of, arith, by_cases}
-use Rattle.determinize_nfa.proofs.Common.{edges_of, get_or, get_or-set_other, inl, inr, length, length-set, matches}
-use Rattle.determinize_nfa.proofs.Common.{pattern_in, pattern_of, range_to, refl, reversed, slice_get, sources}
-use Rattle.determinize_nfa.proofs.Common.{state_at, suc, target_of, true, with_state, zero, ℕ, ◌++◌, ◌+◌, ◌<◌, ◌∙◌}
-use Rattle.determinize_nfa.proofs.Common.{◌∷◌, ◌≡◌, ◌⊎◌}
+-- What the recorded transitions say of the NFA: each is one of it, and those of the states so far are there.
+-- Main statements: all_recorded, over the records IsSound, HasNode and IsRecorded.
+-- Used by: BothWays, Validation and MadeNfa.
+-- Idea: what is recorded only grows, and an entry keeps its place, so a fact of one entry stays true; induction on the
+-- lists of the transitions and of the states.
+use Rattle.determinize_nfa.proofs.Common.{All_at, Arc, ByteRange, Fail, Free, In, In_append_cases, In_append_left}
+use Rattle.determinize_nfa.proofs.Common.{In_append_right, In_cases, In_head, In_none, In_tail, IsAccepted, IsClosed}
+use Rattle.determinize_nfa.proofs.Common.{List, Look, Match, Nfa, Node, None, Range, Some, Test, Turned, [], added, ap}
+use Rattle.determinize_nfa.proofs.Common.{arcs_of, arith, by_cases, cases_lt, each_passes, get_or, get_or-set_other}
+use Rattle.determinize_nfa.proofs.Common.{get_or_past, inl, inr, is_sparse_sound, length, length-replicate, length-set}
+use Rattle.determinize_nfa.proofs.Common.{next_of, none_turned, pattern_in, pattern_of, range_to, refl, replicate}
+use Rattle.determinize_nfa.proofs.Common.{reversed, slice_get, slice_get-get_or, sources, state_at, suc, sym, true}
+use Rattle.determinize_nfa.proofs.Common.{with_arc, with_arcs, with_end, with_node, with_nodes, with_state, zero, ℕ}
+use Rattle.determinize_nfa.proofs.Common.{◌++◌, ◌+◌, ◌<◌, ◌∙◌, ◌∷◌, ◌≡◌, ◌⊎◌}
 use Rattle.std.specs.Prelude.{slice_set}
+use Rattle.determinize_below.proofs.nfas.Edges.{state_past}
+use Rattle.determinize_below.specs.Semantics.{Capture}
+use Rattle.determinize_nfa.proofs.kinds.ArcsOfStates.{arc_resolves}
+use Rattle.determinize_nfa.proofs.kinds.TestedLists.{In_one}
+use Rattle.determinize_nfa.specs.Private.Turning.{IsTurnedOver}
 use Rattle.std.proofs.lemmas.Bool.{cases_eq}
-use Rattle.std.proofs.lemmas.List.{get_or-set_same}
+use Rattle.std.proofs.lemmas.List.{get_or-replicate, get_or-set_same}
 
--- the id of a state that reads a byte or tests an assertion
-abbrev pub id_of : Nfa → ℕ → ℕ
-id_of nfa i = length nfa.states + 2 + i
+-- the state with this transition alone
+abbrev pub alone : Arc → Node
+alone (Range r) = ByteRange r
+alone (Test look next) = Look look next
+alone (Free next) = Capture next
 
--- the state is a transition of the NFA to t, reversed
-abbrev pub IsArc : Nfa → ℕ → Node → Type 0
-IsArc nfa t (ByteRange r) = (b : ℕ) → matches r b ≡ true → target_of (Some b) (state_at nfa r.next) ≡ Some t
-IsArc nfa t (Look look next) =
-    (holds : Assertion → Bool) → holds (reversed look) ≡ true → In t (edges_of holds (state_at nfa next))
-IsArc nfa t _ = ⊥
+-- the transition in the other direction, to s
+abbrev pub turned_to : ℕ → Arc → Arc
+turned_to s (Range r) = Range record { start = r.start; end = r.end; next = s }
+turned_to s (Test look next) = Test (reversed look) s
+turned_to s (Free next) = Free s
 
--- the id is that of a state with a transition to t without input, of the match state if t is the
--- anchored start, or of a reversed transition to t
+-- the id of the recorded transition of s: s itself, or that of a state with the turned transition alone
+abbrev pub IsAt : ℕ → List Node → ℕ → ℕ → Arc → Type 0
+IsAt n rest y s (Free next) = y ≡ s
+IsAt n rest y s a = (i : ℕ) × (y ≡ n + 2 + i) × (slice_get rest i ≡ Some (alone (turned_to s a)))
+
+-- the id is that of a recorded transition to t, or of the match state if t is the anchored start
 abbrev pub IsSource : Nfa → List Node → ℕ → ℕ → Type 0
-IsSource nfa rest t y =
-    ((y < length nfa.states) × ((holds : Assertion → Bool) → In t (edges_of holds (state_at nfa y))))
-    ⊎ (((y ≡ length nfa.states) × (t ≡ nfa.start_anchored))
-    ⊎ ((i : ℕ) × (node : Node) × (y ≡ id_of nfa i) × (slice_get rest i ≡ Some node) × IsArc nfa t node))
+IsSource nfa rest t y = ((y ≡ length nfa.states) × (t ≡ nfa.start_anchored))
+    ⊎ ((s : ℕ) × (a : Arc) × In a (arcs_of (state_at nfa s)) × (next_of a ≡ t) × IsAt (length nfa.states) rest y s a)
 
 -- all that is recorded is of the NFA
 pub record IsSound (nfa : Nfa) (h : Turned) : Type 0 where
   pub count : length h.into ≡ length nfa.states
   pub into : (t y : ℕ) → In y (sources h t) → IsSource nfa h.rest t y
+  pub rest : (x : Node) → In x h.rest → (s : ℕ) × (a : Arc) × (s < length nfa.states) × (x ≡ alone (turned_to s a))
   pub ends : (s : ℕ) → In s h.ends → (pattern : ℕ) × (pattern_of nfa s ≡ Some pattern)
 
--- a state that reads or tests, and the transition from t to it, are recorded
-abbrev pub HasState : Nfa → Turned → ℕ → Node → Type 0
-HasState nfa h t node = (i : ℕ) × In (id_of nfa i) (sources h t) × (slice_get h.rest i ≡ Some node)
-
--- the transition of the state s is recorded, reversed
+-- the transition of the state s is recorded
 abbrev pub HasArc : Nfa → Turned → ℕ → Arc → Type 0
-HasArc nfa h s (Range r) = HasState nfa h r.next (range_to s r)
-HasArc nfa h s (Test look next) = HasState nfa h next (Look (reversed look) s)
-HasArc nfa h s (Free next) = In s (sources h next)
+HasArc nfa h s a = (y : ℕ) × In y (sources h (next_of a)) × IsAt (length nfa.states) h.rest y s a
 
 -- the state s, which is this one, is recorded with all of its transitions
 pub record HasNode (nfa : Nfa) (h : Turned) (s : ℕ) (node : Node) : Type 0 where
   pub ends : (pattern : ℕ) → pattern_in node ≡ Some pattern → In s h.ends
-  pub arcs : (arc : Arc) → In arc (arcs_of node) → HasArc nfa h s arc
-
--- what was recorded stays
-pub record IsGrown (old new : Turned) : Type 0 where
-  pub into : (t y : ℕ) → In y (sources old t) → In y (sources new t)
-  pub rest : (i : ℕ) (node : Node) → slice_get old.rest i ≡ Some node → slice_get new.rest i ≡ Some node
-  pub ends : (s : ℕ) → In s old.ends → In s new.ends
+  pub arcs : (a : Arc) → In a (arcs_of node) → HasArc nfa h s a
 
 -- the transitions of a closed list of states are recorded, and no others
 pub record IsRecorded (nfa : Nfa) (met : List ℕ) (h : Turned) : Type 0 where
   pub closed : IsClosed nfa met
+  pub ascends : (s : ℕ) → is_sparse_sound (state_at nfa s) ≡ true
   pub sound : IsSound nfa h
   pub begins : In (length nfa.states) (sources h nfa.start_anchored)
   pub nodes : (s : ℕ) → In s met → HasNode nfa h s (state_at nfa s)
 
-pub grown_self : (h : Turned) → IsGrown h h
-grown_self h = record { into = λ t y k. k; rest = λ i node k. k; ends = λ s k. k }
+-- what one record of transitions is to a later one
+record IsMore (nfa : Nfa) (old new : Turned) : Type 0 where
+  sound : IsSound nfa new
+  into : (t y : ℕ) → In y (sources old t) → In y (sources new t)
+  rest : (i : ℕ) (x : Node) → slice_get old.rest i ≡ Some x → slice_get new.rest i ≡ Some x
+  ends : (s : ℕ) → In s old.ends → In s new.ends
 
-pub grown_then : (a b c : Turned) → IsGrown a b → IsGrown b c → IsGrown a c
-grown_then a b c f g = record {
-  into = λ t y k. g.into t y (f.into t y k);
-  rest = λ i node k. g.rest i node (f.rest i node k);
-  ends = λ s k. g.ends s (f.ends s k);
-}
-
--- what was recorded of a state stays
-pub arc_stays : (nfa : Nfa) (old new : Turned) (s : ℕ) (arc : Arc) → IsGrown old new → HasArc nfa old s arc
-    → HasArc nfa new s arc
-arc_stays nfa old new s (Range r) g d = (d.0, g.into r.next (id_of nfa d.0) d.1, g.rest d.0 (range_to s r) d.2)
-arc_stays nfa old new s (Test look next) g d =
-    (d.0, g.into next (id_of nfa d.0) d.1, g.rest d.0 (Look (reversed look) s) d.2)
-arc_stays nfa old new s (Free next) g d = g.into next s d
-
-pub node_stays : (nfa : Nfa) (old new : Turned) (s : ℕ) (node : Node) → IsGrown old new → HasNode nfa old s node
-    → HasNode nfa new s node
-node_stays nfa old new s node g a = record {
-  ends = λ pattern e. g.ends s (a.ends pattern e);
-  arcs = λ arc k. arc_stays nfa old new s arc g (a.arcs arc k);
-}
-
--- an id that goes to the end of one list: there, and elsewhere
+-- an id that goes to the end of one list: it is there, and what was there stays
 module _ (into : List (List ℕ)) (t y : ℕ) (l : t < length into) where
   abbrev longer : List (List ℕ)
   longer = slice_set into t (get_or into t [] ++ y ∷ [])
 
-  same_there : get_or longer t [] ≡ get_or into t [] ++ y ∷ []
-  same_there = get_or-set_same into t (get_or into t [] ++ y ∷ []) [] l
+  at_place : get_or longer t [] ≡ get_or into t [] ++ y ∷ []
+  at_place = get_or-set_same into t (get_or into t [] ++ y ∷ []) [] l
 
-  elsewhere : (u : ℕ) → (u ≡ t → ⊥) → get_or longer u [] ≡ get_or into u []
-  elsewhere u n = get_or-set_other into t u (get_or into t [] ++ y ∷ []) [] n
+  elsewhere : (v : ℕ) → (v ≡ t → ⊥) → get_or longer v [] ≡ get_or into v []
+  elsewhere v n = get_or-set_other into t v (get_or into t [] ++ y ∷ []) [] n
 
-  pub stays_in : (u z : ℕ) → In z (get_or into u []) → In z (get_or longer u [])
-  stays_in u z k = by_cases (cases_eq u t)
-      (λ e. rw (e, same_there) (In_append_left z (get_or into t []) (y ∷ []) (rw e at k)))
-      (λ n. rw (elsewhere u n) k)
+  stays_in : (v z : ℕ) → In z (get_or into v []) → In z (get_or longer v [])
+  stays_in v z k = by_cases (cases_eq v t)
+      (λ e. rw (e, at_place) (In_append_left z (get_or into t []) (y ∷ []) (rw e at k)))
+      (λ n. rw (elsewhere v n) k)
 
-  pub is_there : In y (get_or longer t [])
-  is_there = rw same_there (In_append_right y (get_or into t []) (y ∷ []) (In_head y []))
-
-  pub came_in : {P : Type 0} (u z : ℕ) → In z (get_or longer u []) → (In z (get_or into u []) → P)
-      → (u ≡ t → z ≡ y → P) → P
-  came_in u z k f g = by_cases (cases_eq u t)
-      (λ e. In_append_cases z (get_or into t []) (y ∷ []) (rw (e, same_there) at k)
+  came_in : {P : Type 0} (v z : ℕ) → In z (get_or longer v []) → (In z (get_or into v []) → P)
+      → (t ≡ v → y ≡ z → P) → P
+  came_in v z k f g = by_cases (cases_eq v t)
+      (λ e. In_append_cases z (get_or into t []) (y ∷ []) (rw (e, at_place) at k)
       (λ d. f (rw e d))
-      (λ d. In_cases z y [] d (λ w. g e w) (λ w. In_none z w)))
-      (λ n. f (rw (elsewhere u n) at k))
+      (λ d. g (sym e) (sym (In_one z y d))))
+      (λ n. f (rw (elsewhere v n) at k))
 
-pub slice_get-left : {A : Type 0} (xs ys : List A) (i : ℕ) (x : A) → slice_get xs i ≡ Some x
+slice_get-left : {A : Type 0} (xs ys : List A) (i : ℕ) (x : A) → slice_get xs i ≡ Some x
     → slice_get (xs ++ ys) i ≡ Some x
 slice_get-left [] ys i x e = cc
 slice_get-left (z ∷ xs) ys zero x e = e
 slice_get-left (z ∷ xs) ys (suc i) x e = slice_get-left xs ys i x e
 
-slice_get-last : (xs : List Node) (x : Node) → slice_get (xs ++ x ∷ []) (length xs) ≡ Some x
+slice_get-last : {A : Type 0} (xs : List A) (x : A) → slice_get (xs ++ x ∷ []) (length xs) ≡ Some x
 slice_get-last [] x = refl
 slice_get-last (z ∷ xs) x = slice_get-last xs x
 
--- sources stay sources where states are added
-source_stays : (nfa : Nfa) (rest more : List Node) (t y : ℕ) → IsSource nfa rest t y → IsSource nfa (rest ++ more) t y
-source_stays nfa rest more t y d = by_cases d (λ f. inl f) (λ f. by_cases f (λ g. inr (inl g))
-    (λ g. inr (inr (g.0, g.1, g.2, slice_get-left rest more g.0 g.1 g.3, g.4))))
+at_stays : (n : ℕ) (old new : List Node) (y s : ℕ) (a : Arc)
+    → ((i : ℕ) (x : Node) → slice_get old i ≡ Some x → slice_get new i ≡ Some x) → IsAt n old y s a → IsAt n new y s a
+at_stays n old new y s (Range r) g d = (d.0, d.1, g d.0 (alone (turned_to s (Range r))) d.2)
+at_stays n old new y s (Test look next) g d = (d.0, d.1, g d.0 (alone (turned_to s (Test look next))) d.2)
+at_stays n old new y s (Free next) g d = d
 
-module _ (nfa : Nfa) (h : Turned) (sound : IsSound nfa h) where
-  within : (t : ℕ) → t < length nfa.states → t < length h.into
-  within t l = let c : length h.into ≡ length nfa.states = sound.count in omega arith
+module _ (nfa : Nfa) where
+  abbrev n : ℕ
+  n = length nfa.states
 
-  -- a transition without input
-  pub grown_added : (t y : ℕ) → t < length nfa.states → IsGrown h (added h t y)
-  grown_added t y l = record {
-    into = stays_in h.into t y (within t l);
-    rest = λ i node k. k;
-    ends = λ s k. k;
+  more_self : (h : Turned) → IsSound nfa h → IsMore nfa h h
+  more_self h sound = record { sound = sound; into = λ t y k. k; rest = λ i x e. e; ends = λ s k. k }
+
+  more_then : {a b c : Turned} → IsMore nfa a b → IsMore nfa b c → IsMore nfa a c
+  more_then f g = record {
+    sound = g.sound;
+    into = λ t y k. g.into t y (f.into t y k);
+    rest = λ i x e. g.rest i x (f.rest i x e);
+    ends = λ s k. g.ends s (f.ends s k);
   }
 
-  pub sound_added : (t y : ℕ) → t < length nfa.states → IsSource nfa h.rest t y → IsSound nfa (added h t y)
-  sound_added t y l d = record {
-    count = length-set h.into t (sources h t ++ y ∷ []) ∙ sound.count;
-    into = λ u z k. came_in h.into t y (within t l) u z k (λ f. sound.into u z f)
-        (λ e f. rw (e, f) d);
-    ends = sound.ends;
+  arc_stays : {old new : Turned} (s : ℕ) (a : Arc) → IsMore nfa old new → HasArc nfa old s a → HasArc nfa new s a
+  arc_stays s a m d = (d.0, m.into (next_of a) d.0 d.1, at_stays _ _ _ d.0 s a m.rest d.2)
+
+  -- one more id, of a transition of s that is recorded there, or of that to the anchored start
+  pushed_more : (h : Turned) (s y : ℕ) (a : Arc) (rest : List Node) → IsSound nfa h → next_of a < n
+      → ((i : ℕ) (x : Node) → slice_get h.rest i ≡ Some x → slice_get rest i ≡ Some x)
+      → ((x : Node) → In x rest → In x h.rest ⊎ ((s < n) × (x ≡ alone (turned_to s a))))
+      → IsAt n rest y s a → IsSource nfa rest (next_of a) y → (new : Turned) → new ≡ record {
+        into = slice_set h.into (next_of a) (sources h (next_of a) ++ y ∷ []);
+        rest = rest;
+        ends = h.ends;
+      }
+      → IsMore nfa h new × HasArc nfa new s a
+  pushed_more h s y a rest sound l stays came is source new e =
+      let c : length h.into ≡ n = sound.count in
+      let t = next_of a in
+      let within : t < length h.into = omega arith in rw e (
+        record {
+          sound = record {
+            count = length-set h.into t (sources h t ++ y ∷ []) ∙ c;
+            into = λ v z k. came_in h.into t y within v z k
+                (λ i. by_cases (sound.into v z i) inl (λ d. inr (d.0, d.1, d.2, d.3, at_stays _ _ _ z d.0 d.1 stays d.4)))
+                (λ p q. rw (p, q) at source);
+            rest = λ x k. by_cases (came x k) (sound.rest x) (λ d. (s, a, d.0, d.1));
+            ends = sound.ends;
+          };
+          into = stays_in h.into t y within;
+          rest = stays;
+          ends = λ x k. k;
+        },
+        (y, rw (at_place h.into t y within) (In_append_right y (sources h t) (y ∷ []) (In_head y [])), is),
+      )
+
+  -- the match state, for the anchored start
+  begin_more : (h : Turned) → IsSound nfa h → nfa.start_anchored < n → IsMore nfa h (added h nfa.start_anchored n)
+      × HasArc nfa (added h nfa.start_anchored n) n (Free nfa.start_anchored)
+  begin_more h sound l = pushed_more h n n (Free nfa.start_anchored) h.rest sound l (λ i x e. e) (λ x k. inl k) refl
+      (inl (refl, refl)) _ refl
+
+  module _ (accepted : IsAccepted nfa) (s : ℕ) (low : s < n) where
+    -- one transition of the state s
+    arc_more : (h : Turned) (a : Arc) → IsSound nfa h → In a (arcs_of (state_at nfa s))
+        → IsMore nfa h (with_arc h s a) × HasArc nfa (with_arc h s a) s a
+    arc_more h a sound k = by_kind a k
+      where
+        target_below : (a : Arc) → In a (arcs_of (state_at nfa s)) → next_of a < n
+        target_below a k = arc_resolves n (state_at nfa s) a
+            (each_passes nfa accepted s (state_at nfa s) (slice_get-get_or nfa.states s Fail low)).resolves k
+
+        last : (x : Node) → (i : ℕ) × (length h.into + 2 + length h.rest ≡ n + 2 + i)
+            × (slice_get (h.rest ++ x ∷ []) i ≡ Some x)
+        last x = (length h.rest, ap (λ c. c + 2 + length h.rest) sound.count, slice_get-last h.rest x)
+
+        by_state : (a : Arc) → In a (arcs_of (state_at nfa s))
+            → IsAt n (h.rest ++ alone (turned_to s a) ∷ []) (length h.into + 2 + length h.rest) s a
+            → IsMore nfa h (with_state h (next_of a) (alone (turned_to s a)))
+            × HasArc nfa (with_state h (next_of a) (alone (turned_to s a))) s a
+        by_state a k is = pushed_more h s _ a _ sound (target_below a k)
+            (slice_get-left h.rest (alone (turned_to s a) ∷ []))
+            (λ x i. In_append_cases x h.rest (alone (turned_to s a) ∷ []) i inl (λ d. inr (low, In_one x _ d)))
+            is (inr (s, a, k, refl, is)) _ refl
+
+        by_kind : (a : Arc) → In a (arcs_of (state_at nfa s))
+            → IsMore nfa h (with_arc h s a) × HasArc nfa (with_arc h s a) s a
+        by_kind (Range r) k = by_state (Range r) k (last (range_to s r))
+        by_kind (Test look next) k = by_state (Test look next) k (last (Look (reversed look) s))
+        by_kind (Free next) k = pushed_more h s s (Free next) h.rest sound (target_below (Free next) k) (λ i x e. e)
+            (λ x i. inl i) refl (inr (s, Free next, k, refl, refl)) _ refl
+
+    arcs_more : (h : Turned) (arcs : List Arc) → IsSound nfa h
+        → ((a : Arc) → In a arcs → In a (arcs_of (state_at nfa s)))
+        → IsMore nfa h (with_arcs h s arcs) × ((a : Arc) → In a arcs → HasArc nfa (with_arcs h s arcs) s a)
+    arcs_more h [] sound f = (more_self h sound, λ a k. In_none a k)
+    arcs_more h (x ∷ arcs) sound f =
+        let first = arc_more h x sound (f x (In_head x arcs)) in
+        let all = arcs_more (with_arc h s x) arcs first.0.sound (λ a k. f a (In_tail a x arcs k)) in (
+          more_then first.0 all.0,
+          λ a k. In_cases a x arcs k (λ e. rw e (arc_stays s x all.0 first.1)) (all.1 a),
+        )
+
+    -- the state itself, if it has a pattern
+    end_more : (h : Turned) (node : Node) → state_at nfa s ≡ node → IsSound nfa h → IsMore nfa h (with_end h s node)
+        × ((pattern : ℕ) → pattern_in node ≡ Some pattern → In s (with_end h s node).ends)
+    end_more h (Match p) e sound = (
+      record {
+        sound = record {
+          count = sound.count;
+          into = sound.into;
+          rest = sound.rest;
+          ends = λ x k. In_append_cases x h.ends (s ∷ []) k (sound.ends x)
+              (λ i. (p, rw (In_one x s i) (ap pattern_in e)));
+        };
+        into = λ t y k. k;
+        rest = λ i x k. k;
+        ends = λ x k. In_append_left x h.ends (s ∷ []) k;
+      },
+      λ pattern z. In_append_right s h.ends (s ∷ []) (In_head s []),
+    )
+    end_more h node e sound = (more_self h sound, λ pattern z. absurd (let k : None ≡ Some pattern = z in cc))
+
+    node_more : (h : Turned) → IsSound nfa h → IsMore nfa h (with_node h s (state_at nfa s))
+        × HasNode nfa (with_node h s (state_at nfa s)) s (state_at nfa s)
+    node_more h sound =
+        let node = state_at nfa s in
+        let arcs = arcs_more h (arcs_of node) sound (λ a k. k) in
+        let end = end_more (with_arcs h s (arcs_of node)) node refl arcs.0.sound in (
+          more_then arcs.0 end.0,
+          record { ends = end.1; arcs = λ a k. arc_stays s a end.0 (arcs.1 a k) },
+        )
+
+  -- the states of a list
+  nodes_more : IsAccepted nfa → (h : Turned) (ss : List ℕ) → IsSound nfa h → ((s : ℕ) → In s ss → s < n)
+      → IsMore nfa h (with_nodes nfa h ss)
+      × ((s : ℕ) → In s ss → HasNode nfa (with_nodes nfa h ss) s (state_at nfa s))
+  nodes_more accepted h [] sound f = (more_self h sound, λ s k. In_none s k)
+  nodes_more accepted h (x ∷ ss) sound f =
+      let first = node_more accepted x (f x (In_head x ss)) h sound in
+      let all = nodes_more accepted (with_node h x (state_at nfa x)) ss first.0.sound
+      (λ s k. f s (In_tail s x ss k)) in (
+        more_then first.0 all.0,
+        λ s k. In_cases s x ss k
+            (λ e. rw e (record {
+              ends = λ p z. all.0.ends x (first.1.ends p z);
+              arcs = λ a i. arc_stays x a all.0 (first.1.arcs a i);
+            }))
+            (all.1 s),
+      )
+
+  none_sound : IsSound nfa (none_turned n)
+  none_sound = record {
+    count = length-replicate n [];
+    into = λ t y k. In_none y (rw (empty t) at k);
+    rest = λ x k. In_none x k;
+    ends = λ s k. In_none s k;
   }
+    where
+      empty : (t : ℕ) → sources (none_turned n) t ≡ []
+      empty t = by_cases (cases_lt t n)
+          (λ l. get_or-replicate n t [] [] l)
+          (λ l. let c : length (replicate {A = List ℕ} n []) ≡ n = length-replicate n [] in
+          get_or_past (replicate n []) t [] (omega arith))
 
-  pub there_added : (t y : ℕ) → t < length nfa.states → In y (sources (added h t y) t)
-  there_added t y l = is_there h.into t y (within t l)
-
-  -- a transition over a byte or an assertion
-  abbrev pub last_id : ℕ
-  last_id = length h.into + 2 + length h.rest
-
-  last_is : last_id ≡ id_of nfa (length h.rest)
-  last_is = ap (λ c. c + 2 + length h.rest) sound.count
-
-  pub grown_state : (t : ℕ) (node : Node) → t < length nfa.states → IsGrown h (with_state h t node)
-  grown_state t node l = record {
-    into = stays_in h.into t last_id (within t l);
-    rest = slice_get-left h.rest (node ∷ []);
-    ends = λ s k. k;
-  }
-
-  pub sound_state : (t : ℕ) (node : Node) → t < length nfa.states → IsArc nfa t node → IsSound nfa (with_state h t node)
-  sound_state t node l arc = record {
-    count = length-set h.into t (sources h t ++ last_id ∷ []) ∙ sound.count;
-    into = λ u z k. came_in h.into t last_id (within t l) u z k
-        (λ f. source_stays nfa h.rest (node ∷ []) u z (sound.into u z f))
-        (λ e f. inr (inr (length h.rest, node, f ∙ last_is, slice_get-last h.rest node, rw e arc)));
-    ends = sound.ends;
-  }
-
-  pub there_state : (t : ℕ) (node : Node) → t < length nfa.states → HasState nfa (with_state h t node) t node
-  there_state t node l = (
-    length h.rest,
-    rw (← last_is) (is_there h.into t last_id (within t l)),
-    slice_get-last h.rest node,
-  )
+  -- the transition to the anchored start, and all states
+  pub all_recorded : IsAccepted nfa → (h : Turned) (over : IsTurnedOver nfa h) → IsRecorded nfa over.met h
+  all_recorded accepted h over =
+      let within : (s : ℕ) → In s over.met → s < n = All_at (λ id. id < n) over.met over.below in
+      let begin = begin_more (none_turned n) none_sound (within nfa.start_anchored over.closed.start) in
+      let all = nodes_more accepted (added (none_turned n) nfa.start_anchored n) over.met begin.0.sound within in
+      rw (← over.is) (record {
+        closed = over.closed;
+        ascends = λ s. by_cases (cases_lt s n)
+            (λ l. (each_passes nfa accepted s (state_at nfa s) (slice_get-get_or nfa.states s Fail l)).ascends)
+            (λ l. rw (state_past nfa s l) refl);
+        sound = all.0.sound;
+        begins = all.0.into nfa.start_anchored n (rw begin.1.2 at begin.1.1);
+        nodes = all.1;
+      })

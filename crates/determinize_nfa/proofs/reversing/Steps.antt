@@ -3,12 +3,10 @@
 -- Used by: `add`, `add_nodes` and `end_states` of the reversal.
 -- Idea: a push to one list of a list of lists is the definition of `added`.
 use Rattle.determinize_nfa.proofs.Common.{Arc, Free, List, Match, Nfa, Node, Range, Some, Test, Turned, [], added, ap}
-use Rattle.determinize_nfa.proofs.Common.{append_assoc, arcs_of, arith, drop, drop-cons, get_or, get_or-map, length}
-use Rattle.determinize_nfa.proofs.Common.{length-replicate, length-set, map, map-append, map-set, none_turned, refl}
-use Rattle.determinize_nfa.proofs.Common.{replicate, set, slice_get, sources, state_at, suc, sym, turned_over}
-use Rattle.determinize_nfa.proofs.Common.{with_arc, with_arcs, with_end, with_node, with_nodes, ℕ, ◌++◌, ◌+◌, ◌<◌}
-use Rattle.determinize_nfa.proofs.Common.{◌∙◌, ◌∷◌, ◌≡◌, ◌≤◌}
-use Rattle.std.proofs.Math.ListN.{drop_of_length-le}
+use Rattle.determinize_nfa.proofs.Common.{append_assoc, arcs_of, get_or, get_or-map, length, length-replicate}
+use Rattle.determinize_nfa.proofs.Common.{length-set, map, map-append, map-set, none_turned, refl, replicate, set}
+use Rattle.determinize_nfa.proofs.Common.{slice_get, sources, sym, with_arc, with_arcs, with_end, with_node, with_nodes}
+use Rattle.determinize_nfa.proofs.Common.{ℕ, ◌++◌, ◌+◌, ◌<◌, ◌∙◌, ◌∷◌, ◌≡◌}
 use Rattle.std.specs.Prelude.{OnOk, if◌then◌else◌, is_ok}
 use Rattle.std.proofs.Common.{Err, Ok, Result}
 use Rattle.determinize_nfa.proofs.prefixes.Parts.{state_is}
@@ -60,40 +58,18 @@ count-end s node h = refl
 count-node : (s : ℕ) (node : Node) (h : Turned) → length (with_node h s node).into ≡ length h.into
 count-node s node h = count-end s node (with_arcs h s (arcs_of node)) ∙ count-arcs s (arcs_of node) h
 
-pub count-nodes : (nfa : Nfa) (ss : List ℕ) (h : Turned) → length (with_nodes nfa h ss).into ≡ length h.into
-count-nodes nfa [] h = refl
-count-nodes nfa (s ∷ ss) h = count-nodes nfa ss (with_node h s (state_at nfa s)) ∙ count-node s (state_at nfa s) h
+pub count-none : (nfa : Nfa)
+    → length (added (none_turned (length nfa.states)) nfa.start_anchored (length nfa.states)).into ≡ length nfa.states
+count-none nfa = length-set (replicate (length nfa.states) []) nfa.start_anchored _ ∙ length-replicate (length nfa.states) []
 
--- the states of a list, one by one
-pub record IsOver (nfa : Nfa) (whole h : Turned) (met : List ℕ) (k : ℕ) : Type 0 where
+-- the states of a list, one by one: those that are left
+pub record IsOver (nfa : Nfa) (whole h : Turned) (left : List ℕ) : Type 0 where
   pub count : length h.into ≡ length nfa.states
-  pub rest : whole ≡ with_nodes nfa h (drop k met)
+  pub rest : whole ≡ with_nodes nfa h left
 
-pub over_start : (nfa : Nfa) (met : List ℕ) (h : Turned)
-    → h ≡ added (none_turned (length nfa.states)) nfa.start_anchored (length nfa.states)
-    → IsOver nfa (turned_over nfa met) h met 0
-over_start nfa met h e = record {
-  count = ap (λ (t : Turned). length t.into) e
-      ∙ length-set (replicate (length nfa.states) []) nfa.start_anchored
-      (sources (none_turned (length nfa.states)) nfa.start_anchored ++ length nfa.states ∷ [])
-      ∙ length-replicate (length nfa.states) [];
-  rest = ap (λ t. with_nodes nfa t met) (sym e);
+pub over_more : (nfa : Nfa) (whole h : Turned) (s : ℕ) (all left : List ℕ) (node : Node) → IsOver nfa whole h all
+    → all ≡ s ∷ left → slice_get nfa.states s ≡ Some node → IsOver nfa whole (with_node h s node) left
+over_more nfa whole h s all left node o e n = record {
+  count = count-node s node h ∙ o.count;
+  rest = rw (e, state_is nfa s node n) at o.rest;
 }
-
-pub over_more : (nfa : Nfa) (whole h new : Turned) (met : List ℕ) (k s : ℕ) (node : Node) → IsOver nfa whole h met k
-    → k < length met → get_or met k 0 ≡ s → slice_get nfa.states s ≡ Some node → new ≡ with_node h s node
-    → IsOver nfa whole new met (k + 1)
-over_more nfa whole h new met k s node o l e n w =
-    let z : suc k ≡ k + 1 = omega arith in
-    let items : drop k met ≡ s ∷ drop (k + 1) met
-    = drop-cons met k 0 l ∙ ap (λ x. x ∷ drop (suc k) met) e ∙ ap (λ x. s ∷ drop x met) z in
-    record {
-      count = ap (λ (t : Turned). length t.into) w ∙ count-node s node h ∙ o.count;
-      rest = o.rest ∙ ap (λ x. with_nodes nfa h x) items
-          ∙ ap (λ x. with_nodes nfa (with_node h s x) (drop (k + 1) met)) (state_is nfa s node n)
-          ∙ ap (λ t. with_nodes nfa t (drop (k + 1) met)) (sym w);
-    }
-
-pub over_all : (nfa : Nfa) (whole h : Turned) (met : List ℕ) (k : ℕ) → IsOver nfa whole h met k → length met ≤ k
-    → whole ≡ h
-over_all nfa whole h met k o l = o.rest ∙ ap (λ x. with_nodes nfa h x) (drop_of_length-le met l)

@@ -1,17 +1,19 @@
 -- Where a choice of a run leads: over a byte to the next position, without input to the same one, and always to a state
 -- that the state has a transition to.
--- Main statements: choice_cases, choice_later, choice_leads, and the same under any assertions (choices_under).
+-- Main statements: choice_cases, choice_arc, arc_choice, choice_later, choice_leads, and some of them under any
+-- assertions (choices_under).
 -- Used by: all that follows a run step by step.
 -- Idea: the choices at a pair are the byte transitions, then the epsilon ones (`run_edges`).
-use Rattle.determinize_nfa.proofs.Common.{Assertion, Bool, Free, In, In_append_cases, In_append_left, In_append_right}
-use Rattle.determinize_nfa.proofs.Common.{In_cases, In_map, In_map_from, In_none, List, Nfa, Node, None, Option}
-use Rattle.determinize_nfa.proofs.Common.{Range, Some, Test, Text, [], after_at, ap, arith, before_at, byte_edges}
-use Rattle.determinize_nfa.proofs.Common.{choices, edges, edges_of, leads_to, map, placed, refl, slice_get, state_at}
-use Rattle.determinize_nfa.proofs.Common.{suc, target_of, true, true_edges, truth, ℕ, ◌≡◌, ◌≤◌}
+use Rattle.determinize_nfa.proofs.Common.{Arc, Assertion, Bool, Free, In, In_append_cases, In_append_left}
+use Rattle.determinize_nfa.proofs.Common.{In_append_right, In_cases, In_head, In_map, In_map_from, In_none, List, Nfa}
+use Rattle.determinize_nfa.proofs.Common.{None, Option, Range, Some, Test, Text, [], after_at, ap, arcs_of, arith}
+use Rattle.determinize_nfa.proofs.Common.{before_at, byte_edges, choices, edges, is_sparse_sound, leads_to, map}
+use Rattle.determinize_nfa.proofs.Common.{next_of, placed, refl, slice_get, state_at, suc, target_of, true, true_edges}
+use Rattle.determinize_nfa.proofs.Common.{truth, ℕ, ◌≡◌, ◌≤◌}
 use Rattle.std.specs.Option.{option_to_list}
 use Rattle.ordered_reach.specs.Runs.{run_edges}
-use Rattle.determinize_nfa.proofs.kinds.ArcsOfStates.{arc_leads, byte_arc, edge_arc}
-use Rattle.determinize_nfa.proofs.kinds.OneArc.{no_end}
+use Rattle.determinize_nfa.proofs.kinds.ArcsOfStates.{IsTaken, Takes, arc_leads, arc_reads, byte_taken, edge_in}
+use Rattle.determinize_nfa.proofs.kinds.ArcsOfStates.{edge_taken}
 
 In_option : {A : Type 0} (o : Option A) (x : A) → In x (option_to_list o) → o ≡ Some x
 In_option None x h = In_none x h
@@ -73,23 +75,30 @@ pub choice_later : (nfa : Nfa) (text : Text) (p q : ℕ × ℕ) (c : ℕ) → sl
     → p.0 ≤ q.0
 choice_later nfa text = under_later nfa text (true_at nfa text)
 
--- an edge without input leads where the state leads
-edge_leads : (holds : Assertion → Bool) (node : Node) (t : ℕ) → In t (edges_of holds node) → leads_to t node ≡ true
-edge_leads holds node t k = edge_arc holds node t k
-    (λ i. arc_leads (Free t) node i)
-    (λ look i e. arc_leads (Test look t) node i)
+-- a choice is a transition of the state
+pub choice_arc : (nfa : Nfa) (text : Text) (h : ℕ → Assertion → Bool) (p q : ℕ × ℕ) (c : ℕ)
+    → slice_get (choices_under nfa text h p) c ≡ Some q
+    → IsTaken (slice_get text.bytes p.0) (h p.0) p.0 q.0 (state_at nfa p.1) q.1
+choice_arc nfa text h p q c e = under_cases nfa text h p q c e
+    (λ z m. rw z (byte_taken (slice_get text.bytes p.0) (h p.0) (state_at nfa p.1) p.0 q.1 m))
+    (λ z m. rw z (edge_taken (slice_get text.bytes p.0) (h p.0) (state_at nfa p.1) p.0 q.1 m))
 
--- and so does a byte
-target_leads : (u : Option ℕ) (node : Node) (t : ℕ) → target_of u node ≡ Some t → leads_to t node ≡ true
-target_leads None node t e = no_end node t e
-target_leads (Some b) node t e = let d = byte_arc node b t e in rw d.2 at (arc_leads (Range d.0) node d.1)
+-- and each transition is a choice, where it leads on
+pub arc_choice : (nfa : Nfa) (text : Text) (i k s : ℕ) (a : Arc) → is_sparse_sound (state_at nfa s) ≡ true
+    → In a (arcs_of (state_at nfa s)) → Takes (slice_get text.bytes i) (true_at nfa text i) i k a
+    → In (k, next_of a) (choices nfa text (i, s))
+arc_choice nfa text i k s (Range r) h d t = rw t.0
+    (byte_choice nfa text i s r.next (rw t.2 (arc_reads (state_at nfa s) r t.1 h d t.3)))
+arc_choice nfa text i k s (Test look next) h d t = rw t.0 (free_choice nfa text i s next
+    (edge_in (true_at nfa text i) (state_at nfa s) (Test look next) next d (rw t.1 (In_head next []))))
+arc_choice nfa text i k s (Free next) h d t = rw t (free_choice nfa text i s next
+    (edge_in (true_at nfa text i) (state_at nfa s) (Free next) next d (In_head next [])))
 
 -- a choice leads where the state leads
 pub under_leads : (nfa : Nfa) (text : Text) (h : ℕ → Assertion → Bool) (p q : ℕ × ℕ) (c : ℕ)
     → slice_get (choices_under nfa text h p) c ≡ Some q → leads_to q.1 (state_at nfa p.1) ≡ true
-under_leads nfa text h p q c e = under_cases nfa text h p q c e
-    (λ z m. target_leads (slice_get text.bytes p.0) (state_at nfa p.1) q.1 m)
-    (λ z m. edge_leads _ (state_at nfa p.1) q.1 m)
+under_leads nfa text h p q c e =
+    let d = choice_arc nfa text h p q c e in rw d.2 at (arc_leads d.0 (state_at nfa p.1) d.1)
 
 pub choice_leads : (nfa : Nfa) (text : Text) (p q : ℕ × ℕ) (c : ℕ) → slice_get (choices nfa text p) c ≡ Some q
     → leads_to q.1 (state_at nfa p.1) ≡ true

@@ -3,8 +3,8 @@
 -- Used by: `laws::mirror_law`, and the search backward and the runs of a reversed NFA.
 -- Idea: an element of a reversed list is the one as far from the other end.
 use Rattle.determinize_nfa.proofs.Common.{List, None, Option, Some, Text, [], after_at, ap, arith, before_at, get_or}
-use Rattle.determinize_nfa.proofs.Common.{length, option_or, refl, slice_get, slice_get-get_or, suc, sym, take}
-use Rattle.determinize_nfa.proofs.Common.{turned, upto, zero, ℕ, ◌+◌, ◌-◌, ◌<◌, ◌∙◌, ◌∷◌, ◌≡◌, ◌≤◌}
+use Rattle.determinize_nfa.proofs.Common.{length, option_or, refl, slice_get, slice_get-get_or, suc, sym, take, turned}
+use Rattle.determinize_nfa.proofs.Common.{upto, zero, ℕ, ◌+◌, ◌-◌, ◌<◌, ◌∙◌, ◌∷◌, ◌≡◌, ◌≤◌}
 use Rattle.std.specs.Prelude.{reverse}
 use Rattle.std.proofs.lemmas.List.{get_or-reverse, length-reverse, length-take-le}
 use Rattle.std.proofs.lemmas.Option.{slice_get_past}

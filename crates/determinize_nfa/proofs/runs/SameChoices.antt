@@ -3,9 +3,9 @@
 -- Used by: runs over a text up to a position (Cuts).
 -- Idea: the choices at a pair depend on the next byte and on the assertions there, and no state has transitions of both
 -- kinds.
-use Rattle.determinize_nfa.proofs.Common.{Assertion, Bool, In, In_none, List, Look, Nfa, Node, None, Option, Some}
-use Rattle.determinize_nfa.proofs.Common.{Text, [], ap, arith, by_cases, by_test, edges, edges_of, map, placed}
-use Rattle.determinize_nfa.proofs.Common.{slice_get, state_at, suc, sym, target, true, ℕ, ◌++◌, ◌∙◌, ◌∷◌, ◌≡◌}
+use Rattle.determinize_nfa.proofs.Common.{Assertion, Bool, In, In_none, List, Look, Nfa, Node, None, Option, Some, Text}
+use Rattle.determinize_nfa.proofs.Common.{[], ap, arith, by_cases, by_test, edges, edges_of, map, placed, slice_get}
+use Rattle.determinize_nfa.proofs.Common.{state_at, suc, sym, target, true, ℕ, ◌++◌, ◌∙◌, ◌∷◌, ◌≡◌}
 use Rattle.determinize_below.specs.Edges.{is_capture}
 use Rattle.determinize_below.proofs.nfas.Edges.{edges-capture, edges-or-target, next_of, target-capture}
 use Rattle.determinize_nfa.proofs.runs.Choices.{choices_under, under_cases}

@@ -6,7 +6,7 @@ use Rattle.determinize_nfa.proofs.Common.{AcceptsFrom, IsPath, List, Nfa, Text, 
 use Rattle.determinize_nfa.proofs.Common.{byte_edges, choices, drop, edges, map, map-append, option_or, placed, refl}
 use Rattle.determinize_nfa.proofs.Common.{same_pairs, slice_get, suc, sym, target, true_edges, truth, zero, ℕ, ◌++◌}
 use Rattle.determinize_nfa.proofs.Common.{◌+◌, ◌∙◌, ◌∷◌, ◌≡◌, ◌≤◌}
-use Rattle.determinize_nfa.specs.Laws.{EachRunReadsForward, EachRunMoves}
+use Rattle.determinize_nfa.specs.Laws.{EachRunMoves, EachRunReadsForward}
 use Rattle.determinize_nfa.specs.Runs.{since}
 use Rattle.determinize_nfa.proofs.runs.Choices.{choice_later}
 use Rattle.ordered_reach.proofs.graph.PathMaps.{path_map, path_unmap}

@@ -1,10 +1,8 @@
-use Rattle.determinize_nfa.proofs.Common.{IfErr-weaker, IfOk-weaker, Nfa, ap, arith, if_err_and, inl, length}
-use Rattle.determinize_nfa.proofs.Common.{looks_of, map, most_states, node_of, not, states_of, suc, sym, ◌+◌, ◌<◌}
-use Rattle.determinize_nfa.proofs.Common.{◌∙◌, ◌≡◌}
+use Rattle.determinize_nfa.proofs.Common.{IfErr-weaker, IfOk-weaker, Nfa, ap, arith, if_err_and, inl, length, looks_of}
+use Rattle.determinize_nfa.proofs.Common.{map, most_states, node_of, not, refl, suc, sym, ◌+◌, ◌<◌, ◌∙◌, ◌≡◌}
 use Rattle.determinize_nfa.proofs.Limits.{too_many}
-use Rattle.determinize_nfa.proofs.reversing.MadeNfa.{made_error, made_match, made_of_all}
+use Rattle.determinize_nfa.proofs.reversing.MadeNfa.{made_error, made_match, made_of_all, most}
 use Rattle.determinize_nfa.proofs.reversing.BothWays.{IsMadeOf}
-use Rattle.determinize_nfa.proofs.reversing.Counts.{length-states_most}
 use Rattle.determinize_nfa.proofs.reversal.reversed.Goals as goal
 
 pub returns-in_err-begin-clause-err : goal.returns-in_err-begin-clause-err
@@ -38,50 +36,35 @@ pub returns : goal.returns
 returns g c =
     let over = c.in_ok-turned.ensures.ok in
     let turned = c.in_ok-turned.turned in
+    let accepted = c.len-count.ensures.accepted in
     let start : c.in_ok-start.start ≡ suc (length c.args.nfa.now.states)
     = omega (arith, c.in_ok-start.ensures.ok.1, c.len-count.ensures.count) in
     let cases = c.in_ok-matcher.ensures.cases in
     let matcher : c.in_ok-matcher.matcher ≡ c.args.nfa.now.terminator
     = sym cases.3 ∙ cases.4 ∙ cases.2 ∙ c.look_matcher.ensures.value in
-    let states : map node_of c.in_ok-states.states.items ≡ states_of turned = c.in_ok-states.ensures in
-    let Built : Nfa → Type 0 = λ b. b ≡ record {
+    let made : (b : Nfa) → b ≡ record {
       states = map node_of c.in_ok-states.states.items;
       start_anchored = c.in_ok-start.start;
       start_unanchored = c.in_ok-start.start;
       reverse = not c.is_reverse.result;
       terminator = c.in_ok-matcher.matcher;
       look_set_any = looks_of (map node_of c.in_ok-states.states.items);
-    } in
-    let made : (b : Nfa) → Built b → IsMadeOf c.args.nfa.now b turned = λ b p. record {
-      direction = ap (λ (x : Nfa). x.reverse) p ∙ ap not c.is_reverse.ensures;
-      terminator = ap (λ (x : Nfa). x.terminator) p ∙ matcher;
-      start = ap (λ (x : Nfa). x.start_anchored) p ∙ start;
-      states = ap (λ (x : Nfa). x.states) p ∙ states;
-    } in
+    } → IsMadeOf c.args.nfa.now b turned = λ b p. rw p (record {
+      direction = ap not c.is_reverse.ensures;
+      terminator = matcher;
+      start = start;
+      states = c.in_ok-states.ensures;
+    }) in
     record {
       reverse = IfOk-weaker c.from_parts.result _ _
-          (λ b p. made_of_all c.args.nfa.now b over.met turned
-          c.len-count.ensures.accepted
-          over.closed over.below over.is (made b p))
-          c.from_parts.ensures.ok;
-      starts = IfOk-weaker c.from_parts.result _ _
-          (λ b p. ap (λ (x : Nfa). x.start_anchored) p ∙ sym (ap (λ (x : Nfa). x.start_unanchored) p))
-          c.from_parts.ensures.ok;
+          (λ b p. made_of_all c.args.nfa.now accepted turned over b (made b p)) c.from_parts.ensures.ok;
+      starts = IfOk-weaker c.from_parts.result _ _ (λ b p. rw p refl) c.from_parts.ensures.ok;
       pattern = IfOk-weaker c.from_parts.result _ _
-          (λ b p. made_match c.args.nfa.now b over.met turned
-          over.below over.is (made b p))
-          c.from_parts.ensures.ok;
+          (λ b p. made_match c.args.nfa.now accepted turned over b (made b p)) c.from_parts.ensures.ok;
       size = IfOk-weaker c.from_parts.result _ _
-          (λ b p. let n : length b.states ≡ length (states_of turned)
-          = ap (λ (x : Nfa). length x.states) p ∙ ap length states in
-          let m = length-states_most c.args.nfa.now over.met turned
-          over.distinct over.is over.count in omega (arith, n, m))
-          c.from_parts.ensures.ok;
-      err = IfErr-weaker c.from_parts.result
-          _ _
-          (λ e d. made_error c.args.nfa.now over.met turned
-          c.len-count.ensures.accepted over.closed over.below
-          over.distinct over.is c.in_ok-start.start e start
-          (rw states at d))
+          (λ b p. rw (made b p).states (most c.args.nfa.now accepted turned over)) c.from_parts.ensures.ok;
+      err = IfErr-weaker c.from_parts.result _ _
+          (λ e d. made_error c.args.nfa.now accepted turned over c.in_ok-start.start e start
+          (rw c.in_ok-states.ensures at d))
           c.from_parts.ensures.err;
     }

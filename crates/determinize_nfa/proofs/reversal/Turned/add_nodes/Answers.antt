@@ -1,12 +1,14 @@
-use Rattle.determinize_nfa.proofs.Common.{arith, each_passes, get_or, get_or_default_zero, if_err_and, inl, length}
-use Rattle.determinize_nfa.proofs.Common.{most_states, node_of, sym, total, turned_over, with_node, ◌<◌, ◌∙◌, ◌≡◌}
-use Rattle.determinize_nfa.proofs.reversing.Counts.{larger, room_node}
-use Rattle.determinize_nfa.proofs.reversing.Steps.{over_all, over_more, over_start}
+use Rattle.determinize_nfa.proofs.Common.{each_passes, if_err_and, inl, most_states, node_of, refl, ◌∙◌}
+use Rattle.determinize_nfa.proofs.reversing.Steps.{count-none, over_more}
+use Rattle.determinize_below.proofs.Moved.{next_of}
+use Rattle.std.proofs.Math.ListN.{drop_of_length-le}
+use Rattle.determinize_nfa.proofs.reversing.Counts.{larger, room}
 use Rattle.determinize_nfa.proofs.reversal.Turned.add_nodes.Goals as goal
 
 pub loop-id-init : goal.loop-id-init
-loop-id-init g c = over_start c.args.nfa.now c.args.ids.now c.add.new.self
-    (rw (c.requires.none, c.start_anchored.ensures.value, c.requires.begin) at c.in_ok-add.ensures.turned)
+loop-id-init g c =
+    rw (rw (c.requires.none, c.start_anchored.ensures.value, c.requires.begin) at c.in_ok-add.ensures.turned)
+    (record { count = count-none c.args.nfa.now; rest = refl })
 
 pub add_node-requires-clause-resolves : goal.add_node-requires-clause-resolves
 add_node-requires-clause-resolves g c =
@@ -15,34 +17,25 @@ add_node-requires-clause-resolves g c =
     (node_of c.state.result.now) c.state.ensures.state).resolves
 
 pub loop-id-preserved : goal.loop-id-preserved
-loop-id-preserved g c =
-    let low : c.loop-id.id-index < length c.args.ids.now = omega arith in
-    let item : get_or c.args.ids.now c.loop-id.id-index 0 ≡ c.id-item.result
-    = sym (get_or_default_zero c.args.ids.now c.loop-id.id-index c.id-item.result low)
-    ∙ sym c.id-item.is in
-    let new : c.add_node.new.self ≡ with_node c.loop-id.self c.id-item.result
-    (node_of c.state.result.now) = c.in_ok-add_node.ensures.turned in
-    over_more c.args.nfa.now (turned_over c.args.nfa.now c.args.ids.now) c.loop-id.self
-    c.add_node.new.self
-    c.args.ids.now c.loop-id.id-index c.id-item.result (node_of c.state.result.now) c.loop-id.invariant
-    low item c.state.ensures.state new
+loop-id-preserved g c = rw c.in_ok-add_node.ensures.turned
+    (over_more c.args.nfa.now _ c.loop-id.self c.id-item.result _ _ (node_of c.state.result.now) c.loop-id.invariant
+    (next_of c.args.ids.now c.loop-id.id-index c.id-item.result c.loop-id-test.true c.id-item.is)
+    c.state.ensures.state)
 
 pub returns-in_err-add_node-clause-err : goal.returns-in_err-add_node-clause-err
 returns-in_err-add_node-clause-err g c =
-    let low : c.loop-id.id-index < length c.args.ids.now = omega arith in
-    let item : get_or c.args.ids.now c.loop-id.id-index 0 ≡ c.id-item.result
-    = sym (get_or_default_zero c.args.ids.now c.loop-id.id-index c.id-item.result low)
-    ∙ sym c.id-item.is in
-    let room = room_node c.args.nfa.now c.args.ids.now c.loop-id.self c.loop-id.id-index c.id-item.result
-    (node_of c.state.result.now) c.requires.distinct c.loop-id.invariant low item c.state.ensures.state in
+    let over = over_more c.args.nfa.now _ c.loop-id.self c.id-item.result _ _ (node_of c.state.result.now)
+    c.loop-id.invariant
+    (next_of c.args.ids.now c.loop-id.id-index c.id-item.result c.loop-id-test.true c.id-item.is)
+    c.state.ensures.state in
     if_err_and c.from_residual-in_err-add_node.result _ _
-    (λ e h. rw h (larger (total (with_node c.loop-id.self c.id-item.result (node_of c.state.result.now)))
-    (most_states c.args.nfa.now) c.in_err-add_node.field-0.0 room c.in_err-add_node.ensures.err))
+    (λ e h. rw h (larger _ (most_states c.args.nfa.now) c.in_err-add_node.field-0.0
+    (room c.args.nfa.now c.args.ids.now _ _ c.requires.distinct over) c.in_err-add_node.ensures.err))
     c.from_residual-in_err-add_node.ensures.1
 
 pub returns-clause-turned : goal.returns-clause-turned
-returns-clause-turned g c = over_all c.args.nfa.now (turned_over c.args.nfa.now c.args.ids.now) c.loop-id.self
-    c.args.ids.now c.loop-id.id-index c.loop-id.invariant (omega arith)
+returns-clause-turned g c =
+    rw (drop_of_length-le c.args.ids.now c.loop-id-test.false) at c.loop-id.invariant.rest
 
 pub returns-clause-count : goal.returns-clause-count
 returns-clause-count g c = c.loop-id.invariant.count
