@@ -3,69 +3,32 @@
 -- Used by: `add`, `add_match`, `patch`, `close`, `build` and `build_with_prefix` of `Builder`.
 -- Idea: no state before the prefix has a transition to it, so only the skip has one to its start.
 use Rattle.determinize_nfa.proofs.Common.{BinaryUnion, Bool, BuildError, BuilderValue, ByteRange, Fail, HasPrefix}
-use Rattle.determinize_nfa.proofs.Common.{HasPrefixApart, ID_LIMIT, IsApart, IsUnfit, List, MAX_ID, Match, Nfa, Node}
-use Rattle.determinize_nfa.proofs.Common.{None, Option, OutOfMemory, Some, TooManyStates, [], ap, append_assoc, arith}
-use Rattle.determinize_nfa.proofs.Common.{built, by_cases, by_test, cases_lt, cond, failure, false, false≢true}
+use Rattle.determinize_nfa.proofs.Common.{HasPrefixApart, ID_LIMIT, IsApart, IsUnfit, List, MAX_ID, Node, None, Some}
+use Rattle.determinize_nfa.proofs.Common.{TooManyStates, [], ap, arith, built, by_cases, cases_lt, false, false≢true}
 use Rattle.determinize_nfa.proofs.Common.{get_or, get_or-map, inl, inr, leads_to, length, length-append, length-map}
-use Rattle.determinize_nfa.proofs.Common.{length-set, looks_of, map, map-append, map-set, nat_eq, nat_lt, nat_tests}
-use Rattle.determinize_nfa.proofs.Common.{prefixed, refl, set, subst, suc, sym, true, zero, ℕ, ◌++◌, ◌+◌, ◌-◌, ◌<◌}
-use Rattle.determinize_nfa.proofs.Common.{◌||◌, ◌∙◌, ◌∷◌, ◌≡◌, ◌≤◌, ◌⊎◌}
-use Rattle.std.proofs.lemmas.Bool.{or_cases}
+use Rattle.determinize_nfa.proofs.Common.{map, map-append, nat_eq, nat_lt, nat_tests, prefixed, refl, suc, sym, true}
+use Rattle.determinize_nfa.proofs.Common.{zero, ℕ, ◌++◌, ◌+◌, ◌-◌, ◌<◌, ◌||◌, ◌∙◌, ◌∷◌, ◌≡◌, ◌≤◌}
+use Rattle.std.proofs.lemmas.Bool.{lt-ltb, or_cases}
 use Rattle.ordered_reach.proofs.Cases.{or_false_left, or_false_right}
 use Rattle.std.specs.List.{position, position_or_len}
-use Rattle.std.proofs.Math.Seq.{map-set_same}
-use Rattle.std.proofs.lemmas.Bool.{lt-ltb}
 use Rattle.std.proofs.lemmas.List.{get_or-append-add, get_or_append_left}
 use Rattle.std.proofs.lemmas.List.Quantifiers.{position-Some}
 use Rattle.std.proofs.lemmas.List.Sums.{fails_before_first}
 use Rattle.determinize_below.specs.declared.nfa.BuildError.TheVariants.{UnresolvedId}
-use Rattle.determinize_nfa.specs.Builder.{has_transition_to, with_match, with_node}
-
--- one state of a list is changed
-module _ {V : Type 0} (f : V → Node) (xs : List V) (i : ℕ) where
-  pub node_there : (old : V) → i < length xs → old ≡ get_or xs i old → f old ≡ get_or (map f xs) i Fail
-  node_there old l e = ap f e ∙ sym (get_or-map f xs i old Fail l)
-
-  module _ (new : V) (patterns terminator : ℕ) where
-    pub set_is : (node : Node) → f new ≡ node → ◌≡◌ {A = BuilderValue}
-        record { states = map f (set xs i new); patterns = patterns; terminator = terminator }
-        record { states = set (map f xs) i node; patterns = patterns; terminator = terminator }
-    set_is node n = rw (map-set f xs i new, n) refl
-
-    pub set_none : (old : V) → old ≡ get_or xs i old → f new ≡ f old → ◌≡◌ {A = BuilderValue}
-        record { states = map f (set xs i new); patterns = patterns; terminator = terminator }
-        record { states = map f xs; patterns = patterns; terminator = terminator }
-    set_none old e n = rw (map-set_same f xs i new old (n ∙ ap f e)) refl
+use Rattle.determinize_nfa.specs.Builder.{has_transition_to}
 
 -- the states that a builder is seen as, of which the program looks at one
 module _ {V : Type 0} (f : V → Node) (xs : List V) {patterns terminator : ℕ} {b : BuilderValue}
-    (is : ◌≡◌ {A = BuilderValue} record { states = map f xs; patterns = patterns; terminator = terminator } b) where
-  pub length_is : length xs ≡ length b.states
-  length_is = sym (length-map xs f) ∙ ap (λ (c : BuilderValue). length c.states) is
+    (is : ◌≡◌ {A = BuilderValue} record { states = map f xs; patterns = patterns; terminator = terminator } b)
+    {i s : ℕ} (e : i ≡ s) (l : s < length b.states) where
+  pub index_within : i < length xs
+  index_within = let k : s < length (map f xs) = rw (← is) at l in omega (arith, length-map xs f, e)
 
-  pub count_is : (i : ℕ) (new : V) → length (map f (set xs i new)) ≡ length b.states
-  count_is i new = length-map (set xs i new) f ∙ length-set xs i new ∙ length_is
+  pub node_is : (x : V) → x ≡ get_or xs i x → get_or b.states s Fail ≡ f x
+  node_is x h = rw (← is, ← e, get_or-map f xs i x Fail index_within, ← h) refl
 
-  pub pushed_is : (ys : List V) (x : V) → ys ≡ xs ++ x ∷ []
-      → ◌≡◌ {A = BuilderValue} record { states = map f ys; patterns = patterns; terminator = terminator }
-      (with_node b (f x))
-  pushed_is ys x e = rw (e, map-append f xs (x ∷ [])) (ap (λ (c : BuilderValue). with_node c (f x)) is)
-
-  pub matched_is : (ys : List V) (x : V) → ys ≡ xs ++ x ∷ [] → f x ≡ Match patterns
-      → ◌≡◌ {A = BuilderValue} record { states = map f ys; patterns = patterns + 1; terminator = terminator }
-      (with_match b)
-  matched_is ys x e m = rw (e, map-append f xs (x ∷ []), m) (ap with_match is)
-
-  module _ {i s : ℕ} (e : i ≡ s) (l : s < length b.states) where
-    pub index_within : i < length xs
-    index_within = omega (arith, length_is, e, l)
-
-    pub node_is : (x : V) → x ≡ get_or xs i x → f x ≡ get_or b.states s Fail
-    node_is x h = node_there f xs i x index_within h
-        ∙ ap (λ (c : BuilderValue). get_or c.states i Fail) is ∙ ap (λ w. get_or b.states w Fail) e
-
-    pub same_node : (x y : V) → x ≡ get_or xs i x → y ≡ get_or xs i y → f x ≡ f y
-    same_node x y h k = node_is x h ∙ sym (node_is y k)
+  pub same_node : (x y : V) → x ≡ get_or xs i x → y ≡ get_or xs i y → f x ≡ f y
+  same_node x y h k = sym (node_is x h) ∙ node_is y k
 
 -- the rule for one more state
 pub ruleset pushing = (map-append)
@@ -77,29 +40,19 @@ module _ {V : Type 0} (f : V → Node) (p : Node → Bool) where
   len-map (x ∷ xs) = let h = len-map xs in rw h refl
 
   position-map : (xs : List V) → position (λ x. p (f x)) xs ≡ position p (map f xs)
-  position-map xs =
-      ap (λ w. cond (nat_lt w (length xs)) (Some w) None) (len-map xs)
-      ∙ ap (λ w. cond (nat_lt (position_or_len p (map f xs)) w) (Some (position_or_len p (map f xs))) None)
-      (sym (length-map xs f))
+  position-map xs = rw (len-map xs, length-map xs f) refl
 
   pub first_passes : (xs : List V) (i : ℕ) → position (λ x. p (f x)) xs ≡ Some i → p (get_or (map f xs) i Fail) ≡ true
   first_passes xs i e = (position-Some p (map f xs) i Fail (sym (position-map xs) ∙ e)).1
 
   pub none_passes : (xs : List V) → position (λ x. p (f x)) xs ≡ None
       → (s : ℕ) → s < length (map f xs) → p (get_or (map f xs) s Fail) ≡ false
-  none_passes xs e s l = by_test (nat_lt n (length (map f xs)))
-      (λ t. absurd (let k : Some n ≡ None = rw t at none in cc))
-      (λ t. let k : length (map f xs) ≤ n = past n (length (map f xs)) t in
-      fails_before_first p (map f xs) s Fail (omega arith))
+  none_passes xs e s l = fails_before_first p (map f xs) s Fail (past (rw (position-map xs) at e))
     where
-      n : ℕ
-      n = position_or_len p (map f xs)
-
-      none : cond (nat_lt n (length (map f xs))) (Some n) None ≡ None
-      none = sym (position-map xs) ∙ e
-
-      past : (a b : ℕ) → nat_lt a b ≡ false → b ≤ a
-      past a b e = grind (arith, nat_tests)
+      past : position p (map f xs) ≡ None → s < position_or_len p (map f xs)
+      past e = by_cases (cases_lt (position_or_len p (map f xs)) (length (map f xs)))
+          (λ k. absurd (let z : Some (position_or_len p (map f xs)) ≡ None = rw (lt-ltb _ _ k) at e in cc))
+          (λ k. omega arith)
 
 -- the prefix of a start
 module _ (b : BuilderValue) (start : ℕ) where
@@ -154,45 +107,20 @@ module _ (b : BuilderValue) (start : ℕ) where
       other : (n : ℕ) → nat_eq (suc n) n ≡ false
       other n = grind (arith, nat_tests)
 
--- as the program finds a state with a transition to the prefix, if any
-module _ {V : Type 0} (f : V → Node) (xs ys : List V) (b : BuilderValue) (union skip : ℕ) (found : Option ℕ)
-    (is : map f xs ≡ b.states) (e : union ≡ length b.states) (k : skip ≡ suc (length b.states)) (same : ys ≡ xs)
-    (first : found ≡ position (λ x. has_transition_to union skip (f x)) ys) where
-  at_first : position (λ x. has_transition_to union skip (f x)) xs ≡ found
-  at_first = ap (λ w. position (λ x. has_transition_to union skip (f x)) w) (sym same) ∙ sym first
+-- some state has a transition to the prefix, or none
+module _ (b : BuilderValue) (start union skip : ℕ) (e : union ≡ length b.states) (k : skip ≡ suc (length b.states)) where
+  pub is_ahead : (i : ℕ) → has_transition_to union skip (get_or b.states i Fail) ≡ true → IsUnfit b start (UnresolvedId i)
+  is_ahead i h = inr (inl (inr (by_cases
+      (or_cases (leads_to union (get_or b.states i Fail)) (leads_to skip (get_or b.states i Fail)) h)
+      (λ d. (i, union, refl, omega (arith, e), d))
+      (λ d. (i, skip, refl, omega (arith, k), d)))))
 
-  pub is_ahead : (start i : ℕ) → found ≡ Some i → IsUnfit b start (UnresolvedId i)
-  is_ahead start i p = by_cases
-      (or_cases (leads_to union (get_or b.states i Fail)) (leads_to skip (get_or b.states i Fail))
-      (rw is at (first_passes f (has_transition_to union skip) xs i (at_first ∙ p))))
-      (λ h. inr (inl (inr (i, union, refl, omega (arith, e), h))))
-      (λ h. inr (inl (inr (i, skip, refl, omega (arith, k), h))))
-
-  none_to : found ≡ None → (s : ℕ) → s < length b.states → has_transition_to union skip (get_or b.states s Fail) ≡ false
-  none_to p s l =
-      (rw is at (none_passes f (has_transition_to union skip) xs (at_first ∙ p))) s l
-
-  pub none_ahead : found ≡ None → IsApart b
-  none_ahead p = record {
-    union = λ s l. rw e at (or_false_left
-        (leads_to union (get_or b.states s Fail)) (leads_to skip (get_or b.states s Fail)) (none_to p s l));
-    skip = λ s l. rw k at (or_false_right
-        (leads_to union (get_or b.states s Fail)) (leads_to skip (get_or b.states s Fail)) (none_to p s l));
+  pub none_ahead : ((s : ℕ) → s < length b.states → has_transition_to union skip (get_or b.states s Fail) ≡ false)
+      → IsApart b
+  none_ahead f = record {
+    union = λ s l. rw (← e) (or_false_left _ _ (f s l));
+    skip = λ s l. rw (← k) (or_false_right _ _ (f s l));
   }
-
--- the NFA of some states
-pub built_is : (b : BuilderValue) (states : List Node) (terminator anchored u unanchored : ℕ) → states ≡ b.states
-    → terminator ≡ b.terminator → u ≡ unanchored → (nfa : Nfa)
-    → nfa ≡ record {
-      states = states;
-      start_anchored = anchored;
-      start_unanchored = u;
-      reverse = false;
-      terminator = terminator;
-      look_set_any = looks_of states;
-    }
-    → nfa ≡ built b anchored unanchored
-built_is b states terminator anchored u unanchored all same start nfa e = rw (all, start, same) at e
 
 pub unfit_too_many : (b : BuilderValue) (start n : ℕ) → n ≤ suc (length b.states) → (n ≤ MAX_ID → ⊥) → (e : BuildError)
     → e ≡ TooManyStates → IsUnfit b start e
@@ -200,51 +128,3 @@ unfit_too_many b start n within above e h =
     let many : nat_lt ID_LIMIT (length (prefixed b start).states) ≡ true
     = lt-ltb ID_LIMIT (length (prefixed b start).states) (simp length-append (omega arith)) in
     inl (rw many (ap Some (sym h)))
-
--- the states and the prefix, as the program puts them together
-pub record IsMade (b : BuilderValue) (start : ℕ) (states : List Node) (union terminator : ℕ) : Type 0 where
-  pub all : states ≡ (prefixed b start).states
-  pub first : union ≡ length b.states
-  pub same : terminator ≡ b.terminator
-
-pub made_of : (b : BuilderValue) (start : ℕ) (items states : List Node) (union skip patterns terminator : ℕ)
-    → ◌≡◌ {A = BuilderValue} record { states = items; patterns = patterns; terminator = terminator } b
-    → union ≡ length items → skip ≡ suc (length items)
-    → states ≡ (items ++ BinaryUnion start skip ∷ []) ++ ByteRange record { start = 0; end = 255; next = union } ∷ []
-    → IsMade b start states union terminator
-made_of b start items states union skip patterns terminator e u k w =
-    let i : items ≡ b.states = ap (λ (c : BuilderValue). c.states) e in
-    let n : union ≡ length b.states = u ∙ ap length i in
-    let m : skip ≡ suc (length b.states) = k ∙ ap (λ xs. suc (length xs)) i in
-    record {
-      all = rw (
-        w,
-        append_assoc items (BinaryUnion start skip ∷ [])
-            (ByteRange record { start = 0; end = 255; next = union } ∷ []),
-        m,
-        n,
-        i,
-      ) refl;
-      first = n;
-      same = ap (λ (c : BuilderValue). c.terminator) e;
-    }
-
-module _ (b : BuilderValue) (start : ℕ) (states : List Node) (union terminator : ℕ)
-    (m : IsMade b start states union terminator) where
-  pub made_is : (nfa : Nfa)
-      → nfa ≡ record {
-        states = states;
-        start_anchored = start;
-        start_unanchored = union;
-        reverse = false;
-        terminator = terminator;
-        look_set_any = looks_of states;
-      }
-      → nfa ≡ built (prefixed b start) start (length b.states)
-  made_is = built_is (prefixed b start) states terminator start union (length b.states) m.all m.same m.first
-
-  pub made_unfit : (e : BuildError) → (failure states start union ≡ Some e) ⊎ (e ≡ OutOfMemory) → IsUnfit b start e
-  made_unfit e d = by_cases d
-      (λ f. inl (ap (λ ys. failure ys start (length b.states)) (sym m.all) ∙ ap (failure states start) (sym m.first)
-      ∙ f))
-      (λ f. inr (inr f))
