@@ -1,13 +1,13 @@
 -- What a builder adds, and that the prefix which it puts before a start is the usual one.
--- Main statements: node_is, pushed_is, set_is, built_is, the record IsMade, made_of.
--- Used by: `add`, `add_match`, `patch`, `close`, `build` and `build_with_prefix` of `Builder`.
+-- Main statements: index_within, node_is, same_node, has_prefix_apart, is_ahead, none_ahead, unfit_too_many.
+-- Used by: `patch`, `close`, `build_with_prefix` and `push_state` of the module `builder`.
 -- Idea: no state before the prefix has a transition to it, so only the skip has one to its start.
 use Rattle.determinize_nfa.proofs.Common.{BinaryUnion, Bool, BuildError, BuilderValue, ByteRange, Fail, HasPrefix}
 use Rattle.determinize_nfa.proofs.Common.{HasPrefixApart, ID_LIMIT, IsApart, IsUnfit, List, MAX_ID, Node, None, Some}
 use Rattle.determinize_nfa.proofs.Common.{TooManyStates, [], ap, arith, built, by_cases, cases_lt, false, false≢true}
 use Rattle.determinize_nfa.proofs.Common.{get_or, get_or-map, inl, inr, leads_to, length, length-append, length-map}
-use Rattle.determinize_nfa.proofs.Common.{map, map-append, nat_eq, nat_lt, nat_tests, prefixed, refl, suc, sym, true}
-use Rattle.determinize_nfa.proofs.Common.{zero, ℕ, ◌++◌, ◌+◌, ◌-◌, ◌<◌, ◌||◌, ◌∙◌, ◌∷◌, ◌≡◌, ◌≤◌}
+use Rattle.determinize_nfa.proofs.Common.{map, map-append, nat_lt, nat_tests, prefixed, refl, suc, sym, true, zero, ℕ}
+use Rattle.determinize_nfa.proofs.Common.{◌++◌, ◌+◌, ◌-◌, ◌<◌, ◌∙◌, ◌∷◌, ◌≡◌, ◌≤◌}
 use Rattle.std.proofs.lemmas.Bool.{lt-ltb, or_cases}
 use Rattle.ordered_reach.proofs.Cases.{or_false_left, or_false_right}
 use Rattle.std.specs.List.{position, position_or_len}
@@ -64,12 +64,12 @@ module _ (b : BuilderValue) (start : ℕ) where
   at k s e = ap (λ w. get_or (b.states ++ last_two) w Fail) e ∙ get_or-append-add b.states last_two k Fail
 
   -- a state that leads where no state that was added leads is one of the last two
-  one_of : {P : Type 0} (w s : ℕ)
+  last_leads : {P : Type 0} (w s : ℕ)
       → ((s : ℕ) → s < length b.states → leads_to w (get_or b.states s Fail) ≡ false)
       → leads_to w (get_or (b.states ++ last_two) s Fail) ≡ true
       → (s ≡ length b.states → leads_to w (get_or last_two 0 Fail) ≡ true → P)
       → (s ≡ suc (length b.states) → leads_to w (get_or last_two 1 Fail) ≡ true → P) → P
-  one_of {P} w s none h f g = by_cases (cases_lt s (length b.states))
+  last_leads {P} w s none h f g = by_cases (cases_lt s (length b.states))
       (λ k. absurd (false≢true (sym (none s k) ∙ rw (get_or_append_left b.states last_two Fail s k) at h)))
       (λ k. let z : s ≡ length b.states + (s - length b.states) = omega arith in
       last (s - length b.states) z (rw (at (s - length b.states) s z) at h))
@@ -86,26 +86,17 @@ module _ (b : BuilderValue) (start : ℕ) where
     skip = suc (length b.states);
     first = at 0 (length b.states) (omega arith);
     any = at 1 (suc (length b.states)) (omega arith);
-    alone = λ s h. one_of (length b.states) s none h
-        (λ e k. absurd (false≢true (sym (other (length b.states) l) ∙ k)))
-        (λ e k. e);
+    alone = λ s h. last_leads (length b.states) s none h (λ e k. absurd (grind (arith, nat_tests, k))) (λ e k. e);
   }
-    where
-      other : (n : ℕ) → start < n → (nat_eq n start || nat_eq n (suc n)) ≡ false
-      other n k = grind (arith, nat_tests)
 
   pub has_prefix_apart : start < length b.states → IsApart b
       → HasPrefixApart (built (prefixed b start) start (length b.states))
   unfolding has_prefix
   has_prefix_apart l is = record {
     prefix = has_prefix l is.union;
-    apart = λ s h. one_of (suc (length b.states)) s is.skip h
-        (λ e k. e)
-        (λ e k. absurd (false≢true (sym (other (length b.states)) ∙ k)));
+    apart = λ s h. last_leads (suc (length b.states)) s is.skip h (λ e k. e)
+        (λ e k. absurd (grind (arith, nat_tests, k)));
   }
-    where
-      other : (n : ℕ) → nat_eq (suc n) n ≡ false
-      other n = grind (arith, nat_tests)
 
 -- some state has a transition to the prefix, or none
 module _ (b : BuilderValue) (start union skip : ℕ) (e : union ≡ length b.states) (k : skip ≡ suc (length b.states)) where

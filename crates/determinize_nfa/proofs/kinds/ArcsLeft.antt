@@ -1,20 +1,20 @@
 -- The transitions of a state that are left at an index, as the iterator finds them.
--- Main statements: left_at, list_behind.
+-- Main statements: left_at, runs_next.
 -- Used by: the functions of `arcs`.
 -- Idea: the first element of the rest of a list is that at the index.
-use Rattle.determinize_nfa.proofs.Common.{Arc, Bool, List, [], arith, drop, get_or, is_first, length, map, refl, suc}
-use Rattle.determinize_nfa.proofs.Common.{take, zero, ℕ, ◌+◌, ◌-◌, ◌<◌, ◌∷◌, ◌≡◌}
-use Rattle.std.proofs.lemmas.List.{take_rest}
+use Rattle.determinize_nfa.proofs.Common.{Arc, List, ap, arith, cond, drop, get_or, is_first, length, length-map, map}
+use Rattle.determinize_nfa.proofs.Common.{refl, runs, suc, sym, ℕ, ◌+◌, ◌<◌, ◌∙◌, ◌∷◌, ◌≡◌}
+use Rattle.std.proofs.Math.ListN.{get_or-map}
+use Rattle.determinize_below.proofs.Moved.{next_of}
+use Rattle.determinize_nfa.specs.Private.Arcs.{with_run}
 
 pub left_at : {A : Type 0} (f : A → Arc) (xs : List A) (k : ℕ) (x : A) → k < length xs → x ≡ get_or xs k x
     → drop k (map f xs) ≡ f x ∷ drop (k + 1) (map f xs)
-left_at f [] k x l e = absurd (omega arith)
-left_at f (y ∷ ys) zero x l e = rw e refl
-left_at f (y ∷ ys) (suc k) x l e =
-    let z : suc k + 1 ≡ suc (k + 1) = omega arith in rw z (left_at f ys k x (omega arith) e)
+left_at f xs k x l e =
+    next_of (map f xs) k (f x) (omega (arith, length-map xs f)) (ap f e ∙ sym (get_or-map f xs k x))
 
--- the list behind a byte, as the code takes it
-pub list_behind : (targets : List ℕ) (id next b : ℕ) (is : Bool) → id ≡ next
-    → is_first id (take (length targets - (b + 1)) (drop (b + 1) targets)) ≡ is
-    → is_first next (drop (b + 1) targets) ≡ is
-list_behind targets id next b is e f = rw (take_rest targets (b + 1), e) at f
+-- the ranges of a table from a byte on, by the target of this byte and the rest of the table
+pub runs_next : (ids : List ℕ) (a b id : ℕ) → b < length ids → id ≡ get_or ids b id
+    → runs a b (drop b ids) ≡ cond (is_first id (drop (b + 1) ids)) (runs a (b + 1) (drop (b + 1) ids))
+    (with_run a b id (runs (b + 1) (b + 1) (drop (b + 1) ids)))
+runs_next ids a b id l e = let z : b + 1 ≡ suc b = omega arith in rw (next_of ids b id l e, z) refl

@@ -31,11 +31,13 @@ first_any t id (x ∷ xs) e k = grind (arith, nat_tests)
 table_leads : (t : ℕ) (ids : List ℕ) (a b : ℕ)
     → (not (nat_eq t 0) && list_any (nat_eq t) ids) ≡ list_any (λ r. nat_eq t r.next) (runs a b ids)
 table_leads t [] a b = grind arith
-table_leads t (id ∷ ids) a b = by_test (is_first id ids)
-    (λ z. grind (arith, nat_tests, z, table_leads t ids a (suc b), first_any t id ids))
-    (λ z. by_test (nat_eq id 0)
-    (λ y. grind (arith, nat_tests, z, y, table_leads t ids (suc b) (suc b)))
-    (λ y. grind (arith, nat_tests, z, y, table_leads t ids (suc b) (suc b))))
+table_leads t (id ∷ ids) a b = grind (
+  arith,
+  nat_tests,
+  table_leads t ids a (suc b),
+  table_leads t ids (suc b) (suc b),
+  first_any t id ids,
+)
 
 pub leads_is : (t : ℕ) (node : Node) → leads_to t node ≡ list_any (λ a. nat_eq t (next_of a)) (arcs_of node)
 leads_is t (ByteRange r) = sym (or-false (nat_eq t r.next))
@@ -59,11 +61,7 @@ leads_arc t node k = any_from (λ a. nat_eq t (next_of a)) (arcs_of node) (rw (l
 all_runs : (p : ℕ → Bool) (ids : List ℕ) (a b : ℕ) → list_all p ids ≡ true
     → list_all (λ r. p r.next) (runs a b ids) ≡ true
 all_runs p [] a b h = refl
-all_runs p (id ∷ ids) a b h = by_test (is_first id ids)
-    (λ z. grind (arith, z, all_runs p ids a (suc b)))
-    (λ z. by_test (nat_eq id 0)
-    (λ y. grind (arith, z, y, all_runs p ids (suc b) (suc b)))
-    (λ y. grind (arith, z, y, all_runs p ids (suc b) (suc b))))
+all_runs p (id ∷ ids) a b h = grind (arith, h, all_runs p ids a (suc b), all_runs p ids (suc b) (suc b))
 
 resolves_all : (count : ℕ) (node : Node) → resolves count node ≡ true
     → list_all (λ a. nat_lt (next_of a) count) (arcs_of node) ≡ true
