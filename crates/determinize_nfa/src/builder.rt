@@ -84,6 +84,7 @@ impl<A: Allocator + Copy> Builder<A> {
     }
 
     /// Adds a state, and returns its id.
+    #[tactic(auto, using(crate::proofs::Limits::no_memory))]
     fn add(&mut self, state: State<A>) -> Result<StateID, BuildError>
         ensures id { IfOk result (λ id. id ≡ length self.old.states) }
         ensures added { OnOk result (self.new ≡ with_node self.old (node_of state)) }
@@ -164,6 +165,7 @@ impl<A: Allocator + Copy> Builder<A> {
 
     /// Adds the match state of the next pattern, and returns its id. The first match state is that
     /// of pattern 0.
+    #[tactic(auto, using(crate::proofs::Limits::no_memory))]
     pub fn add_match(&mut self) -> Result<StateID, BuildError>
         ensures id { IfOk result (λ id. id ≡ length self.old.states) }
         ensures added { OnOk result (self.new ≡ with_match self.old) }

@@ -11,6 +11,7 @@ pub fn shift_law()
 
 /// A text up to a position, read in the other direction, has before and after each of its positions
 /// what the text has after and before the same place.
+#[tactic(auto, using(crate::proofs::runs::Mirrors::each_reading_is_mirrored))]
 pub fn mirror_law()
     ensures { EachReadingIsMirrored }
 {}

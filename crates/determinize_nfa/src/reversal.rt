@@ -135,6 +135,7 @@ impl<A: Allocator + Copy> Turned<A> {
 
     /// Adds the transition from `begin` to the anchored start, reversed, and the transitions of
     /// these states.
+    #[tactic(auto, using(crate::proofs::Limits::no_memory))]
     fn add_nodes<N: Allocator>(
         &mut self,
         nfa: &NFA<N>,
@@ -158,6 +159,7 @@ impl<A: Allocator + Copy> Turned<A> {
     }
 
     /// Returns the transitions of the states that the anchored start reaches, reversed.
+    #[tactic(auto, using(crate::proofs::Limits::no_memory))]
     fn over<N: Allocator>(alloc: A, nfa: &NFA<N>, begin: StateID) -> Result<Turned<A>, BuildError>
         requires { begin ≡ length nfa.now.states }
         ensures ok { IfOk result (λ turned. IsTurnedOver nfa.now turned) }
@@ -233,6 +235,7 @@ fn end_states<A: Allocator>(
 /// states that the anchored start reaches. Returns `TooManyStates` only if two states more than
 /// those of the NFA, and one for each range of bytes, each run of bytes of a dense state with one
 /// target and each assertion, are above the limit.
+#[tactic(auto, using(crate::proofs::Limits::no_memory))]
 pub fn reversed<N: Allocator, A: Allocator + Copy>(
     alloc: A,
     nfa: &NFA<N>,

@@ -99,8 +99,10 @@ module _ (b : BuilderValue) (start : ℕ) where
   }
 
 -- some state has a transition to the prefix, or none
-module _ (b : BuilderValue) (start union skip : ℕ) (e : union ≡ length b.states) (k : skip ≡ suc (length b.states)) where
-  pub is_ahead : (i : ℕ) → has_transition_to union skip (get_or b.states i Fail) ≡ true → IsUnfit b start (UnresolvedId i)
+module _ (b : BuilderValue) (start union skip : ℕ) (e : union ≡ length b.states)
+    (k : skip ≡ suc (length b.states)) where
+  pub is_ahead : (i : ℕ) → has_transition_to union skip (get_or b.states i Fail) ≡ true
+      → IsUnfit b start (UnresolvedId i)
   is_ahead i h = inr (inl (inr (by_cases
       (or_cases (leads_to union (get_or b.states i Fail)) (leads_to skip (get_or b.states i Fail)) h)
       (λ d. (i, union, refl, omega (arith, e), d))

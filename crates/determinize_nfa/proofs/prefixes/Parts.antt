@@ -37,7 +37,8 @@ module _ (nfa : Nfa) (start f s : ℕ) (node : Node) (z : start ≡ nfa.start_un
   skip_within accepted =
       let r = (each_passes nfa accepted start node read).resolves in grind (arith, rw union at r)
 
-  module _ (other : Node) (b : Bool) (next : slice_get nfa.states s ≡ Some other) (any : b ≡ passes_any start other) where
+  module _ (other : Node) (b : Bool) (next : slice_get nfa.states s ≡ Some other)
+      (any : b ≡ passes_any start other) where
     -- the other must pass over all bytes
     pub not_any : b ≡ false → ¬ (HasPrefix nfa)
     not_any n h =

@@ -145,12 +145,14 @@ module _ (nfa : Nfa) where
   pushed_more h s y a rest sound l stays came is source new e =
       let c : length h.into ≡ n = sound.count in
       let t = next_of a in
-      let within : t < length h.into = omega arith in rw e (
+      let within : t < length h.into = omega arith in
+      rw e (
         record {
           sound = record {
             count = length-set h.into t (sources h t ++ y ∷ []) ∙ c;
             into = λ v z k. came_in h.into t y within v z k
-                (λ i. by_cases (sound.into v z i) inl (λ d. inr (d.0, d.1, d.2, d.3, at_stays _ _ _ z d.0 d.1 stays d.4)))
+                (λ i. by_cases (sound.into v z i) inl
+                (λ d. inr (d.0, d.1, d.2, d.3, at_stays _ _ _ z d.0 d.1 stays d.4)))
                 (λ p q. rw (p, q) at source);
             rest = λ x k. by_cases (came x k) (sound.rest x) (λ d. (s, a, d.0, d.1));
             ends = sound.ends;

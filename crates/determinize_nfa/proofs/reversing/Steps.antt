@@ -1,6 +1,6 @@
 -- One more recorded transition, and one more reached state, as the program records them.
--- Main statements: added_is, ended, count-arc, count-arcs, over_start, over_more, over_all.
--- Used by: `add`, `add_nodes` and `end_states` of the reversal.
+-- Main statements: added_is, ended, count-arc, count-none, over_more.
+-- Used by: Counts, and `add`, `add_node`, `add_nodes` and `end_states` of the reversal.
 -- Idea: a push to one list of a list of lists is the definition of `added`.
 use Rattle.determinize_nfa.proofs.Common.{Arc, Free, List, Match, Nfa, Node, Range, Some, Test, Turned, [], added, ap}
 use Rattle.determinize_nfa.proofs.Common.{append_assoc, arcs_of, get_or, get_or-map, length, length-replicate}
@@ -60,7 +60,8 @@ count-node s node h = count-end s node (with_arcs h s (arcs_of node)) ∙ count-
 
 pub count-none : (nfa : Nfa)
     → length (added (none_turned (length nfa.states)) nfa.start_anchored (length nfa.states)).into ≡ length nfa.states
-count-none nfa = length-set (replicate (length nfa.states) []) nfa.start_anchored _ ∙ length-replicate (length nfa.states) []
+count-none nfa = length-set (replicate (length nfa.states) []) nfa.start_anchored _
+    ∙ length-replicate (length nfa.states) []
 
 -- the states of a list, one by one: those that are left
 pub record IsOver (nfa : Nfa) (whole h : Turned) (left : List ℕ) : Type 0 where

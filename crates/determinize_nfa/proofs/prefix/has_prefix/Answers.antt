@@ -4,7 +4,8 @@ use Rattle.determinize_nfa.proofs.prefix.has_prefix.Goals as goal
 
 pub state-requires-2 : goal.state-requires-2
 state-requires-2 g c = skip_within c.args.nfa.now c.start_unanchored-start.result c.in-BinaryUnion.alt1
-    c.in-BinaryUnion.alt2 (node_of c.state.result.now) c.start_unanchored-start.ensures.value c.state.ensures.state (search rules) c.state.ensures.accepted
+    c.in-BinaryUnion.alt2 (node_of c.state.result.now) c.start_unanchored-start.ensures.value c.state.ensures.state
+    (search rules) c.state.ensures.accepted
 
 pub returns-then-not-is_any_byte : goal.returns-then-not-is_any_byte
 returns-then-not-is_any_byte g c = (

@@ -1,5 +1,5 @@
-use Rattle.determinize_nfa.proofs.Common.{IfErr-weaker, IfOk-weaker, Nfa, ap, arith, if_err_and, inl, length, looks_of}
-use Rattle.determinize_nfa.proofs.Common.{map, most_states, node_of, not, refl, suc, sym, ◌+◌, ◌<◌, ◌∙◌, ◌≡◌}
+use Rattle.determinize_nfa.proofs.Common.{IfErr-weaker, IfOk-weaker, Nfa, ap, arith, if_err_and, length, looks_of, map}
+use Rattle.determinize_nfa.proofs.Common.{most_states, node_of, not, refl, suc, sym, ◌+◌, ◌<◌, ◌∙◌, ◌≡◌}
 use Rattle.determinize_nfa.proofs.Limits.{too_many}
 use Rattle.determinize_nfa.proofs.reversing.MadeNfa.{made_error, made_match, made_of_all, most}
 use Rattle.determinize_nfa.proofs.reversing.BothWays.{IsMadeOf}
@@ -23,14 +23,6 @@ pub returns-in_err-turned-clause-err : goal.returns-in_err-turned-clause-err
 returns-in_err-turned-clause-err g c = if_err_and c.from_residual-in_err-turned.result _ _
     (λ e h. rw h c.in_err-turned.ensures.err)
     c.from_residual-in_err-turned.ensures.1
-
-pub returns-in_err-states-clause-err : goal.returns-in_err-states-clause-err
-returns-in_err-states-clause-err g c = if_err_and c.from_residual-in_err-states.result _ _
-    (λ e h. inl h) c.from_residual-in_err-states.ensures.1
-
-pub returns-in_err-matcher-clause-err : goal.returns-in_err-matcher-clause-err
-returns-in_err-matcher-clause-err g c = if_err_and c.from_residual-in_err-matcher.result _ _
-    (λ e h. inl h) c.from_residual-in_err-matcher.ensures.1
 
 pub returns : goal.returns
 returns g c =

@@ -1,4 +1,4 @@
-use Rattle.determinize_nfa.proofs.Common.{arith, if_err_and, inl, length-map, node_of, refl}
+use Rattle.determinize_nfa.proofs.Common.{arith, if_err_and, length-map, node_of, refl}
 use Rattle.determinize_nfa.proofs.Limits.{too_many}
 use Rattle.determinize_nfa.proofs.builder.Builder.add.Goals as goal
 
@@ -14,7 +14,3 @@ returns-in_err-id-clause-err g c = if_err_and c.from_residual.result _ _
     (too_many c.len.result _ (rw (← c.self.view_is, length-map c.self.inside.states.items node_of) (omega arith))
     c.in_err-id.ensures.ok)
     c.from_residual.ensures.1
-
-pub returns-in_err-push_state-clause-err : goal.returns-in_err-push_state-clause-err
-returns-in_err-push_state-clause-err g c = if_err_and c.from_residual-in_err-push_state.result _ _
-    (λ e h. inl h) c.from_residual-in_err-push_state.ensures.1

@@ -20,7 +20,8 @@ returns-clause-ok g c = IfOk-weaker c.from_parts.result _ _
 
 pub returns-clause-accepted : goal.returns-clause-accepted
 returns-clause-accepted g c = on_ok_weaker c.from_parts.result
-    (λ h. ap (λ (b : BuilderValue). failure b.states c.args.start_anchored c.args.start_unanchored) (sym (copied g c)) ∙ h)
+    (λ h. ap (λ (b : BuilderValue). failure b.states c.args.start_anchored c.args.start_unanchored) (sym (copied g c))
+    ∙ h)
     c.from_parts.ensures.accepted
 
 pub returns-clause-err : goal.returns-clause-err

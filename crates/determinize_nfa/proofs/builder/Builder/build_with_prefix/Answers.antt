@@ -30,7 +30,8 @@ returns-in-Some-clause-err g c = is_ahead c.args.self.now c.args.start_anchored 
     (rw (← c.self.view_is, length-map c.self.inside.states.items node_of) (omega (arith, c.in_ok-skip.ensures.ok.1)))
     c.in-Some.index
     (rw (← c.self.view_is) (first_passes node_of (has_transition_to c.in_ok-union.union c.in_ok-skip.skip)
-    c.self.inside.states.items c.in-Some.index (rw c.as_slice.ensures.value at (sym c.first_to.ensures ∙ c.in-Some.is))))
+    c.self.inside.states.items c.in-Some.index
+    (rw c.as_slice.ensures.value at (sym c.first_to.ensures ∙ c.in-Some.is))))
 
 pub returns-in_err-states-clause-err : goal.returns-in_err-states-clause-err
 returns-in_err-states-clause-err g c = if_err_and c.from_residual-in_err-states.result _ _

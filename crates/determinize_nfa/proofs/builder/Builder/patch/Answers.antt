@@ -54,6 +54,9 @@ returns-clause-patched g c =
 
 pub returns-clause-failed : goal.returns-clause-failed
 returns-clause-failed g c = on_err_weaker c.redirect.result
-    (λ n. rw (← c.self.view_is, map-set_same node_of c.self.inside.states.items c.as_usize-index.result
-    c.redirect.new.state c.index_mut.result.now (n ∙ ap node_of c.index_mut.ensures.value)) refl)
+    (λ n. rw (
+      ← c.self.view_is,
+      map-set_same node_of c.self.inside.states.items c.as_usize-index.result
+          c.redirect.new.state c.index_mut.result.now (n ∙ ap node_of c.index_mut.ensures.value),
+    ) refl)
     c.redirect.ensures.failed

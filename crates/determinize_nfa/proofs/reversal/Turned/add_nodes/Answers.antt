@@ -1,4 +1,4 @@
-use Rattle.determinize_nfa.proofs.Common.{each_passes, if_err_and, inl, most_states, node_of, refl, ◌∙◌}
+use Rattle.determinize_nfa.proofs.Common.{each_passes, if_err_and, most_states, node_of, refl}
 use Rattle.determinize_nfa.proofs.reversing.Steps.{count-none, over_more}
 use Rattle.determinize_below.proofs.Moved.{next_of}
 use Rattle.std.proofs.Math.ListN.{drop_of_length-le}
@@ -39,7 +39,3 @@ returns-clause-turned g c =
 
 pub returns-clause-count : goal.returns-clause-count
 returns-clause-count g c = c.loop-id.invariant.count
-
-pub returns-in_err-add-clause-err : goal.returns-in_err-add-clause-err
-returns-in_err-add-clause-err g c = if_err_and c.from_residual.result _ _
-    (λ e h. inl (h ∙ c.in_err-add.ensures.err)) c.from_residual.ensures.1

@@ -1,4 +1,4 @@
-use Rattle.determinize_nfa.proofs.Common.{List, ap, if_err_and, inl, sym, turned_over, ℕ, ◌∙◌}
+use Rattle.determinize_nfa.proofs.Common.{List, ap, if_err_and, sym, turned_over, ℕ, ◌∙◌}
 use Rattle.determinize_nfa.proofs.reversal.Turned.over.Goals as goal
 
 pub returns-clause-ok : goal.returns-clause-ok
@@ -11,14 +11,6 @@ returns-clause-ok g c = record {
       ∙ c.in_ok-add_nodes.ensures.turned;
   count = c.in_ok-add_nodes.ensures.count;
 }
-
-pub returns-in_err-found-clause-err : goal.returns-in_err-found-clause-err
-returns-in_err-found-clause-err g c = if_err_and c.from_residual.result _ _
-    (λ e h. inl h) c.from_residual.ensures.1
-
-pub returns-in_err-turned-clause-err : goal.returns-in_err-turned-clause-err
-returns-in_err-turned-clause-err g c = if_err_and c.from_residual-in_err-turned.result _ _
-    (λ e h. inl h) c.from_residual-in_err-turned.ensures.1
 
 pub returns-in_err-add_nodes-clause-err : goal.returns-in_err-add_nodes-clause-err
 returns-in_err-add_nodes-clause-err g c = if_err_and c.from_residual-in_err-add_nodes.result _ _
