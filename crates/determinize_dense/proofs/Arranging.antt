@@ -36,7 +36,7 @@ module _ (v : DfaValue) {ranks : List ℕ} {p : Blocks} (are : AreRanks v.table 
     -- the rank of the row of a block
     rank-is : (b : ℕ) → b < length p.members
         → IsRank v.table (slice_index p.members b) (slice_index ranks (slice_index p.members b))
-    rank-is b h = are.each (slice_index p.members b) (omega (arith, is.blocks.rows b h))
+    rank-is b h = are.each _ (grind (arith, is.blocks.rows b))
 
     pub arranged-ordered : {first second : ℕ} → IsLastUpto ranks p 1 first → IsLastUpto ranks p 2 second
         → IsOrdered w.table (offset_of w.table first) (offset_of w.table second)

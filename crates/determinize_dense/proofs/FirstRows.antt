@@ -1,15 +1,12 @@
 -- The first row that lists the same patterns, by a map from lists to rows.
--- Main statements: firsts-none, first-known, firsts-known, first-new, firsts-new.
--- Used by: `first_alike` and `first_rows`.
+-- Main statements: first-known, firsts-known, first-new, firsts-new.
+-- Used by: `first_alike`.
 -- Idea: the map has for each list the first of the rows so far that lists it.
 use Rattle.determinize_core.proofs.Common.{arith, cond, List, None, Option, Some, ℕ, ◌+◌, ◌≡◌}
 use Rattle.determinize_dense.proofs.Common.{patterns_at, Table}
 use Rattle.determinize_dense.specs.Private.Minimizing.{AreFirsts, IsFirstAlike}
 use Rattle.std.specs.Cmp.Lexicographic.{bytes_decides}
 use Rattle.std.specs.Prelude.{bytes_eq}
-
-pub firsts-none : (d : Table) {find : List ℕ → Option ℕ} → ((xs : List ℕ) → find xs ≡ None) → AreFirsts d 0 find
-firsts-none d none = grind arith
 
 module _ {d : Table} {n : ℕ} {find : List ℕ → Option ℕ} (are : AreFirsts d n find) where
   -- a list that has a row

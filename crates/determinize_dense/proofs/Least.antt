@@ -6,7 +6,7 @@ use Rattle.determinize_core.proofs.Common.{List, MatchKind, Nfa, Option, [], ari
 use Rattle.determinize_core.proofs.Common.{sym, ℕ, ◌++◌, ◌<◌, ◌∙◌, ◌∷◌, ◌≡◌, ◌≤◌, ◌⊎◌}
 use Rattle.determinize_dense.specs.Dfa.{IsDfaOf}
 use Rattle.determinize_dense.proofs.Common.{All, DfaValue, IsDfa, IsUnit, Table, patterns_at, row_after, row_over}
-use Rattle.determinize_dense.proofs.Common.{slot_number, slot_of, start_kind_of, start_row}
+use Rattle.determinize_dense.proofs.Common.{start_row}
 use Rattle.std.proofs.lemmas.Bool.{cases_eq, cases_lt}
 use Rattle.std.proofs.lemmas.List.Elements.{All-append, All-head, All-tail}
 use Rattle.determinize_dense.proofs.Pigeonhole.{pigeonhole}

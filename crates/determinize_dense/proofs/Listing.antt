@@ -3,11 +3,11 @@
 -- Used by: `patterns_after` and the law of what a table means.
 -- Idea: the last value of a walk is that over the unit ahead. Under `LeftmostFirst` it lists a pattern exactly if the
 -- last match of the walk, which is the preferred one, ends with the text.
-use Rattle.determinize_core.proofs.Common.{Accepts, after_at, All, ap, arith, chain, Contains, ended_at, false, future}
-use Rattle.determinize_core.proofs.Common.{HalfMatch, IfSome, IsAccepted, IsPreferredMatch, last_match, LeftmostFirst}
+use Rattle.determinize_core.proofs.Common.{Accepts, after_at, All, arith, chain, Contains, ended_at, false, future}
+use Rattle.determinize_core.proofs.Common.{HalfMatch, IfSome, IsAccepted, IsPreferredMatch, LeftmostFirst}
 use Rattle.determinize_core.proofs.Common.{length, length-map, List, map, MatchKind, Nfa, None, Option, option_or, refl}
 use Rattle.determinize_core.proofs.Common.{slice_get, Some, start_value, step, suc, sym, Text, units, Value}
-use Rattle.determinize_core.proofs.Common.{value_after, ℕ, [], ◌<◌, ◌∙◌, ◌∷◌, ◌≡◌, ◌≤◌}
+use Rattle.determinize_core.proofs.Common.{value_after, ℕ, [], ◌<◌, ◌∷◌, ◌≡◌, ◌≤◌}
 use Rattle.determinize_core.proofs.step.StepLaws.{one_pattern}
 use Rattle.determinize_core.proofs.walk.AcceptedPatterns.{each_answer_is_one}
 use Rattle.determinize_core.proofs.walk.LastMatches.{last_match-push}

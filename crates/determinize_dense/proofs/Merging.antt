@@ -71,8 +71,7 @@ module _ {v : DfaValue} (is : IsDfa v) {p : Blocks} (part : IsGrouping v.table p
 
     -- so the row of a block lists what each of its rows lists
     block-lists : patterns_at e (block r) ≡ patterns_at d r
-    block-lists = rw (listed.rows (block r) (omega (arith, block-below r h)))
-        (part.patterns first r first-below h together)
+    block-lists = grind (arith, listed.rows, part.patterns, first-below, together)
 
   -- an entry of the row of a block
   entry-merged : (b c : ℕ) → b < length p.members → c < v.table.class_count + 1
@@ -89,8 +88,7 @@ module _ {v : DfaValue} (is : IsDfa v) {p : Blocks} (part : IsGrouping v.table p
 
   block-over : (r : ℕ) (u : Option ℕ) → r < length d.patterns → IsUnit u
       → row_over e (block r) u ≡ block (row_over d r u)
-  block-over r u h unit = rw (over-block (block r) u (block-below r h) unit)
-      (part.stable (column_of d u) (is.table.column u unit) (first r h) r (first-below r h) h (together r h))
+  block-over r u h unit = grind (arith, over-block, part.stable, together, first-below, is.table.column)
 
   -- the row after units of a block
   block-after : (us : List (Option ℕ)) (r : ℕ) → r < length d.patterns → All IsUnit us
@@ -129,8 +127,7 @@ module _ {v : DfaValue} (is : IsDfa v) {p : Blocks} (part : IsGrouping v.table p
   lists-after : (b : ℕ) (us : List (Option ℕ)) → b < length p.members → All IsUnit us
       → patterns_at e (row_after e b us) ≡ patterns_at d (row_after d (member b) us)
   lists-after b us h all =
-      let after = rw (part.blocks.own b h) at (block-after us (member b) (member-below b h) all) in
-      rw after (block-lists (row_after d (member b) us) (after-below us (member b) (member-below b h) all))
+      grind (arith, block-after us (member b), block-lists, part.blocks.own, member-below, after-below us (member b))
 
   -- no match follows row 0
   none-after : (rest : List (Option ℕ)) → All IsUnit rest → patterns_at e (row_after e 0 rest) ≡ []
@@ -145,25 +142,11 @@ module _ {v : DfaValue} (is : IsDfa v) {p : Blocks} (part : IsGrouping v.table p
       (none-after rest more)
 
   reached : (b : ℕ) → b < length e.patterns → IsReachedRow v.nfa e b
-  reached b h =
-      let l : b < length p.members = omega arith in
-      let k = is.reached (member b) (member-below b l) in
-      (k.0, k.1, k.2, k.3, k.4, rw (block-from k.0 k.1 k.2 k.3 k.4, ← k.5) (sym (part.blocks.own b l)))
+  reached b h = grind (arith, is.reached (member b), member-below, block-from, part.blocks.own)
 
   filled : IsFilled e
-  filled = record {
-    size = rw listed.count rows.size;
-    starts = firsts.count;
-    first = λ i h. rw (firsts.blocks i h, listed.count) (block-below (slice_index d.starts i) (is.table.first i h));
-    column = λ u unit. rw (same_column u) (is.table.column u unit);
-    units = λ c h. let k = is.table.units c h in (k.0, k.1, rw (same_column k.0) k.2);
-    within = λ b u h unit.
-        let l : b < length p.members = omega arith in
-        rw (over-block b u l unit, listed.count) (block-below (row_over d (member b) u)
-        (is.table.within (member b) u (member-below b l) unit));
-    few = omega (arith, few_blocks part.blocks);
-    narrow = is.table.narrow;
-  }
+  filled =
+      grind (arith, listed.count, rows.size, firsts.blocks, block-below, member-below, same_column, over-block, few_blocks part.blocks, is.table.units, is.table.column, is.table.within, is.table.first)
 
   pub merged-dfa : IsDfa (with_rows v next starts lists)
   merged-dfa = record {
@@ -176,17 +159,7 @@ module _ {v : DfaValue} (is : IsDfa v) {p : Blocks} (part : IsGrouping v.table p
   }
 
   pub merged-is : IsMerged v p (with_rows v next starts lists)
-  merged-is = record {
-    nfa = refl;
-    kind = refl;
-    means = tells;
-    count = listed.count;
-    dead = none-after [] (All-nil IsUnit);
-    columns = refl;
-    patterns = λ b h. listed.rows b (omega arith);
-    apart = λ b c h l a. (a.0, a.1, rw (lists-after b a.0 h a.1, lists-after c a.0 l a.1) a.2);
-    reached = reached;
-  }
+  merged-is = grind (arith, tells, none-after [] (All-nil IsUnit), reached, lists-after, listed.rows, listed.count)
 
 module _ (v w : DfaValue) (p : Blocks) (part : IsPartition v.table p) (is : IsMerged v p w) where
   -- the blocks of a partition are the fewest rows

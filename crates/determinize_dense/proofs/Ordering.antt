@@ -1,21 +1,16 @@
 -- Rows in the order of their ranks, one row more at a time.
--- Main statements: ordering-first, ordering-skip, ordering-push, ordering-by_rank, last-upto.
--- Used by: `by_rank` and `last_upto`.
+-- Main statements: ordering-skip, ordering-push, ordering-by_rank.
+-- Used by: `by_rank`.
 -- Idea: a rank and a number within it are a turn, and blocks are numbered in the order of turns.
-use Rattle.std.proofs.Common.{[], All, arith, get_or-set_other, length, List, replicate, ℕ}
+use Rattle.std.proofs.Common.{[], All, arith, get_or-set_other, length, List, ℕ}
 use Rattle.std.proofs.Common.{◌*◌, ◌++◌, ◌+◌, ◌<◌, ◌∷◌, ◌≡◌, ◌≤◌}
 use Rattle.std.proofs.lemmas.Grind.{get_or-set_at}
-use Rattle.std.proofs.lemmas.List.{length-replicate, length-set}
+use Rattle.std.proofs.lemmas.List.{length-set}
 use Rattle.std.proofs.lemmas.Nat.{mul-add-lt, same_from_place}
 use Rattle.std.specs.Prelude.{slice_index, slice_set}
 use Rattle.determinize_dense.proofs.Pigeonhole.{pigeonhole}
 use Rattle.determinize_dense.proofs.Splitting.{few_blocks, pushed}
-use Rattle.determinize_dense.specs.Private.Partition.{AreBlocks, IsByRank, IsLastUpto, IsOrdering, turn_of, Blocks}
-
--- no row has its block
-pub ordering-first : {ranks numbers members : List ℕ} {turn : ℕ} → numbers ≡ replicate (length ranks) 0
-    → members ≡ [] → turn ≡ 0 → IsOrdering ranks turn numbers members
-ordering-first zeros none start = grind (arith, length-replicate)
+use Rattle.determinize_dense.specs.Private.Partition.{AreBlocks, IsByRank, IsOrdering, turn_of}
 
 module _ {ranks numbers members : List ℕ} (rank row : ℕ)
     (is : IsOrdering ranks (rank * length ranks + row) numbers members) (h : row < length ranks) where
@@ -67,10 +62,3 @@ module _ {ranks numbers members : List ℕ} (is : IsOrdering ranks (4 * length r
         back = λ r h. (placed r h).1;
         ascend = λ b c h l. grind (arith, is.rows c l, is.ascend b c h l);
       }
-
--- the last block of a rank, where the next one has a greater rank
-pub last-upto : {ranks : List ℕ} {p : Blocks} {rank last : ℕ} → IsByRank ranks p → last < length p.members
-    → ((b : ℕ) → b ≤ last → slice_index ranks (slice_index p.members b) ≤ rank)
-    → (last + 1 < length p.members → rank < slice_index ranks (slice_index p.members (last + 1)))
-    → IsLastUpto ranks p rank last
-last-upto {ranks} {p} {rank} {last} is there upto next = grind (arith, is.ascend (last + 1))

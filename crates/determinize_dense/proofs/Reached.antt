@@ -5,7 +5,7 @@
 use Rattle.determinize_core.proofs.Common.{Bool, dead, List, MatchKind, Nfa}
 use Rattle.determinize_core.proofs.Common.{None, Option, refl, start_value, tables_of, true}
 use Rattle.determinize_core.proofs.Common.{Value, value_after, ℕ, [], ◌++◌, ◌∷◌, ◌≡◌}
-use Rattle.determinize_dense.proofs.Common.{All, IsReachedValue, IsUnit, start_in}
+use Rattle.determinize_dense.proofs.Common.{IsReachedValue, IsUnit, start_in}
 use Rattle.std.proofs.lemmas.List.Elements.{All-nil, All-push}
 use Rattle.ordered_reach.proofs.lists.Pieces.{flat_map_none}
 use Rattle.determinize_below.specs.Edges.{is_match, target}

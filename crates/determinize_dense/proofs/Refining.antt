@@ -1,5 +1,5 @@
 -- Partitions of the rows of a table, which are split until each column is settled.
--- Main statements: entry-below, partition-first, partition-split, refined-first, refined-more, refined-less.
+-- Main statements: entry-below, partition-first, partition-split, refined-first, refined-more, refined-fewer.
 -- Used by: `partition` and `refine`, Offsets.
 -- Idea: rows that are split were apart, or have entries in a column that were apart.
 use Rattle.determinize_core.proofs.Common.{List, [], arith, by_cases, length, replicate, slice_index, ℕ}
@@ -8,10 +8,9 @@ use Rattle.determinize_dense.proofs.Common.{IsFilled, IsUnit, Table, patterns_at
 use Rattle.std.proofs.lemmas.Bool.{cases_eq}
 use Rattle.std.proofs.lemmas.List.{get_or-replicate, length-replicate}
 use Rattle.std.proofs.lemmas.List.Elements.{All-cons, All-nil}
-use Rattle.determinize_dense.proofs.Splitting.{few_blocks}
 use Rattle.determinize_dense.specs.Least.{AreApart}
 use Rattle.determinize_dense.specs.Private.Minimizing.{AreFirstAlike, AreTargets, entry, IsPartition, IsRefined}
-use Rattle.determinize_dense.specs.Private.Minimizing.{IsSplitBy, IsStable}
+use Rattle.determinize_dense.specs.Private.Minimizing.{IsSplitBy}
 use Rattle.determinize_dense.specs.Private.Partition.{AreEqual, Blocks, IsSplit}
 
 -- the row after a row in a column is a row
@@ -63,7 +62,7 @@ partition-split d is p q c values inside part targets split = record {
         (part.apart r s h l);
   };
   more = split.more;
-  stays = λ same. (split.stays same, λ r s h l together. grind (arith, split.stays same, split.together r s));
+  stays = grind (arith, split.stays, split.together);
 }
 
 -- the first pass of a cycle
@@ -92,14 +91,3 @@ refined-more {n = n} so_far pass = record {
 -- and of fewer columns
 pub refined-fewer : {d : Table} {m n : ℕ} {p q : Blocks} → m ≤ n → IsRefined d n p q → IsRefined d m p q
 refined-fewer {d} {m} {n} {p} {q} fewer is = grind arith
-
--- a cycle without more blocks
-pub refined-stable : {d : Table} {p q : Blocks} → IsRefined d (d.class_count + 1) p q
-    → length q.members ≡ length p.members → IsStable d q
-refined-stable {d} {p} {q} is same = let k = is.stays same in rw k.0 k.1
-
--- a cycle with more blocks comes nearer to one block for each row
-pub refined-less : {d : Table} {p q : Blocks} → IsRefined d (d.class_count + 1) p q
-    → (length q.members ≡ length p.members → ⊥)
-    → length d.patterns - length q.members < length d.patterns - length p.members
-refined-less {d} {p} {q} is other = grind (arith, few_blocks is.partition.blocks)

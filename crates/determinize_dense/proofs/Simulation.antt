@@ -12,7 +12,7 @@ use Rattle.determinize_dense.proofs.Common.{first_of, HasStates}
 use Rattle.determinize_dense.proofs.Common.{IsBuilding, IsDfa, IsFilled, IsReachedValue, IsUnit, patterns_at}
 use Rattle.determinize_dense.proofs.Common.{row_after, row_over, slot_of, start_in, start_kind_of, start_row}
 use Rattle.determinize_dense.proofs.Common.{step, Table, unit_at}
-use Rattle.std.specs.Prelude.{◌++◌, ◌≤◌, false}
+use Rattle.std.specs.Prelude.{◌++◌, false}
 use Rattle.determinize_dense.specs.Least.{IsReachedRow}
 use Rattle.std.proofs.lemmas.Bool.{cases_lt}
 use Rattle.std.proofs.lemmas.List.Elements.{All-head, All-tail}
@@ -23,7 +23,6 @@ use Rattle.determinize_core.proofs.step.StepLaws.{dead_stays}
 use Rattle.determinize_engine.proofs.Places.{of_some}
 use Rattle.determinize_dense.proofs.Reached.{reached-tested}
 use Rattle.determinize_start.proofs.kinds.StartSlots.{slot_number-below}
-use Rattle.determinize_engine.specs.declared.state_table.TheConstants.{MAX_STATES}
 
 -- the dead value stays along units
 dead_after : (nfa : Nfa) (kind : MatchKind) (us rest : List (Option ℕ)) (v : Value) → value_after nfa kind v us ≡ dead

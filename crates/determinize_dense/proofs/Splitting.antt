@@ -87,13 +87,7 @@ module _ {p : Blocks} {values : List ℕ} (are : AreBlocks p) where
     splitting-blocks = grind (arith, own)
 
     pub splitting-split : IsSplit values p record { numbers = numbers; members = members }
-    splitting-split = record {
-      blocks = splitting-blocks;
-      count = all;
-      together = λ r t h k. grind (arith, one_pair (slice_index numbers r) (slice_index numbers t));
-      more = s.more;
-      stays = λ e.
-          let old_numbers : numbers ≡ p.numbers = same_number_lists numbers p.numbers all (grind arith) in
-          let old_members : members ≡ p.members = same_number_lists members p.members e (grind arith) in
-          rw (old_numbers, old_members);
-    }
+    splitting-split =
+      let old = same_number_lists numbers p.numbers all in
+      let kept = same_number_lists members p.members in
+      grind (arith, splitting-blocks, one_pair, old, kept)

@@ -1,8 +1,6 @@
-use Rattle.determinize_core.proofs.Common.{arith, length-map, sym}
-use Rattle.std.specs.Prelude.{◌/◌}
+use Rattle.determinize_core.proofs.Common.{arith, length-map}
 use Rattle.std.proofs.lemmas.List.{get_or-map}
 use Rattle.determinize_dense.proofs.Writing.{write_more}
-use Rattle.determinize_dense.specs.Private.Rows.{rows_at}
 use Rattle.determinize_dense.proofs.bytes.push_rows.Goals as goal
 
 pub loop-offset-preserved : goal.loop-offset-preserved

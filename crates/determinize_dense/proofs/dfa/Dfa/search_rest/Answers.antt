@@ -3,7 +3,6 @@ use Rattle.determinize_dense.proofs.Searching.{come-none, come-some, found-in_de
 use Rattle.determinize_dense.specs.Private.Searching.{HasCome}
 use Rattle.determinize_dense.proofs.dfa.Dfa.search_rest.Given.{Over}
 use Rattle.determinize_dense.proofs.dfa.Dfa.search_rest.Goals.{After-scan-read}
-use Rattle.determinize_dense.proofs.dfa.Dfa.search_rest.Goals.{else-read-pauses, then-read-pauses}
 use Rattle.determinize_dense.proofs.dfa.Dfa.search_rest.Goals as goal
 
 pub loop-read-init : goal.loop-read-init

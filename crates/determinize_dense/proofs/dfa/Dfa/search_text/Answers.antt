@@ -1,6 +1,6 @@
 use Rattle.determinize_core.proofs.Common.{arith, length, ◌≡◌}
-use Rattle.determinize_dense.proofs.Searching.{found-in_dead, found-in_some, ordered, row-start, searched-none}
-use Rattle.determinize_dense.proofs.Searching.{searched-some, searched-start}
+use Rattle.determinize_dense.proofs.Searching.{found-in_dead, found-in_some, ordered, searched-none}
+use Rattle.determinize_dense.proofs.Searching.{searched-some}
 use Rattle.determinize_dense.proofs.dfa.Dfa.search_text.Goals.{else-row-self, then-row-self+else-is_earliest}
 use Rattle.determinize_dense.proofs.dfa.Dfa.search_text.Goals as goal
 

@@ -2,7 +2,7 @@ use Rattle.std.proofs.lemmas.List.{length-replicate}
 use Rattle.determinize_core.proofs.Common.{arith, length, rules, ◌*◌, ◌+◌, ◌≡◌, ◌≤◌}
 use Rattle.std.proofs.Math.Nat.{add-zero}
 use Rattle.determinize_dense.specs.Private.Partition.{IsOrdering}
-use Rattle.determinize_dense.proofs.Ordering.{ordering-blocks, ordering-by_rank, ordering-first, ordering-push}
+use Rattle.determinize_dense.proofs.Ordering.{ordering-blocks, ordering-by_rank, ordering-push}
 use Rattle.determinize_dense.proofs.Ordering.{ordering-skip}
 use Rattle.determinize_dense.proofs.partition.Partition.by_rank.Given.{Over}
 use Rattle.determinize_dense.proofs.partition.Partition.by_rank.Goals.{After-loop-rank, else-ranks-row}

@@ -1,7 +1,6 @@
 use Rattle.std.proofs.Common.{arith, length, rules, ◌+◌, ◌<◌, ◌≡◌}
 use Rattle.std.specs.Prelude.{slice_index}
 use Rattle.std.proofs.lemmas.Grind.{get_or_default_zero}
-use Rattle.determinize_dense.proofs.Ordering.{last-upto}
 use Rattle.determinize_dense.proofs.partition.Partition.last_upto.Given.{Over}
 use Rattle.determinize_dense.proofs.partition.Partition.last_upto.Goals.{After-index, After-len}
 use Rattle.determinize_dense.proofs.partition.Partition.last_upto.Goals as goal

@@ -1,8 +1,5 @@
 use Rattle.determinize_dense.proofs.Splitting.{pushed}
-use Rattle.determinize_core.proofs.Common.{arith, length_push, rules}
-use Rattle.determinize_dense.proofs.Collecting.{each-push}
-use Rattle.determinize_dense.proofs.FirstRows.{firsts-none}
-use Rattle.determinize_dense.specs.Private.Minimizing.{IsFirstAlike}
+use Rattle.determinize_core.proofs.Common.{arith}
 use Rattle.determinize_dense.proofs.rows.Rows.first_rows.Goals as goal
 
 pub loop-row-init : goal.loop-row-init

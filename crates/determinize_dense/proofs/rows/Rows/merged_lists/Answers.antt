@@ -1,10 +1,9 @@
 use Rattle.determinize_dense.proofs.Splitting.{pushed}
-use Rattle.determinize_core.proofs.Common.{[], arith, get_or, length, length-map, length_push}
+use Rattle.determinize_core.proofs.Common.{arith, get_or, length, length-map}
 use Rattle.determinize_core.proofs.Common.{slice_index, ℕ, ◌<◌, ◌≡◌}
 use Rattle.determinize_dense.proofs.Common.{patterns_at}
 use Rattle.std.proofs.lemmas.List.{map_push}
 use Rattle.std.proofs.lemmas.List.Elements.{same_from_all_zip}
-use Rattle.determinize_dense.proofs.Collecting.{each-push}
 use Rattle.determinize_dense.proofs.Lists.{items-at}
 use Rattle.determinize_dense.proofs.rows.Rows.merged_lists.Goals as goal
 

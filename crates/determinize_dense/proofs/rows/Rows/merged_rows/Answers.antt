@@ -1,10 +1,9 @@
 use Rattle.determinize_dense.proofs.Splitting.{pushed}
 use Rattle.determinize_dense.proofs.Splitting.{pushed}
-use Rattle.determinize_core.proofs.Common.{arith, length, length_push, ◌+◌, ◌≡◌, ◌≤◌}
+use Rattle.determinize_core.proofs.Common.{arith}
 use Rattle.determinize_dense.proofs.Collecting.{merged-push}
 use Rattle.determinize_dense.proofs.Splitting.{few_blocks}
 use Rattle.determinize_dense.proofs.rows.Rows.merged_rows.Goals as goal
-use Rattle.determinize_engine.specs.declared.state_table.TheConstants.{MAX_STATES}
 
 pub overflow_cast-block : goal.overflow_cast-block
 overflow_cast-block g c = omega (arith, few_blocks c.requires.blocks, (rw c.self.view_is at c.self.invariant).table.few)

@@ -1,10 +1,8 @@
 use Rattle.std.proofs.lemmas.Grind.{get_or-set_at}
 use Rattle.determinize_core.proofs.Common.{get_or-set_other}
-use Rattle.determinize_core.proofs.Common.{arith, length, length-set, slice_index, ◌≡◌, ◌≤◌}
-use Rattle.determinize_dense.proofs.Collecting.{each-set}
+use Rattle.determinize_core.proofs.Common.{arith, length-set}
 use Rattle.determinize_dense.proofs.Splitting.{few_blocks}
 use Rattle.determinize_dense.proofs.rows.Rows.merged_starts.Goals as goal
-use Rattle.determinize_engine.specs.declared.state_table.TheConstants.{MAX_STATES}
 
 pub loop-number-init : goal.loop-number-init
 loop-number-init g c = grind arith

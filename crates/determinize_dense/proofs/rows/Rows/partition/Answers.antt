@@ -1,6 +1,6 @@
 use Rattle.determinize_dense.proofs.Splitting.{few_blocks}
 use Rattle.determinize_core.proofs.Common.{arith, length-replicate, None, true}
-use Rattle.determinize_dense.proofs.Refining.{partition-first, refined-less, refined-stable}
+use Rattle.determinize_dense.proofs.Refining.{partition-first}
 use Rattle.determinize_dense.proofs.rows.Rows.partition.Goals as goal
 
 pub whole-requires : goal.whole-requires

@@ -1,7 +1,5 @@
 use Rattle.determinize_dense.proofs.Splitting.{pushed}
-use Rattle.determinize_core.proofs.Common.{arith, length_push, None, rules, true}
-use Rattle.determinize_dense.proofs.Collecting.{each-push}
-use Rattle.determinize_dense.specs.Private.Order.{IsRank}
+use Rattle.determinize_core.proofs.Common.{arith, None, true}
 use Rattle.determinize_dense.proofs.rows.Rows.ranks.Goals as goal
 
 pub loop-row-preserved : goal.loop-row-preserved
