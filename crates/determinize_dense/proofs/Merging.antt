@@ -2,7 +2,7 @@
 -- Main statements: merged-dfa, merged-is, merged-least, merged-fewest.
 -- Used by: `merged` and `minimized`.
 -- Idea: the row of a block over a unit is the block of the row of its member, and so along units.
-use Rattle.determinize_core.proofs.Common.{Bool, List, None, Option, Some, [], arith, length, refl, slice_index, sym, ℕ}
+use Rattle.determinize_core.proofs.Common.{Bool, List, None, Option, Some, [], arith, length, refl, slice_index, ℕ}
 use Rattle.determinize_core.proofs.Common.{◌*◌, ◌++◌, ◌+◌, ◌<◌, ◌∷◌, ◌≡◌, ◌≤◌}
 use Rattle.determinize_dense.specs.Dfa.{IsDfaOf}
 use Rattle.determinize_dense.proofs.Common.{All, DfaValue, IsDfa, IsFilled, IsUnit, Table, column_of, patterns_at}
@@ -58,20 +58,9 @@ module _ {v : DfaValue} (is : IsDfa v) {p : Blocks} (part : IsGrouping v.table p
   same_column None = refl
   same_column (Some byte) = refl
 
-  -- a row is together with the member of its block
-  module _ (r : ℕ) (h : r < length d.patterns) where
-    abbrev first : ℕ
-    first = member (block r)
-
-    first-below : first < length d.patterns
-    first-below = member-below (block r) (block-below r h)
-
-    together : block first ≡ block r
-    together = part.blocks.own (block r) (block-below r h)
-
-    -- so the row of a block lists what each of its rows lists
-    block-lists : patterns_at e (block r) ≡ patterns_at d r
-    block-lists = grind (arith, listed.rows, part.patterns, first-below, together)
+  -- the row of a block lists what each of its rows lists
+  block-lists : (r : ℕ) → r < length d.patterns → patterns_at e (block r) ≡ patterns_at d r
+  block-lists r h = grind (arith, listed.rows, part.patterns, part.blocks.own, member-below, block-below)
 
   -- an entry of the row of a block
   entry-merged : (b c : ℕ) → b < length p.members → c < v.table.class_count + 1
@@ -88,7 +77,8 @@ module _ {v : DfaValue} (is : IsDfa v) {p : Blocks} (part : IsGrouping v.table p
 
   block-over : (r : ℕ) (u : Option ℕ) → r < length d.patterns → IsUnit u
       → row_over e (block r) u ≡ block (row_over d r u)
-  block-over r u h unit = grind (arith, over-block, part.stable, together, first-below, is.table.column)
+  block-over r u h unit =
+      grind (arith, over-block, part.stable, part.blocks.own, member-below, block-below, is.table.column)
 
   -- the row after units of a block
   block-after : (us : List (Option ℕ)) (r : ℕ) → r < length d.patterns → All IsUnit us
@@ -99,27 +89,18 @@ module _ {v : DfaValue} (is : IsDfa v) {p : Blocks} (part : IsGrouping v.table p
       rw (block-over r u h unit)
       (block-after us (row_over d r u) (is.table.within r u h unit) (All-tail IsUnit u us all))
 
-  after-below : (us : List (Option ℕ)) (r : ℕ) → r < length d.patterns → All IsUnit us
-      → row_after d r us < length d.patterns
-  after-below us r h all = row_after-below v.nfa d (has_rows v is) us r h all
-
-  start-below : (anchored : Bool) (q : Option ℕ) → IsUnit q → start_row v.nfa d anchored q < length d.patterns
-  start-below anchored q h = (has_rows v is).starts anchored q h
-
-  block-start : (anchored : Bool) (q : Option ℕ)
-      → start_row v.nfa e anchored q ≡ block (start_row v.nfa d anchored q)
-  block-start anchored q = let slot = slot_of anchored (start_kind_of v.nfa.terminator q) in
-      firsts.blocks (slot_number slot) (slot_number-below slot)
-
   -- the block of the row after a start and units
   block-from : (anchored : Bool) (q : Option ℕ) (us : List (Option ℕ)) → IsUnit q → All IsUnit us
       → row_after e (start_row v.nfa e anchored q) us ≡ block (row_after d (start_row v.nfa d anchored q) us)
-  block-from anchored q us h all = rw (block-start anchored q)
-      (block-after us (start_row v.nfa d anchored q) (start-below anchored q h) all)
+  block-from anchored q us h all =
+      let slot = slot_of anchored (start_kind_of v.nfa.terminator q) in
+      rw (firsts.blocks (slot_number slot) (slot_number-below slot))
+      (block-after us (start_row v.nfa d anchored q) ((has_rows v is).starts anchored q h) all)
 
   tells : IsDfaOf v.nfa v.kind e
   tells anchored q us h all =
-      let below = after-below us (start_row v.nfa d anchored q) (start-below anchored q h) all in
+      let start = (has_rows v is).starts anchored q h in
+      let below = row_after-below v.nfa d (has_rows v is) us (start_row v.nfa d anchored q) start all in
       rw (block-from anchored q us h all, block-lists (row_after d (start_row v.nfa d anchored q) us) below)
       (is.tells anchored q us h all)
 
@@ -127,7 +108,8 @@ module _ {v : DfaValue} (is : IsDfa v) {p : Blocks} (part : IsGrouping v.table p
   lists-after : (b : ℕ) (us : List (Option ℕ)) → b < length p.members → All IsUnit us
       → patterns_at e (row_after e b us) ≡ patterns_at d (row_after d (member b) us)
   lists-after b us h all =
-      grind (arith, block-after us (member b), block-lists, part.blocks.own, member-below, after-below us (member b))
+      let below = row_after-below v.nfa d (has_rows v is) us (member b) in
+      grind (arith, block-after us (member b), block-lists, part.blocks.own, member-below, below)
 
   -- no match follows row 0
   none-after : (rest : List (Option ℕ)) → All IsUnit rest → patterns_at e (row_after e 0 rest) ≡ []
@@ -146,7 +128,9 @@ module _ {v : DfaValue} (is : IsDfa v) {p : Blocks} (part : IsGrouping v.table p
 
   filled : IsFilled e
   filled =
-      grind (arith, listed.count, rows.size, firsts.blocks, block-below, member-below, same_column, over-block, few_blocks part.blocks, is.table.units, is.table.column, is.table.within, is.table.first)
+      let are = is.table in
+      grind (arith, listed.count, rows.size, firsts.blocks, block-below, member-below, same_column, over-block,
+      few_blocks part.blocks, are.units, are.column, are.within, are.first)
 
   pub merged-dfa : IsDfa (with_rows v next starts lists)
   merged-dfa = record {

@@ -1,11 +1,9 @@
 use Rattle.std.proofs.lemmas.List.{length-replicate}
-use Rattle.determinize_core.proofs.Common.{arith, length, rules, ◌*◌, ◌+◌, ◌≡◌, ◌≤◌}
+use Rattle.determinize_core.proofs.Common.{arith, length, rules, ◌+◌, ◌≡◌}
 use Rattle.std.proofs.Math.Nat.{add-zero}
-use Rattle.determinize_dense.specs.Private.Partition.{IsOrdering}
 use Rattle.determinize_dense.proofs.Ordering.{ordering-blocks, ordering-by_rank, ordering-push}
 use Rattle.determinize_dense.proofs.Ordering.{ordering-skip}
-use Rattle.determinize_dense.proofs.partition.Partition.by_rank.Given.{Over}
-use Rattle.determinize_dense.proofs.partition.Partition.by_rank.Goals.{After-loop-rank, else-ranks-row}
+use Rattle.determinize_dense.proofs.partition.Partition.by_rank.Goals.{else-ranks-row}
 use Rattle.determinize_dense.proofs.partition.Partition.by_rank.Goals.{then-ranks-row+in_ok-push}
 use Rattle.determinize_dense.proofs.partition.Partition.by_rank.Goals as goal
 
@@ -31,16 +29,12 @@ loop-row-preserved g c = record {
 pub loop-rank-preserved : goal.loop-rank-preserved
 loop-rank-preserved g c = grind arith
 
--- all rows have their blocks
-whole : (g : Over) (c : After-loop-rank g) → 4 ≤ c.loop-rank.rank
-    → IsOrdering c.args.ranks.now (4 * length c.args.ranks.now) c.loop-rank.blocks.items c.loop-rank.members.items
-whole g c all = let last : c.loop-rank.rank ≡ 4 = omega arith in rw last at c.loop-rank.invariant.ordering
-
 pub invariant_of-result : goal.invariant_of-result
-invariant_of-result g c = ordering-blocks
-    (whole g (goal.at.invariant_of-result g c).After-loop-rank c.loop-rank-test.false)
-    c.requires.few c.requires.some c.requires.first
+invariant_of-result g c =
+    let all : c.loop-rank.rank ≡ 4 = omega (arith, c.loop-rank.invariant.below, c.loop-rank-test.false) in
+    ordering-blocks (rw all at c.loop-rank.invariant.ordering) c.requires.few c.requires.some c.requires.first
 
 pub returns : goal.returns
-returns g c = ordering-by_rank (whole g (goal.at.returns g c).After-loop-rank c.loop-rank-test.false)
-    c.requires.few c.requires.some c.requires.first
+returns g c =
+    let all : c.loop-rank.rank ≡ 4 = omega (arith, c.loop-rank.invariant.below, c.loop-rank-test.false) in
+    ordering-by_rank (rw all at c.loop-rank.invariant.ordering) c.requires.few c.requires.some c.requires.first

@@ -1,13 +1,12 @@
-use Rattle.std.proofs.Common.{arith, length, rules, ◌<◌, ◌≡◌, ◌≤◌}
+use Rattle.std.proofs.Common.{arith, length, rules, ◌<◌, ◌≡◌}
 use Rattle.std.proofs.lemmas.Grind.{get_or_default_zero}
 use Rattle.std.proofs.lemmas.List.{length_push}
 use Rattle.std.proofs.lemmas.List.Elements.{same_from_all_zip}
 use Rattle.std.specs.Prelude.{slice_index}
 use Rattle.determinize_dense.proofs.Splitting.{row-kept, row-split, splitting-blocks, splitting-none}
 use Rattle.determinize_dense.proofs.Splitting.{splitting-split}
-use Rattle.determinize_dense.specs.Private.Partition.{AreBlocks}
 use Rattle.determinize_dense.proofs.partition.Partition.split.Given.{Over}
-use Rattle.determinize_dense.proofs.partition.Partition.split.Goals.{After-index-in-loop-row, After-loop-row}
+use Rattle.determinize_dense.proofs.partition.Partition.split.Goals.{After-index-in-loop-row}
 use Rattle.determinize_dense.proofs.partition.Partition.split.Goals.{then-value-values, else-value-values+in_ok-number}
 use Rattle.determinize_dense.proofs.partition.Partition.split.Goals as goal
 
@@ -15,28 +14,20 @@ module _ (g : Over) (c : After-index-in-loop-row g) where
   room : c.loop-row.row < length c.args.self.now.numbers
   room = rw (← c.self.view_is) (search rules)
 
-  are : AreBlocks c.args.self.now
-  are = rw (← c.self.view_is) c.self.invariant
-
   -- the block of the row, and its member
   block-is : c.index.result.now ≡ slice_index c.args.self.now.numbers c.loop-row.row
   block-is = rw (← c.self.view_is) (grind (arith, get_or_default_zero))
 
-  block-below : c.index.result.now < length c.args.self.now.members
-  block-below = rw block-is (are.within c.loop-row.row room)
-
   member-is : c.index-in-loop-row.result.now ≡ slice_index c.args.self.now.members c.index.result.now
-  member-is = let below = block-below in rw (← c.self.view_is) (grind (arith, get_or_default_zero))
-
-  member-there : c.index-in-loop-row.result.now < length c.args.values.now
-  member-there = grind (arith, get_or_default_zero)
+  member-is = rw (← c.self.view_is) (grind (arith, get_or_default_zero))
 
 pub offset_bounds-values-index : goal.offset_bounds-values-index
 offset_bounds-values-index g c =
-    omega (arith, member-there g (goal.at.offset_bounds-values-index g c).After-index-in-loop-row)
+    let inside : c.index-in-loop-row.result.now < length c.args.values.now = grind (arith, get_or_default_zero) in
+    omega arith
 
 pub bounds-values-index : goal.bounds-values-index
-bounds-values-index g c = member-there g (goal.at.bounds-values-index g c).After-index-in-loop-row
+bounds-values-index g c = grind (arith, get_or_default_zero)
 
 pub loop-row-init : goal.loop-row-init
 loop-row-init g c = record {
@@ -50,31 +41,25 @@ loop-row-init g c = record {
 pub loop-row-preserved : goal.loop-row-preserved
 loop-row-preserved g c =
     let at = (goal.at.loop-row-preserved g c).After-index-in-loop-row in
+    let are = rw c.self.view_is at c.self.invariant in
     let splitting = c.loop-row.invariant.splitting in
     let count = c.loop-row.invariant.count in
     record {
       count = grind (arith, length_push);
       below = omega (arith, room g at);
       splitting = rw c.in_ok-push.ensures.items (elim c.if-value-values.branch [
-        | then-value-values w ↦ rw (w.members-is, w.numbers-is, w.number-is) (row-kept (are g at) splitting count
+        | then-value-values w ↦ rw (w.members-is, w.numbers-is, w.number-is) (row-kept are splitting count
             (room g at) (block-is g at) (member-is g at) w.if-value-values.true)
-        | else-value-values+in_ok-number w ↦ rw (w.members-is, w.numbers-is, w.number-is) (row-split (are g at)
+        | else-value-values+in_ok-number w ↦ rw (w.members-is, w.numbers-is, w.number-is) (row-split are
             splitting count (room g at) (block-is g at) (member-is g at) w.if-value-values.false
             w.in_ok-number.ensures)
       ]);
     }
 
--- all rows have their new blocks
-all-rows : (g : Over) (c : After-loop-row g) → c.len-row-end.result ≤ c.loop-row.row
-    → length c.loop-row.blocks.items ≡ length c.args.self.now.numbers
-all-rows g c h =
-    let end : c.len-row-end.result ≡ length c.args.self.now.numbers = rw (← c.self.view_is) (search rules) in
-    omega arith
-
 pub invariant_of-result : goal.invariant_of-result
 invariant_of-result g c = splitting-blocks (rw (← c.self.view_is) c.self.invariant) c.loop-row.invariant.splitting
-    (all-rows g (goal.at.invariant_of-result g c).After-loop-row c.loop-row-test.false)
+    (rw (← c.self.view_is) (search rules))
 
 pub returns : goal.returns
 returns g c = splitting-split (rw (← c.self.view_is) c.self.invariant) c.loop-row.invariant.splitting
-    (all-rows g (goal.at.returns g c).After-loop-row c.loop-row-test.false)
+    (rw (← c.self.view_is) (search rules))
