@@ -24,9 +24,6 @@ module _ {d : Table} {n : ℕ} {find : List ℕ → Option ℕ} (are : AreFirsts
     pub firsts-new : {next : List ℕ → Option ℕ}
         → ((xs : List ℕ) → next xs ≡ cond (bytes_eq (patterns_at d n) xs) (Some n) (find xs)) → AreFirsts d (n + 1) next
     firsts-new {next} is = record {
-      found = λ xs r at.
-          let same = bytes_decides (patterns_at d n) xs in
-          grind (arith, is xs, are.found xs r, are.none (patterns_at d n) new);
-      none = λ xs none s below same.
-          let decides = bytes_decides (patterns_at d n) xs in grind (arith, is xs, are.none xs);
+      found = λ xs r at. grind (arith, bytes_decides (patterns_at d n) xs, is xs, are.found xs r, are.none (patterns_at d n) new);
+      none = λ xs none s. grind (arith, bytes_decides (patterns_at d n) xs, is xs, are.none xs);
     }

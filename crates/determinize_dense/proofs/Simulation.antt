@@ -74,11 +74,9 @@ module _ (b : Building) (is : IsBuilding b) (whole : length b.next ≡ length b.
       let below : c < columns = column-below u h in
       let place = mul-add-lt r columns c (length b.values) (slice_get_within b.values r v at) below in
       let inside : r * columns + c < length b.next = omega (arith, whole) in
-      let entry = is.entries (r * columns + c) (slice_index b.next (r * columns + c))
-      (slice_get-get_or b.next (r * columns + c) 0 inside) in
-      let same : entry.0 ≡ v = of_some (sym (rw (div-mul-add r columns c below) at entry.1) ∙ at) in
-      rw (← same-step v u (reached-tested b.nfa b.kind v (is.reached r v at)) h)
-      (rw (same, mod-mul-add r columns c below) at entry.2)
+      let entry = is.entries (r * columns + c) (slice_index b.next (r * columns + c)) in
+      let tested = same-step v u (reached-tested b.nfa b.kind v (is.reached r v at)) h in
+      grind (arith, entry, tested, slice_get-get_or, div-mul-add r columns c below, mod-mul-add r columns c below)
 
   -- and so along units
   row_after-steps : (us : List (Option ℕ)) (r : ℕ) (v : Value) → slice_get b.values r ≡ Some v → All IsUnit us

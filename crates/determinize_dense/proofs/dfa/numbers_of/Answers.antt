@@ -5,8 +5,7 @@ use Rattle.determinize_dense.proofs.dfa.numbers_of.Goals as goal
 
 pub loop-offset-preserved : goal.loop-offset-preserved
 loop-offset-preserved g c = record {
-  rows = mapped-push (λ offset. offset / c.args.columns) c.loop-offset.rows.items c.push.new.self.items
-      c.args.offsets.now c.loop-offset.offset-index 0 c.loop-offset.invariant.rows c.in_ok-push.ensures.items
+  rows = mapped-push (λ offset. offset / c.args.columns) _ _ _ _ 0 c.loop-offset.invariant.rows c.in_ok-push.ensures.items
       (search rules);
 }
 

@@ -1,5 +1,5 @@
 use Rattle.std.proofs.lemmas.List.{length-replicate}
-use Rattle.determinize_core.proofs.Common.{arith, length, rules, ◌+◌, ◌≡◌}
+use Rattle.determinize_core.proofs.Common.{arith, ◌+◌, ◌≡◌}
 use Rattle.std.proofs.Math.Nat.{add-zero}
 use Rattle.determinize_dense.proofs.Ordering.{ordering-blocks, ordering-by_rank, ordering-push}
 use Rattle.determinize_dense.proofs.Ordering.{ordering-skip}
@@ -17,10 +17,7 @@ pub loop-row-preserved : goal.loop-row-preserved
 loop-row-preserved g c = record {
   below = omega (arith, c.loop-row-test.true);
   ordering = elim c.if-ranks-row.branch [
-    | then-ranks-row+in_ok-push w ↦
-        let place : w.len.result ≡ length c.loop-row.members.items = search rules in
-        rw (w.members-is, w.blocks-is, w.in_ok-push.ensures.items, place) (ordering-push c.loop-rank.rank c.loop-row.row
-        c.loop-row.invariant.ordering c.loop-row-test.true w.if-ranks-row.true)
+    | then-ranks-row+in_ok-push w ↦ rw (w.members-is, w.blocks-is) (grind (arith, w.in_ok-push.ensures.items, w.len.ensures, ordering-push c.loop-rank.rank c.loop-row.row c.loop-row.invariant.ordering))
     | else-ranks-row w ↦ rw (w.members-is, w.blocks-is) (ordering-skip c.loop-rank.rank c.loop-row.row
         c.loop-row.invariant.ordering c.loop-row-test.true w.if-ranks-row.false)
   ];

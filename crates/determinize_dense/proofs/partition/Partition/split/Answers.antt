@@ -33,9 +33,8 @@ pub loop-row-init : goal.loop-row-init
 loop-row-init g c = record {
   count = search rules;
   below = search rules;
-  splitting = splitting-none (rw (← c.self.view_is) c.self.invariant) (search rules)
-      (rw (← c.self.view_is) (same_from_all_zip _ c.self.inside.members.items c.in_ok-members.members.items
-      c.in_ok-members.ensures.cases.0 (λ x y e. e))) (λ q. search rules);
+  splitting = rw (← c.self.view_is) (splitting-none c.self.invariant (search rules) (same_from_all_zip _
+      c.self.inside.members.items _ c.in_ok-members.ensures.cases.0 (λ x y e. e)) (λ q. search rules));
 }
 
 pub loop-row-preserved : goal.loop-row-preserved
