@@ -49,8 +49,12 @@ module _ (d : Table) (r n : ℕ) where
 
   -- the number of lists that are left is that of the units
   pub lists_left : (text : Text) → length (lists_along d r (drop n (units text))) ≡ length text.bytes + 1 - n
-  lists_left text = omega (arith, length_along d r (drop n (units text)), length-drop n (units text),
-      length-map-range_with_len (after_at text) 0 (suc (length text.bytes)))
+  lists_left text = omega (
+    arith,
+    length_along d r (drop n (units text)),
+    length-drop n (units text),
+    length-map-range_with_len (after_at text) 0 (suc (length text.bytes)),
+  )
 
   -- so no match is left where no unit is, and over one unit more the first one is that of the next row
   pub last_listed-done : (us : List (Option ℕ)) → length us ≤ n → last_listed n (lists_along d r (drop n us)) ≡ None
@@ -90,8 +94,11 @@ lists_along-are nfa kind d (u ∷ us) r v same all =
 along_walk : (nfa : Nfa) (kind : MatchKind) (start : ℕ) (text : Text) (lists : List (List ℕ)) → IsAccepted nfa
     → [] ∷ lists ≡ lists_of (chain nfa kind start text) → ListsAlong nfa kind start text lists
 along_walk nfa kind start text lists accepted walk = record {
-  count = grind (arith, length-map (chain nfa kind start text) (λ (v : Value). v.patterns),
-      length-chain nfa kind start text);
+  count = grind (
+    arith,
+    length-map (chain nfa kind start text) (λ (v : Value). v.patterns),
+    length-chain nfa kind start text,
+  );
   walk = walk;
   all = λ k. let is : IsWalkOfAll nfa start text ([] ∷ lists) = rw (walk, k) (chain_of_all nfa accepted start text) in
       is.matches;

@@ -82,8 +82,11 @@ module _ (nfa : Nfa) (accepted : IsAccepted nfa) (start : ℕ) (text : Text) whe
   preferred-listed =
       let first : Value = start_value nfa start text.behind in
       let before = last_match-within nfa LeftmostFirst first (map Some text.bytes) in
-      let found = rw (chain_is_future nfa LeftmostFirst start text.behind text.ahead text.bytes, last_match-push,
-      length-map) at (leftmost_walk nfa accepted start text).found in
+      let found = rw (
+        chain_is_future nfa LeftmostFirst start text.behind text.ahead text.bytes,
+        last_match-push,
+        length-map,
+      ) at (leftmost_walk nfa accepted start text).found in
       let few = one_pattern nfa LeftmostFirst _ text.ahead refl _
       (value_after-push nfa LeftmostFirst first (map Some text.bytes) text.ahead) in
       rw (units_listed text) (preferred_of _ few _ (rw length-map at before) found)

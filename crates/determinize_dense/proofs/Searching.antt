@@ -1,14 +1,14 @@
 -- A search by a table, one unit more at a time, and what it finds.
--- Main statements: row-push, patterns-are, come-none, come-scanned, come-some, found-all, found-dead, found-first.
+-- Main statements: row-push, patterns-are, come-none, come-some, come-on, found-all, found-dead, found-first.
 -- Used by: the searches of `Dfa`.
 -- Idea: the row lists what the value after the same units lists, so the last match is that of the last row with a list.
 use Rattle.determinize_core.proofs.Common.{[], ap, append-nil, append_assoc, arith, Bool, drop, ended_at, future}
 use Rattle.determinize_core.proofs.Common.{get_or, get_or_from_slice_get, HalfMatch, is_nonempty, is_some}
 use Rattle.determinize_core.proofs.Common.{last_match, length, length-append, length-map, length-take-le, List, map}
-use Rattle.determinize_core.proofs.Common.{None, Option, option_or, refl, slice_get_within}
+use Rattle.determinize_core.proofs.Common.{inl, inr, Option, option_or, refl, slice_get_within}
 use Rattle.determinize_core.proofs.Common.{Some, start_value, suc, sym, take, take-append-drop, take_all}
 use Rattle.determinize_core.proofs.Common.{take_more, Text, true, true≢false, units, Value, value_after, zero, ℕ}
-use Rattle.determinize_core.proofs.Common.{◌++◌, ◌+◌, ◌-◌, ◌<◌, ◌∙◌, ◌∷◌, ◌≡◌, ◌≤◌}
+use Rattle.determinize_core.proofs.Common.{◌++◌, ◌+◌, ◌-◌, ◌<◌, ◌∙◌, ◌∷◌, ◌≡◌, ◌≤◌, ◌⊎◌}
 use Rattle.determinize_dense.proofs.Common.{All, DfaValue, IsDfa, IsFound, IsRowFrom, IsSearched, IsUnit, patterns_at}
 use Rattle.determinize_dense.proofs.Common.{row_after, row_over, start_in, start_row, Table, value_from}
 use Rattle.determinize_core.specs.Chain.{chain}
@@ -20,6 +20,7 @@ use Rattle.determinize_dense.proofs.Least.{dead_zero, row_after-more}
 use Rattle.determinize_dense.proofs.Offsets.{offset-zero, same-offset}
 use Rattle.determinize_dense.specs.Private.Order.{IsOrdered}
 use Rattle.determinize_dense.specs.Private.Rows.{IsNext, IsRowAt, IsOffset, offset_of}
+use Rattle.determinize_dense.specs.declared.search.Reached.{Reached}
 use Rattle.determinize_dense.specs.Private.Searching.{HasCome, IsMatch, IsRead, StaysOver}
 use Rattle.determinize_core.proofs.walk.LastMatches.{last_match-push}
 
@@ -81,18 +82,20 @@ module _ (d : DfaValue) (anchored : Bool) (text : Text) where
 
 -- a search at its start
 pub searched-start : {d : DfaValue} {anchored : Bool} {text : Text} {row : ℕ} → IsDfa d
-    → IsRowFrom d anchored text.behind [] row → IsSearched d anchored text 0 row 0 0
+    → IsRowFrom d anchored text.behind [] row
+    → IsSearched d anchored text record { row = row; read = 0; matched = 0; offset = 0 }
 searched-start {d} {anchored} {text} {row} is at =
     let some : 0 < length d.table.patterns = omega (arith, at.below) in
     record {
       at = at;
       listing = (0, some, omega arith);
       so_far = λ r h e. rw (offset-zero d.table {r = r} (sym e), dead_zero d is some [] (All-nil IsUnit));
+      some = λ not. absurd (not refl);
     }
 
-module _ {d : DfaValue} {anchored : Bool} {text : Text} {read row matched end : ℕ} {found : Option HalfMatch}
-    (is : IsDfa d) (s : IsSearched d anchored text read row matched end) (f : IsMatch d.table matched end found) where
-  so_far : found ≡ last_of d anchored text (take read (units text))
+module _ {d : DfaValue} {anchored : Bool} {text : Text} {r : Reached} {found : Option HalfMatch}
+    (is : IsDfa d) (s : IsSearched d anchored text r) (f : IsMatch d.table r.matched r.offset found) where
+  so_far : found ≡ last_of d anchored text (take r.read (units text))
   so_far = let at = s.listing in f at.0 at.1 at.2 ∙ sym (s.so_far at.0 at.1 at.2)
 
   -- the last match of all values
@@ -101,29 +104,36 @@ module _ {d : DfaValue} {anchored : Bool} {text : Text} {read row matched end : 
   found-last e earliest = record { accepted = is.accepted; last = λ _. e; some = ap is_some e }
 
   -- what a search finds that has read all units
-  pub found-all : length (units text) ≤ read → (earliest : Bool) → IsFound d earliest anchored text found
-  found-all all = found-last (rw (take_all read (units text) all) at so_far)
+  pub found-all : length (units text) ≤ r.read → (earliest : Bool) → IsFound d earliest anchored text found
+  found-all all = found-last (rw (take_all r.read (units text) all) at so_far)
 
   -- or is in row 0
-  found-dead : All IsUnit (units text) → row ≡ 0 → (earliest : Bool) → IsFound d earliest anchored text found
+  found-dead : All IsUnit (units text) → r.row ≡ 0 → (earliest : Bool) → IsFound d earliest anchored text found
   found-dead all dead =
       let none = λ (more : List (Option ℕ)) (after : All IsUnit more). is.over anchored text.behind
-      (take read (units text)) more s.at.behind s.at.units after (offset-zero d.table (sym s.at.reached ∙ dead)) in
-      let same = over d anchored text (take read (units text)) (drop read (units text))
-      (All-drop IsUnit read (units text) all) none in
+      (take r.read (units text)) more s.at.behind s.at.units after (offset-zero d.table (sym s.at.reached ∙ dead)) in
+      let same = over d anchored text (take r.read (units text)) (drop r.read (units text))
+      (All-drop IsUnit r.read (units text) all) none in
       found-last (so_far ∙ sym (rw take-append-drop at same))
 
   -- or has a match, where any will do
-  found-first : is_some found ≡ true → {earliest : Bool} → earliest ≡ true → IsFound d earliest anchored text found
+  found-first : (r.matched ≡ 0 → ⊥) → {earliest : Bool} → earliest ≡ true → IsFound d earliest anchored text found
   unfolding chain
-  found-first some early = record {
+  found-first not early = record {
     accepted = is.accepted;
     last = λ late. absurd (true≢false (sym early ∙ late));
     some =
-        let more = longer d.nfa d.kind (first d anchored text) (take read (units text)) (drop read (units text))
-        (rw so_far at some) in
-        rw some (sym (rw take-append-drop at more));
+        let some = s.some not in
+        let more = longer d.nfa d.kind (first d anchored text) (take r.read (units text)) (drop r.read (units text))
+        some in
+        rw (so_far, some) (sym (rw take-append-drop at more));
   }
+
+  -- one of the two
+  pub found-over : All IsUnit (units text) → {earliest : Bool}
+      → (r.row ≡ 0) ⊎ ((earliest ≡ true) × (r.matched ≡ 0 → ⊥)) → IsFound d earliest anchored text found
+  found-over all {earliest} (inl dead) = found-dead all dead earliest
+  found-over all (inr early) = found-first early.1 early.0
 
 -- a list of patterns has a match, which takes the place of the last one
 match_of_some : (end : ℕ) (ps : List ℕ) (last : Option HalfMatch) → is_nonempty ps ≡ true
@@ -131,69 +141,68 @@ match_of_some : (end : ℕ) (ps : List ℕ) (last : Option HalfMatch) → is_non
 match_of_some end [] last some = absurd (true≢false (sym some))
 match_of_some end (x ∷ ps) last some = (refl, refl)
 
-module _ {d : DfaValue} {anchored : Bool} {text : Text} {read row matched end : ℕ} (is : IsDfa d)
-    (s : IsSearched d anchored text read row matched end) {next : ℕ} (r : IsRead d.table text read row next) where
-  row-next : IsRowFrom d anchored text.behind (take read (units text) ++ r.unit ∷ []) next
-  row-next = row-push s.at r.unit r.is_unit r.goes
+module _ {d : DfaValue} {anchored : Bool} {text : Text} {r : Reached} (is : IsDfa d)
+    (s : IsSearched d anchored text r) {next : ℕ} (over : IsRead d.table text r.read r.row next) where
+  row-next : IsRowFrom d anchored text.behind (take r.read (units text) ++ over.unit ∷ []) next
+  row-next = row-push s.at over.unit over.is_unit over.goes
 
   -- its row
   abbrev row_next : ℕ
-  row_next = row_after d.table (start_row d.nfa d.table anchored text.behind) (take read (units text) ++ r.unit ∷ [])
+  row_next = row_after d.table (start_row d.nfa d.table anchored text.behind)
+      (take r.read (units text) ++ over.unit ∷ [])
 
-  within : read < length (units text)
-  within = slice_get_within (units text) read r.unit r.at
+  within : r.read < length (units text)
+  within = slice_get_within (units text) r.read over.unit over.at
 
-  taken : take (read + 1) (units text) ≡ take read (units text) ++ r.unit ∷ []
-  taken = rw (take_more (units text) read r.unit within, get_or_from_slice_get (units text) read r.unit r.unit r.at)
+  taken : take (r.read + 1) (units text) ≡ take r.read (units text) ++ over.unit ∷ []
+  taken = rw (
+    take_more (units text) r.read over.unit within,
+    get_or_from_slice_get (units text) r.read over.unit over.unit over.at,
+  )
 
   -- the last match of the values so far and of one more
-  last-is : last_of d anchored text (take (read + 1) (units text))
-      ≡ option_or (ended_at read (patterns_at d.table row_next)) (last_of d anchored text (take read (units text)))
+  last-is : last_of d anchored text (take (r.read + 1) (units text))
+      ≡ option_or (ended_at r.read (patterns_at d.table row_next)) (last_of d anchored text (take r.read (units text)))
   last-is =
-      let tells = is.tells anchored text.behind (take read (units text) ++ r.unit ∷ []) row-next.behind row-next.units in
-      rw (taken, last_match-push, length-take-le read (units text) (omega (arith, within)), tells)
+      let tells = is.tells anchored text.behind (take r.read (units text) ++ over.unit ∷ []) row-next.behind
+      row-next.units in
+      rw (taken, last_match-push, length-take-le r.read (units text) (omega (arith, within)), tells)
 
   -- a row more that lists none
-  searched-kept : patterns_at d.table row_next ≡ [] → IsSearched d anchored text (read + 1) next matched end
-  searched-kept none = record { at = rw taken row-next; listing = s.listing; so_far = rw (last-is, none) s.so_far }
+  searched-kept : patterns_at d.table row_next ≡ []
+      → IsSearched d anchored text record r { row = next; read = r.read + 1 }
+  searched-kept none = record {
+    at = rw taken row-next;
+    listing = s.listing;
+    so_far = rw (last-is, none) s.so_far;
+    some = rw (last-is, none) s.some;
+  }
 
   -- it is row 0
-  pub searched-dead : next ≡ 0 → IsSearched d anchored text (read + 1) next matched end
+  pub searched-dead : next ≡ 0 → IsSearched d anchored text record r { row = next; read = r.read + 1 }
   searched-dead dead =
       let zero : row_next ≡ 0 = offset-zero d.table (sym row-next.reached ∙ dead) in
       searched-kept (rw zero (dead_zero d is (omega (arith, row-next.below)) [] (All-nil IsUnit)))
 
-  -- there the search ends
-  pub found-in_dead : next ≡ 0 → All IsUnit (units text) → {found : Option HalfMatch} → IsMatch d.table matched end found
-      → (earliest : Bool) → IsFound d earliest anchored text found
-  found-in_dead dead all f = found-dead is (searched-dead dead) f all dead
-
   module _ {last_match last_special : ℕ} (o : IsOrdered d.table last_match last_special) where
     -- or behind those that list some
-    pub searched-none : last_match < next → IsSearched d anchored text (read + 1) next matched end
+    pub searched-none : last_match < next → IsSearched d anchored text record r { row = next; read = r.read + 1 }
     searched-none h = searched-kept (o.none row_next row-next.below (rw row-next.reached at h))
 
     -- or one of them
-    module _ (not : next ≡ 0 → ⊥) (upto : next ≤ last_match) where
-      match-some : (last : Option HalfMatch) → (is_some (ended_at read (patterns_at d.table row_next)) ≡ true)
-          × (option_or (ended_at read (patterns_at d.table row_next)) last ≡ ended_at read (patterns_at d.table row_next))
-      match-some last = match_of_some read (patterns_at d.table row_next) last
-          (o.some row_next (grind (arith, row-next.reached)) row-next.below (rw row-next.reached at upto))
-
-      pub searched-some : IsSearched d anchored text (read + 1) next next read
-      searched-some = record {
-        at = rw taken row-next;
-        listing = row-offset row-next;
-        so_far = λ m h e.
-            let same : row_next ≡ m = same-offset d.table (sym row-next.reached ∙ e) in
-            rw (last-is, (match-some (last_of d anchored text (take read (units text)))).1, same);
-      }
-
-      -- with its match the search ends, if any will do
-      pub found-in_some : {found : Option HalfMatch} → IsMatch d.table next read found → {earliest : Bool}
-          → earliest ≡ true → IsFound d earliest anchored text found
-      found-in_some f = found-first is searched-some f
-          (rw (f row_next row-next.below row-next.reached) (match-some None).0)
+    pub searched-some : (next ≡ 0 → ⊥) → next ≤ last_match → IsSearched d anchored text
+        record { row = next; read = r.read + 1; matched = next; offset = r.read }
+    searched-some not upto =
+        let some = match_of_some r.read (patterns_at d.table row_next) (last_of d anchored text (take r.read (units text)))
+        (o.some row_next (grind (arith, row-next.reached)) row-next.below (rw row-next.reached at upto)) in
+        record {
+          at = rw taken row-next;
+          listing = row-offset row-next;
+          so_far = λ m h e.
+              let same : row_next ≡ m = same-offset d.table (sym row-next.reached ∙ e) in
+              rw (last-is, some.1, same);
+          some = λ _. rw (last-is, some.1, some.0);
+        }
 
 -- the order of rows, of what a DFA is seen as
 pub ordered : {v d : DfaValue} {last_match last_special : ℕ} → v ≡ d → IsOrdered v.table last_match last_special
@@ -201,35 +210,56 @@ pub ordered : {v d : DfaValue} {last_match last_special : ℕ} → v ≡ d → I
 ordered e o = rw e at o
 
 -- units that lead a row to itself
-module _ {d : DfaValue} {anchored : Bool} {text : Text} {row matched end to last_match last_special : ℕ} (is : IsDfa d)
-    (o : IsOrdered d.table last_match last_special) (past : last_match < row) where
-  stays-more : (more read : ℕ) → read + more ≡ to → StaysOver d.table row text read to
-      → IsSearched d anchored text read row matched end → IsSearched d anchored text to row matched end
+module _ {d : DfaValue} {anchored : Bool} {text : Text} (r : Reached) {to last_match last_special : ℕ} (is : IsDfa d)
+    (o : IsOrdered d.table last_match last_special) (past : last_match < r.row) where
+  stays-more : (more read : ℕ) → read + more ≡ to → StaysOver d.table r.row text read to
+      → IsSearched d anchored text record r { read = read } → IsSearched d anchored text record r { read = to }
   stays-more zero read e stays s = let all : read ≡ to = omega arith in rw all at s
   stays-more (suc more) read e stays s = stays-more more (read + 1) (omega arith) (λ i h l. stays i (omega arith) l)
       (searched-none is s (stays read (omega arith) (omega arith)) o past)
 
-  pub searched-stays : {read : ℕ} → read ≤ to → StaysOver d.table row text read to
-      → IsSearched d anchored text read row matched end → IsSearched d anchored text to row matched end
-  searched-stays {read} h stays s = stays-more (to - read) read (omega arith) stays s
+  pub searched-stays : r.read ≤ to → StaysOver d.table r.row text r.read to
+      → IsSearched d anchored text r → IsSearched d anchored text record r { read = to }
+  searched-stays h stays s = stays-more (to - r.read) r.read (omega arith) stays s
 
--- how far a search has come, over one unit more
-module _ {d : DfaValue} {text : Text} {read row matched end i now listing at next last_match last_special : ℕ}
-    (come : HasCome d text read row matched end i now listing at) (offset : IsOffset d.table next)
-    (r : IsRead d.table text i now next) (o : IsOrdered d.table last_match last_special) where
+same_end : (n : ℕ) → n + 1 - 1 ≡ n
+same_end n = omega arith
+
+-- how far a search has come that goes on
+pub come-on : {d : DfaValue} {text : Text} {from now to : Reached} → HasCome d text from now → HasCome d text now to
+    → HasCome d text from to
+come-on a b = record {
+  at = b.at;
+  listing = b.listing;
+  searched = λ anchored sound s. b.searched anchored sound (a.searched anchored sound s);
+}
+
+-- over one unit more
+module _ {d : DfaValue} {text : Text} {from now : Reached} {next last_match last_special : ℕ}
+    (come : HasCome d text from now) (offset : IsOffset d.table next)
+    (r : IsRead d.table text now.read now.row next) (o : IsOrdered d.table last_match last_special) where
+  -- to row 0
+  pub come-dead : next ≡ 0 → HasCome d text from record now { row = next; read = now.read + 1 }
+  come-dead dead = record {
+    at = offset;
+    listing = come.listing;
+    searched = λ anchored sound s. searched-dead sound (come.searched anchored sound s) r dead;
+  }
+
   -- to a row that lists no pattern, and over the units that lead this to itself
-  pub come-none : last_match < next → {to : ℕ} → i + 1 ≤ to → StaysOver d.table next text (i + 1) to
-      → HasCome d text read row matched end to next listing at
+  pub come-none : last_match < next → {to : ℕ} → now.read + 1 ≤ to → StaysOver d.table next text (now.read + 1) to
+      → HasCome d text from record now { row = next; read = to }
   come-none past more stays = record {
     at = offset;
     listing = come.listing;
-    searched = λ anchored sound s. searched-stays sound o past more stays
-        (searched-none sound (come.searched anchored sound s) r o past);
+    searched = λ anchored sound s. searched-stays record now { row = next; read = now.read + 1 } sound o past more
+        stays (searched-none sound (come.searched anchored sound s) r o past);
   }
 
   -- or to a row that lists some
-  pub come-some : (next ≡ 0 → ⊥) → next ≤ last_match → HasCome d text read row matched end (i + 1) next next i
-  come-some not upto = record {
+  pub come-some : (next ≡ 0 → ⊥) → next ≤ last_match → HasCome d text from
+      record { row = next; read = now.read + 1; matched = next; offset = now.read + 1 - 1 }
+  come-some not upto = rw same_end record {
     at = offset;
     listing = offset;
     searched = λ anchored sound s. searched-some sound (come.searched anchored sound s) r o not upto;

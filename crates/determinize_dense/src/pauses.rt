@@ -1,9 +1,15 @@
-//! When a search scans out of rows. No match depends on it.
+//! When a search scans out of rows, and when it reads in blocks. No match depends on it.
 
 ghost use Rattle.std.specs.Prelude.{◌≤◌};
 
 /// The number of bytes that a search reads before it scans.
 pub(crate) const FIRST: usize = 64;
+
+/// The number of bytes of a block, and of the blocks without a match after which a search scans
+/// again.
+pub(crate) const BLOCK: usize = 64;
+
+pub(crate) const BLOCKS: usize = 8;
 
 /// A scan that reads fewer bytes costs more time than it saves.
 const WORTHWHILE: usize = 8;

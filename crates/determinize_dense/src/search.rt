@@ -3,7 +3,7 @@
 //! Matches are delayed by one unit: a row lists the patterns that match before the unit that led to
 //! it. So a search also reads the unit ahead of its text, and a start state is no match state.
 
-ghost use Rattle.std.specs.Prelude.{[], Bool, Decides, ◌≡◌, ◌<◌, ◌≤◌, ℕ, List, Contains, false, length, true, None};
+ghost use Rattle.std.specs.Prelude.{[], Bool, Decides, IsTrue, ◌≡◌, ◌<◌, ◌≤◌, ◌⊎◌, ℕ, List, Contains, false, length, true, None};
 ghost use Rattle.determinize_below.specs.Semantics.{Accepts, between};
 ghost use Rattle.determinize_below.specs.Search.{is_done};
 ghost use Rattle.determinize_below.specs.declared.search.MatchKind.TheVariants as kinds;
@@ -16,15 +16,39 @@ ghost use Rattle.determinize_dense.specs.Dfa.{value_from};
 ghost use Rattle.determinize_dense.specs.Meaning.{ListsPreferred};
 ghost use Rattle.determinize_dense.specs.Private.Rows.{IsOffset, IsRowAt};
 ghost use Rattle.determinize_dense.specs.Table.{patterns_at};
-ghost use Rattle.determinize_dense.specs.Private.Searching.{FindsFrom, IsFound, IsMatch, IsRead, StaysOver};
+ghost use Rattle.determinize_dense.specs.Private.Searching.{FindsFrom, HasCome, IsFound, IsMatch, IsRead, StaysOver};
 
 use crate::dfa::{Dfa, SCALE};
-use crate::pauses::{FIRST, Pauses};
+use crate::pauses::{BLOCK, BLOCKS, FIRST, Pauses};
 use determinize_below::{Anchored, HalfMatch, Input, PatternID};
 use determinize_engine::engine::Engine;
 use determinize_engine::text::{Text, in_haystack};
 use std::alloc::Allocator;
 use std::convert::Infallible;
+
+/// How far a search of a text has come.
+#[derive(Clone, Copy)]
+pub(crate) struct Reached {
+    /// The offset of the row.
+    pub(crate) row: usize,
+    /// The number of bytes that are read.
+    pub(crate) read: usize,
+    /// The offset of the last row that listed patterns, or 0.
+    pub(crate) matched: usize,
+    /// The offset of the match of that row.
+    pub(crate) offset: usize,
+}
+
+impl Reached {
+    /// Returns whether the search ends here: in row 0 or, if `is_earliest`, with a match.
+    #[inline(always)]
+    fn is_over(self, is_earliest: bool) -> bool
+        ensures { IsTrue result
+            → (self.row ≡ 0) ⊎ ((is_earliest ≡ true) × (self.matched ≡ 0 → ⊥)) }
+    {
+        self.row == 0 || (is_earliest && self.matched != 0)
+    }
+}
 
 /// Returns whether a search in this anchored mode starts at the anchored start.
 pub(crate) fn is_anchored(anchored: Anchored) -> bool
@@ -137,13 +161,44 @@ impl<'n, N: Allocator, A: Allocator + Copy> Dfa<'n, N, A> {
         self.row_over(row, text.ahead())
     }
 
+    /// Reads a text up to an index, without scans. Stops at row 0 and, if `is_earliest`, at the
+    /// first row that lists a pattern.
+    ///
+    /// Which rows list patterns is hard to predict, so the loop keeps the last one in a form that
+    /// needs no jump where `is_earliest` is the constant `false`.
+    #[inline(always)]
+    fn read_block(&self, text: &Text<'_>, from: Reached, until: usize, is_earliest: bool) -> Reached
+        requires row { IsOffset self.now.table from.row }
+        requires matched { IsOffset self.now.table from.matched }
+        requires read { from.read ≤ until }
+        requires until { until ≤ length text.now.bytes }
+        ensures come { HasCome self.now text.now from result }
+        ensures more { from.read < until → from.read < result.read }
+        ensures within { result.read ≤ until }
+    {
+        let mut at = from;
+        while at.read < until {
+            at.row = self.over_byte(at.row, text, at.read);
+            at.read += 1;
+            if at.row == 0 {
+                break;
+            }
+            if at.row <= self.last_match {
+                at.matched = at.row;
+                at.offset = at.read - 1;
+                if is_earliest {
+                    break;
+                }
+            }
+        }
+        at
+    }
+
     /// Searches a text. The search ends at row 0 and, if `is_earliest`, at the first row that lists
     /// a pattern. Returns the last match of the rows that it enters.
     ///
     /// A row is known by its offset. The match of the last row that lists patterns is looked up at
-    /// the end. The first bytes are read here, with no scans. Which rows list patterns is hard to
-    /// predict, so the loop assigns `matched` and `offset` in a form that needs no jump where
-    /// `is_earliest` is the constant `false`.
+    /// the end. The first bytes are read here, without scans.
     #[inline(always)]
     fn search_text(
         &self,
@@ -153,105 +208,108 @@ impl<'n, N: Allocator, A: Allocator + Copy> Dfa<'n, N, A> {
     ) -> Option<HalfMatch>
         ensures { IsFound self.now is_earliest is_anchored text.now result }
     {
-        let mut row = self.start_row(is_anchored, text.behind());
-        let (mut matched, mut offset, mut read) = (0, 0, 0);
-        let until = text.len().min(FIRST);
-        while read < until {
-            row = self.over_byte(row, text, read);
-            if row == 0 {
-                return self.match_of(matched, offset);
-            }
-            if row <= self.last_match {
-                matched = row;
-                offset = read;
-                if is_earliest {
-                    return self.match_of(matched, offset);
-                }
-            }
-            read += 1;
+        let start = Reached {
+            row: self.start_row(is_anchored, text.behind()),
+            read: 0,
+            matched: 0,
+            offset: 0,
+        };
+        let first = self.read_block(text, start, text.len().min(FIRST), is_earliest);
+        if first.is_over(is_earliest) {
+            return self.match_of(first.matched, first.offset);
         }
-        if read < text.len() {
-            return self.search_rest(row, text, read, matched, offset, is_earliest);
+        if first.read < text.len() {
+            return self.search_rest(text, first, is_earliest);
         }
-        self.last_of(row, text, matched, offset)
+        self.last_of(text, first)
+    }
+
+    /// Reads a text in blocks, without scans, as long as matches are near. Stops at row 0, at the
+    /// end of the text, and after some blocks without a match.
+    fn read_blocks(&self, text: &Text<'_>, from: Reached) -> Reached
+        requires row { IsOffset self.now.table from.row }
+        requires matched { IsOffset self.now.table from.matched }
+        requires read { from.read ≤ length text.now.bytes }
+        ensures come { HasCome self.now text.now from result }
+        ensures more { from.read ≤ result.read }
+        ensures within { result.read ≤ length text.now.bytes }
+    {
+        let mut at = from;
+        let mut left = BLOCKS;
+        while left > 0 && at.row != 0 && at.read < text.len() {
+            let until = text.len().min(at.read.saturating_add(BLOCK));
+            let next = self.read_block(text, at, until, false);
+            left = if next.offset > at.offset {
+                BLOCKS
+            } else {
+                left - 1
+            };
+            at = next;
+        }
+        at
     }
 
     /// Searches the rest of a text as `search_text` does, with scans.
     ///
     /// The inner loop compares each row with `stop` once. In a pause between scans this is
-    /// `last_match`, so that no row is scanned out of, and else `last_special`.
-    ///
-    /// - `row` is the offset of the row, and `read` the number of bytes read before.
-    /// - `matched` is the offset of the last row that listed patterns, and `offset` that of its
-    ///   match.
-    fn search_rest(
-        &self,
-        row: usize,
-        text: &Text<'_>,
-        read: usize,
-        matched: usize,
-        offset: usize,
-        is_earliest: bool,
-    ) -> Option<HalfMatch>
-        requires row { IsOffset self.now.table row }
-        requires matched { IsOffset self.now.table matched }
-        requires read { read ≤ length text.now.bytes }
-        ensures { FindsFrom self.now is_earliest text.now read row matched offset result }
+    /// `last_match`, so that no row is scanned out of, and else `last_special`. Behind a match the
+    /// text is read in blocks, since more matches may be near.
+    fn search_rest(&self, text: &Text<'_>, from: Reached, is_earliest: bool) -> Option<HalfMatch>
+        requires row { IsOffset self.now.table from.row }
+        requires matched { IsOffset self.now.table from.matched }
+        requires read { from.read ≤ length text.now.bytes }
+        ensures { FindsFrom self.now is_earliest text.now from result }
     {
-        let (mut row, mut read, mut matched, mut offset) = (row, read, matched, offset);
+        let mut at = from;
         let mut pauses = Pauses::new();
-        while read < text.len() {
-            let (stop, until) = if read < pauses.end {
+        while at.read < text.len() {
+            let (stop, until) = if at.read < pauses.end {
                 (self.last_match, text.len().min(pauses.end))
             } else {
                 (self.last_special, text.len())
             };
-            while read < until {
-                row = self.over_byte(row, text, read);
-                read += 1;
-                if row <= stop {
-                    if row > self.last_match {
-                        let from = read;
-                        read = self.scan(row, text, from);
-                        if pauses.record(from, read) {
-                            break;
-                        }
-                    } else if row == 0 {
-                        return self.match_of(matched, offset);
-                    } else {
-                        matched = row;
-                        offset = read - 1;
-                        if is_earliest {
-                            return self.match_of(matched, offset);
-                        }
+            while at.read < until {
+                at.row = self.over_byte(at.row, text, at.read);
+                at.read += 1;
+                if at.row > stop {
+                    continue;
+                }
+                if at.row > self.last_match {
+                    let start = at.read;
+                    at.read = self.scan(at.row, text, start);
+                    if pauses.record(start, at.read) {
+                        break;
                     }
+                } else {
+                    if at.row != 0 {
+                        at.matched = at.row;
+                        at.offset = at.read - 1;
+                    }
+                    break;
                 }
             }
+            if at.is_over(is_earliest) {
+                return self.match_of(at.matched, at.offset);
+            }
+            if at.row <= self.last_match {
+                at = self.read_blocks(text, at);
+            }
         }
-        self.last_of(row, text, matched, offset)
+        self.last_of(text, at)
     }
 
     /// Returns the last match of a search that has read all bytes: that of the row over the unit
     /// ahead, if it lists patterns, and else the match so far.
-    ///
-    /// - `row` is the offset of the row, `matched` that of the last row that listed patterns, and
-    ///   `offset` that of its match.
     #[inline(always)]
-    fn last_of(
-        &self,
-        row: usize,
-        text: &Text<'_>,
-        matched: usize,
-        offset: usize,
-    ) -> Option<HalfMatch>
-        requires row { IsOffset self.now.table row }
-        requires matched { IsOffset self.now.table matched }
-        ensures { (earliest : Bool) → FindsFrom self.now earliest text.now
-            (length text.now.bytes) row matched offset result }
+    fn last_of(&self, text: &Text<'_>, at: Reached) -> Option<HalfMatch>
+        requires row { IsOffset self.now.table at.row }
+        requires matched { IsOffset self.now.table at.matched }
+        requires read { at.read ≡ length text.now.bytes }
+        ensures { (earliest : Bool) → FindsFrom self.now earliest text.now at result }
     {
-        let end = self.over_ahead(row, text);
+        let end = self.over_ahead(at.row, text);
         if end == 0 || end > self.last_match {
-            return self.match_of(matched, offset);
+            return self.match_of(at.matched, at.offset);
         }
         self.match_of(end, text.len())
     }

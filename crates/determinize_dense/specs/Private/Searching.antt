@@ -1,6 +1,6 @@
 -- How far a search of a text has come, and what it finds.
 use Rattle.std.specs.Prelude.{◌≡◌, ◌<◌, ◌≤◌, ℕ, All, Bool, false, List, Option, Some, is_some}
-use Rattle.std.specs.Prelude.{length, slice_get, take}
+use Rattle.std.specs.Prelude.{length, slice_get, take, true}
 use Rattle.determinize_below.specs.Semantics.{Text}
 use Rattle.determinize_below.specs.declared.search.HalfMatch.{HalfMatch}
 use Rattle.determinize_below.specs.Truth.{IsUnit}
@@ -8,6 +8,7 @@ use Rattle.determinize_core.specs.Chain.{chain, future, units}
 use Rattle.determinize_core.specs.LastMatch.{ended_at, last_match}
 use Rattle.determinize_core.specs.Step.{start_value}
 use Rattle.determinize_dense.specs.Dfa.{start_in}
+use Rattle.determinize_dense.specs.declared.search.Reached.{Reached}
 use Rattle.determinize_dense.specs.Private.Rows.{IsDfa, IsNext, IsOffset, offset_of}
 use Rattle.determinize_dense.specs.Table.{DfaValue, Table, patterns_at, row_after, start_row}
 use Rattle.determinize_below.specs.Nfa.{IsAccepted}
@@ -48,28 +49,26 @@ pub record IsRead (d : Table) (text : Text) (index row next : ℕ) : Type 0 wher
 abbrev pub StaysOver : Table → ℕ → Text → ℕ → ℕ → Type 0
 StaysOver d row text from to = (i : ℕ) → from ≤ i → i < to → IsRead d text i row row
 
--- a search that has read some units: the offset of the row where it is, and that of the row that
--- lists the last match of the values so far, which ends here
-pub record IsSearched (dfa : DfaValue) (anchored : Bool) (text : Text) (read row matched end : ℕ)
-    : Type 0
-  where
-    pub at : IsRowFrom dfa anchored text.behind (take read (units text)) row
-    pub listing : IsOffset dfa.table matched
-    pub so_far : IsMatch dfa.table matched end (last_match (future dfa.nfa dfa.kind
-        (start_value dfa.nfa (start_in dfa.nfa anchored) text.behind)
-        (take read (units text))))
+-- a search has come this far in a text: the row where it is, and the last match of the values so
+-- far, which is that of the last row that listed patterns
+pub record IsSearched (dfa : DfaValue) (anchored : Bool) (text : Text) (r : Reached) : Type 0 where
+  pub at : IsRowFrom dfa anchored text.behind (take r.read (units text)) r.row
+  pub listing : IsOffset dfa.table r.matched
+  pub so_far : IsMatch dfa.table r.matched r.offset (last_match (future dfa.nfa dfa.kind
+      (start_value dfa.nfa (start_in dfa.nfa anchored) text.behind)
+      (take r.read (units text))))
+  pub some : (r.matched ≡ 0 → ⊥) → is_some (last_match (future dfa.nfa dfa.kind
+      (start_value dfa.nfa (start_in dfa.nfa anchored) text.behind)
+      (take r.read (units text)))) ≡ true
 
--- what a search finds from here on that has read some units
-abbrev pub FindsFrom : DfaValue → Bool → Text → ℕ → ℕ → ℕ → ℕ → Option HalfMatch → Type 0
-FindsFrom dfa earliest text read row matched end found = (anchored : Bool) → IsDfa dfa
-    → IsSearched dfa anchored text read row matched end → IsFound dfa earliest anchored text found
+-- what a search finds that has come this far
+abbrev pub FindsFrom : DfaValue → Bool → Text → Reached → Option HalfMatch → Type 0
+FindsFrom dfa earliest text from found = (anchored : Bool) → IsDfa dfa
+    → IsSearched dfa anchored text from → IsFound dfa earliest anchored text found
 
--- a search that had read some units has now read these
-pub record HasCome (dfa : DfaValue) (text : Text) (read row matched end : ℕ)
-    (read_now row_now matched_now end_now : ℕ) : Type 0
-  where
-    pub at : IsOffset dfa.table row_now
-    pub listing : IsOffset dfa.table matched_now
-    pub searched : (anchored : Bool) → IsDfa dfa
-        → IsSearched dfa anchored text read row matched end
-        → IsSearched dfa anchored text read_now row_now matched_now end_now
+-- a search that had come from there has now come this far
+pub record HasCome (dfa : DfaValue) (text : Text) (from now : Reached) : Type 0 where
+  pub at : IsOffset dfa.table now.row
+  pub listing : IsOffset dfa.table now.matched
+  pub searched : (anchored : Bool) → IsDfa dfa → IsSearched dfa anchored text from
+      → IsSearched dfa anchored text now

@@ -7,7 +7,7 @@ use Rattle.determinize_dense.proofs.dfa.Dfa.over_ahead.Goals as goal
 pub returns : goal.returns
 returns g c =
     let read : IsRead c.args.self.now.table c.args.text.now (length c.args.text.now.bytes) c.args.row
-        c.row_over.result = record {
+    c.row_over.result = record {
       unit = c.ahead.result;
       at = rw c.ahead.ensures (unit-last c.args.text.now _ refl);
       is_unit = c.row_over.ensures.unit;

@@ -1,102 +1,134 @@
-use Rattle.determinize_core.proofs.Common.{arith, length, ℕ, ◌+◌, ◌-◌, ◌<◌, ◌≡◌}
-use Rattle.determinize_dense.proofs.Searching.{come-none, come-some, found-in_dead, found-in_some, ordered}
+use Rattle.determinize_core.proofs.Common.{arith, length, Text, ℕ, ◌<◌, ◌≤◌}
+use Rattle.determinize_dense.proofs.Common.{DfaValue}
+use Rattle.determinize_dense.proofs.Searching.{come-dead, come-none, come-on, come-some, found-over, ordered}
 use Rattle.determinize_dense.specs.Private.Searching.{HasCome}
+use Rattle.determinize_dense.specs.declared.search.Reached.{Reached}
 use Rattle.determinize_dense.proofs.dfa.Dfa.search_rest.Given.{Over}
-use Rattle.determinize_dense.proofs.dfa.Dfa.search_rest.Goals.{After-scan-read}
+use Rattle.determinize_dense.proofs.dfa.Dfa.search_rest.Goals.{After-is_over, else-loop-at-2-test}
+use Rattle.determinize_dense.proofs.dfa.Dfa.search_rest.Goals.{else-at-pauses, then-at-pauses}
+use Rattle.determinize_dense.proofs.dfa.Dfa.search_rest.Goals.{then-loop-at-2-test+else-at-stop+else-at-self+else-at-ne0}
+use Rattle.determinize_dense.proofs.dfa.Dfa.search_rest.Goals.{then-loop-at-2-test+else-at-stop+else-at-self+then-at-ne0}
+use Rattle.determinize_dense.proofs.dfa.Dfa.search_rest.Goals.{then-loop-at-2-test+else-at-stop+then-at-self+then-record}
 use Rattle.determinize_dense.proofs.dfa.Dfa.search_rest.Goals as goal
 
-pub loop-read-init : goal.loop-read-init
-loop-read-init g c = grind arith
+pub loop-at-2-init : goal.loop-at-2-init
+loop-at-2-init g c =
+    let room = c.loop-at-test.true in
+    let len = c.len.ensures.value in
+    elim c.if-at-pauses.branch [
+      | then-at-pauses w ↦
+          let paused = w.if-at-pauses.true in
+          let min_is = w.min.ensures in
+          let all = w.len-then-at-pauses.ensures.value in
+          rw w.stop-is record {
+            come = c.loop-at.invariant.come;
+            within = c.loop-at.invariant.within;
+            upto = omega arith;
+            past = omega arith;
+            since = omega arith;
+            more = λ h. absurd (omega arith);
+          }
+      | else-at-pauses w ↦
+          let all = w.len-else-at-pauses.ensures.value in
+          rw w.stop-is record {
+            come = c.loop-at.invariant.come;
+            within = c.loop-at.invariant.within;
+            upto = omega arith;
+            past = c.self.invariant.ordered.more;
+            since = omega arith;
+            more = λ h. absurd (omega arith);
+          }
+    ]
 
-pub loop-read-2-init : goal.loop-read-2-init
-loop-read-2-init g c = grind arith
-
-pub loop-read-smaller-in-loop-read-2 : goal.loop-read-smaller-in-loop-read-2
-loop-read-smaller-in-loop-read-2 g c = omega (arith, c.loop-read-2.invariant.more c.loop-read-2-test.false)
-
-pub loop-read-preserved-in-loop-read-2 : goal.loop-read-preserved-in-loop-read-2
-loop-read-preserved-in-loop-read-2 g c = grind arith
-
--- a scan out of a row that lists no patterns
-scanned : (g : Over) (c : After-scan-read g)
-    → HasCome c.args.self.now c.args.text.now c.args.read c.args.row c.args.matched c.args.offset
-    c.scan-read.result c.over_byte-row.result c.loop-read-2.matched c.loop-read-2.offset
-scanned g c = come-none c.loop-read-2.invariant.come c.over_byte-row.ensures.offset c.over_byte-row.ensures.read
-    (ordered c.self.view_is c.self.invariant.ordered) c.if-row-self.true c.scan-read.ensures.more
-    c.scan-read.ensures.stays
-
-pub loop-read-smaller : goal.loop-read-smaller
-loop-read-smaller g c =
-    omega (arith, c.loop-read-2.invariant.since, c.scan-read.ensures.more, c.scan-read.ensures.within)
-
-pub loop-read-preserved : goal.loop-read-preserved
-loop-read-preserved g c = record {
-  within = c.scan-read.ensures.within;
-  come = scanned g (goal.at.loop-read-preserved g c).After-scan-read;
-}
-
-pub loop-read-2-preserved-else-record : goal.loop-read-2-preserved-else-record
-loop-read-2-preserved-else-record g c =
-    let since = c.loop-read-2.invariant.since in
-    let more = c.scan-read.ensures.more in
+pub loop-at-2-preserved-then-at-stop : goal.loop-at-2-preserved-then-at-stop
+loop-at-2-preserved-then-at-stop g c =
+    let since = c.loop-at-2.invariant.since in
+    let room = c.loop-at-2-test.true in
+    let past = c.loop-at-2.invariant.past in
+    let behind = c.if-at-stop.true in
     record {
-      within = c.scan-read.ensures.within;
-      come = scanned g (goal.at.loop-read-2-preserved-else-record g c).After-scan-read;
-      upto = c.loop-read-2.invariant.upto;
-      past = c.loop-read-2.invariant.past;
-      since = omega arith;
-      more = λ _. omega arith;
-    }
-
-pub returns-then-row-eq0 : goal.returns-then-row-eq0
-returns-then-row-eq0 g c = λ anchored sound s.
-    found-in_dead sound (c.loop-read-2.invariant.come.searched anchored sound s) c.over_byte-row.ensures.read
-    c.if-row-eq0.true c.len.ensures.units c.match_of.ensures c.args.is_earliest
-
-same_end : (n : ℕ) → n + 1 - 1 ≡ n
-same_end n = omega arith
-
-pub returns-then-is_earliest : goal.returns-then-is_earliest
-returns-then-is_earliest g c = λ anchored sound s.
-    found-in_some sound (c.loop-read-2.invariant.come.searched anchored sound s) c.over_byte-row.ensures.read
-    (ordered c.self.view_is c.self.invariant.ordered) c.if-row-eq0.false c.if-row-self.false
-    (rw same_end at c.match_of-then-is_earliest.ensures) c.if-is_earliest.true
-
-pub loop-read-2-preserved-else-is_earliest : goal.loop-read-2-preserved-else-is_earliest
-loop-read-2-preserved-else-is_earliest g c =
-    let since = c.loop-read-2.invariant.since in
-    let room = c.loop-read-2-test.true in
-    record {
-      within = omega (arith, c.loop-read-2.invariant.upto);
-      come = rw same_end (come-some c.loop-read-2.invariant.come c.over_byte-row.ensures.offset
-          c.over_byte-row.ensures.read (ordered c.self.view_is c.self.invariant.ordered) c.if-row-eq0.false
-          c.if-row-self.false);
-      upto = c.loop-read-2.invariant.upto;
-      past = c.loop-read-2.invariant.past;
-      since = omega arith;
-      more = λ _. omega arith;
-    }
-
-pub loop-read-2-preserved : goal.loop-read-2-preserved
-loop-read-2-preserved g c =
-    let since = c.loop-read-2.invariant.since in
-    let room = c.loop-read-2-test.true in
-    let past = c.loop-read-2.invariant.past in
-    let behind = c.if-row-stop.false in
-    record {
-      within = omega (arith, c.loop-read-2.invariant.upto);
-      come = come-none c.loop-read-2.invariant.come c.over_byte-row.ensures.offset c.over_byte-row.ensures.read
-          (ordered c.self.view_is c.self.invariant.ordered) (let behind : c.self.inside.last_match
-          < c.over_byte-row.result = omega arith in behind) (omega arith) (λ i l h. absurd (omega arith));
-      upto = c.loop-read-2.invariant.upto;
+      come = come-none c.loop-at-2.invariant.come c.over_byte.ensures.offset c.over_byte.ensures.read
+          (ordered c.self.view_is c.self.invariant.ordered)
+          (let behind : c.self.inside.last_match < c.over_byte.result = omega arith in behind) (omega arith)
+          (λ i l h. absurd (omega arith));
+      within = omega (arith, c.loop-at-2.invariant.upto);
+      upto = c.loop-at-2.invariant.upto;
       past = past;
       since = omega arith;
       more = λ _. omega arith;
     }
 
+pub loop-at-2-preserved : goal.loop-at-2-preserved
+loop-at-2-preserved g c =
+    let since = c.loop-at-2.invariant.since in
+    let more = c.scan.ensures.more in
+    record {
+      come = come-none c.loop-at-2.invariant.come c.over_byte.ensures.offset c.over_byte.ensures.read
+          (ordered c.self.view_is c.self.invariant.ordered) c.if-at-self.true c.scan.ensures.more c.scan.ensures.stays;
+      within = c.scan.ensures.within;
+      upto = c.loop-at-2.invariant.upto;
+      past = c.loop-at-2.invariant.past;
+      since = omega arith;
+      more = λ _. omega arith;
+    }
+
+-- how far the search has come behind the inner loop
+record IsBehind (d : DfaValue) (text : Text) (from at : Reached) (read : ℕ) : Type 0 where
+  come : HasCome d text from at
+  within : at.read ≤ length text.bytes
+  more : read < at.read
+
+behind : (g : Over) (c : After-is_over g)
+    → IsBehind c.args.self.now c.args.text.now c.args.from c.loop-at-2-test.at c.loop-at.at.read
+behind g c =
+    let before = c.loop-at-2.invariant in
+    let order = ordered c.self.view_is c.self.invariant.ordered in
+    elim c.loop-at-2-test.branch [
+      | else-loop-at-2-test w ↦ rw w.at-is record {
+        come = before.come;
+        within = before.within;
+        more = before.more w.loop-at-2-test.false;
+      }
+      | then-loop-at-2-test+else-at-stop+then-at-self+then-record w ↦ rw w.at-is record {
+        come = come-none before.come w.over_byte.ensures.offset w.over_byte.ensures.read order w.if-at-self.true
+            w.scan.ensures.more w.scan.ensures.stays;
+        within = w.scan.ensures.within;
+        more = omega (arith, before.since, w.scan.ensures.more);
+      }
+      | then-loop-at-2-test+else-at-stop+else-at-self+then-at-ne0 w ↦ rw w.at-is record {
+        come = come-some before.come w.over_byte.ensures.offset w.over_byte.ensures.read order w.if-at-ne0.true
+            w.if-at-self.false;
+        within = omega (arith, before.upto, w.loop-at-2-test.true);
+        more = omega (arith, before.since);
+      }
+      | then-loop-at-2-test+else-at-stop+else-at-self+else-at-ne0 w ↦ rw w.at-is record {
+        come = come-dead before.come w.over_byte.ensures.offset w.over_byte.ensures.read order w.if-at-ne0.false;
+        within = omega (arith, before.upto, w.loop-at-2-test.true);
+        more = omega (arith, before.since);
+      }
+    ]
+
+pub match_of-requires : goal.match_of-requires
+match_of-requires g c = (behind g (goal.at.match_of-requires g c).After-is_over).come.listing
+
+pub returns-then-is_over : goal.returns-then-is_over
+returns-then-is_over g c = λ anchored sound s.
+    let come = (behind g (goal.at.returns-then-is_over g c).After-is_over).come in
+    found-over sound (come.searched anchored sound s) c.match_of.ensures c.len.ensures.units
+    (c.is_over.ensures c.if-is_over.true)
+
+pub loop-at-preserved-then-at-self-2 : goal.loop-at-preserved-then-at-self-2
+loop-at-preserved-then-at-self-2 g c = record {
+  come = come-on (behind g (goal.at.loop-at-preserved-then-at-self-2 g c).After-is_over).come
+      c.read_blocks-at.ensures.come;
+  within = c.read_blocks-at.ensures.within;
+}
+
+pub loop-at-preserved : goal.loop-at-preserved
+loop-at-preserved g c =
+    let b = behind g (goal.at.loop-at-preserved g c).After-is_over in
+    record { come = b.come; within = b.within }
+
 pub returns : goal.returns
 returns g c = λ anchored sound s.
-    let all : c.loop-read.read ≡ length c.args.text.now.bytes =
-    omega (arith, c.loop-read.invariant.within, c.loop-read-test.false, c.len.ensures.value) in
-    c.last_of.ensures c.args.is_earliest anchored sound
-    (rw all at (c.loop-read.invariant.come.searched anchored sound s))
+    c.last_of.ensures c.args.is_earliest anchored sound (c.loop-at.invariant.come.searched anchored sound s)

@@ -1,42 +1,26 @@
-use Rattle.determinize_core.proofs.Common.{arith, length, ◌≡◌}
-use Rattle.determinize_dense.proofs.Searching.{found-in_dead, found-in_some, ordered, searched-none}
-use Rattle.determinize_dense.proofs.Searching.{searched-some}
-use Rattle.determinize_dense.proofs.dfa.Dfa.search_text.Goals.{else-row-self, then-row-self+else-is_earliest}
+use Rattle.determinize_core.proofs.Common.{arith}
+use Rattle.determinize_dense.proofs.Common.{IsSearched}
+use Rattle.determinize_dense.proofs.Searching.{found-over, row-start, searched-start}
+use Rattle.determinize_dense.proofs.dfa.Dfa.search_text.Given.{Over}
+use Rattle.determinize_dense.proofs.dfa.Dfa.search_text.Goals.{After-read_block-first}
 use Rattle.determinize_dense.proofs.dfa.Dfa.search_text.Goals as goal
 
-pub loop-read-init : goal.loop-read-init
-loop-read-init g c = grind arith
+-- the first bytes
+first : (g : Over) (c : After-read_block-first g)
+    → IsSearched c.args.self.now c.args.is_anchored c.args.text.now c.read_block-first.result
+first g c = c.read_block-first.ensures.come.searched c.args.is_anchored c.start_row.ensures.sound
+    (searched-start c.start_row.ensures.sound (rw c.behind.ensures at (row-start {d = c.args.self.now}
+    c.start_row.ensures.unit c.start_row.ensures.value c.start_row.ensures.limit)))
 
-pub returns-then-row-eq0 : goal.returns-then-row-eq0
-returns-then-row-eq0 g c =
-    found-in_dead c.start_row-row.ensures.sound c.loop-read.invariant.searched c.over_byte-row.ensures.read
-    c.if-row-eq0.true c.len.ensures.units c.match_of.ensures c.args.is_earliest
+pub returns-then-is_over : goal.returns-then-is_over
+returns-then-is_over g c =
+    found-over c.start_row.ensures.sound (first g (goal.at.returns-then-is_over g c).After-read_block-first)
+    c.match_of.ensures c.len.ensures.units (c.is_over.ensures c.if-is_over.true)
 
-pub returns-then-is_earliest : goal.returns-then-is_earliest
-returns-then-is_earliest g c =
-    found-in_some c.start_row-row.ensures.sound c.loop-read.invariant.searched c.over_byte-row.ensures.read
-    (ordered c.self.view_is c.self.invariant.ordered) c.if-row-eq0.false c.if-row-self.true
-    c.match_of-then-is_earliest.ensures c.if-is_earliest.true
-
-pub loop-read-preserved : goal.loop-read-preserved
-loop-read-preserved g c =
-    let sound = c.start_row-row.ensures.sound in
-    let order = ordered c.self.view_is c.self.invariant.ordered in
-    record {
-      within = omega (arith, c.loop-read-test.true);
-      searched = elim c.if-row-self.branch [
-        | then-row-self+else-is_earliest w ↦ rw (w.matched-is, w.offset-is) (searched-some sound
-            c.loop-read.invariant.searched c.over_byte-row.ensures.read order c.if-row-eq0.false w.if-row-self.true)
-        | else-row-self w ↦ rw (w.matched-is, w.offset-is) (searched-none sound
-            c.loop-read.invariant.searched c.over_byte-row.ensures.read order w.if-row-self.false)
-      ];
-    }
+pub returns-then-first-len : goal.returns-then-first-len
+returns-then-first-len g c = c.search_rest.ensures c.args.is_anchored c.start_row.ensures.sound
+    (first g (goal.at.returns-then-first-len g c).After-read_block-first)
 
 pub returns : goal.returns
-returns g c =
-    let within = c.loop-read.invariant.within in
-    let until = c.min-until.ensures in
-    let all : c.loop-read.read ≡ length c.args.text.now.bytes =
-    omega (arith, c.if-read-len.false, c.len.ensures.value, c.len-2.ensures.value) in
-    c.last_of.ensures c.args.is_earliest c.args.is_anchored c.start_row-row.ensures.sound
-    (rw all at c.loop-read.invariant.searched)
+returns g c = c.last_of.ensures c.args.is_earliest c.args.is_anchored c.start_row.ensures.sound
+    (first g (goal.at.returns g c).After-read_block-first)

@@ -1,0 +1,13 @@
+use Rattle.determinize_core.proofs.Common.{◌-◌, ◌≤◌}
+use Rattle.determinize_dense.specs.Private.Searching.{HasCome}
+use Rattle.determinize_dense.proofs.dfa.Dfa.read_block.Given as goal
+
+abbrev pub invariant-loop-at : goal.invariant-loop-at
+invariant-loop-at g l = record {
+  come : HasCome l.self l.text l.fn.from l.at;
+  low : l.fn.from.read ≤ l.at.read;
+  within : l.at.read ≤ l.until;
+}
+
+abbrev pub decreases-loop-at : goal.decreases-loop-at
+decreases-loop-at g l = l.until - l.at.read
