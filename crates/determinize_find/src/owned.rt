@@ -28,6 +28,7 @@ impl<A: Allocator + Copy> OwnedRegex<A, A> {
         requires forward { nfa.reverse ≡ false }
         requires prefix { HasPrefix nfa }
         ensures nfa { IfOk result (λ regex. regex.nfa ≡ nfa) }
+        ensures reverse { IfOk result (λ regex. IsReverseOf regex.backward nfa) }
         ensures limit { IfOk result (λ regex. regex.limit ≡ limit) }
         ensures limit_backward { IfOk result (λ regex. regex.limit_backward ≡ limit) }
         ensures size { IfOk result (λ regex. length regex.backward.states ≤ most_states nfa) }
@@ -60,8 +61,8 @@ impl<N: Allocator, A: Allocator + Copy> OwnedRegex<N, A> {
         self.backward.nfa()
     }
 
-    /// Returns the heap memory that both caches use now, in bytes: the sum of what `forward` and
-    /// `backward` use.
+    /// Returns the heap memory of both caches, in bytes. The contract says only what that is at
+    /// most; `memory_usage` of `forward` and of `backward` say exactly what each uses now.
     pub fn memory_usage(&self) -> usize
         ensures { result ≤ most_bytes self.now.limit self.now.nfa
             + most_bytes self.now.limit_backward self.now.backward }
