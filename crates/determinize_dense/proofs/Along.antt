@@ -3,26 +3,20 @@
 -- last_listed-dead, along_text.
 -- Used by: `reading`, `overlapping`, Inputs, and the searches of `determinize_linear` and `determinize_stored`.
 -- Idea: the row after each beginning of the units lists what the value after it lists.
-use Rattle.determinize_core.proofs.Common.{[], add-one, after_at, arith, Bool, chain, ended_at, future, get_or_from_slice_get}
-use Rattle.determinize_core.proofs.Common.{IsAccepted, length, length-map, List, lists_of, MatchKind, Nfa, None, Option}
-use Rattle.determinize_core.proofs.Common.{option_or, refl, slice_get, slice_get_within, Some, start_value, step, suc}
-use Rattle.determinize_core.proofs.Common.{Text, units, Value, value_after, ℕ, ◌+◌, ◌-◌, ◌<◌, ◌∷◌, ◌≡◌, ◌≤◌}
+use Rattle.determinize_dense.proofs.Common.{after_at, All, All-cons, All-head, All-nil, All-tail, all_read, Anchored}
+use Rattle.determinize_dense.proofs.Common.{arith, Bool, chain, drop, drop_more, ended_at, future}
+use Rattle.determinize_dense.proofs.Common.{get_or_from_slice_get, is_anchored, IsAccepted, IsDead, IsDfaOf, IsUnit}
+use Rattle.determinize_dense.proofs.Common.{length, length-drop, length-map, length-map-range_with_len, List}
+use Rattle.determinize_dense.proofs.Common.{lists_along, ListsAlong, MatchKind, Nfa, None, Option, option_or}
+use Rattle.determinize_dense.proofs.Common.{patterns_at, range_with_len, refl, row_after, row_over, slice_get}
+use Rattle.determinize_dense.proofs.Common.{slice_get_within, Some, start_for, start_in, start_row, start_value, suc}
+use Rattle.determinize_dense.proofs.Common.{Table, Text, units, Value, value_after, [], ℕ, ◌+◌, ◌-◌, ◌<◌, ◌∷◌, ◌≡◌, ◌≤◌}
+use Rattle.determinize_core.proofs.Common.{add-one, lists_of, step}
 use Rattle.determinize_core.proofs.walk.WalkOfRuns.{chain-first, chain_leftmost, chain_of_all}
 use Rattle.determinize_core.proofs.walk.WalkValues.{length-chain}
 use Rattle.determinize_core.specs.Walk.{IsWalkOfAll, last_listed}
-use Rattle.determinize_below.specs.declared.search.Anchored.{Anchored}
 use Rattle.determinize_below.specs.declared.search.Anchored.TheVariants.{No, Pattern, Yes}
-use Rattle.determinize_engine.proofs.Texts.{all_read}
-use Rattle.determinize_engine.specs.Searches.{start_for}
-use Rattle.determinize_dense.proofs.Common.{All, is_anchored, IsUnit, patterns_at, row_after, row_over, start_in}
-use Rattle.determinize_dense.proofs.Common.{start_row, Table}
-use Rattle.determinize_dense.specs.Dfa.{IsDfaOf}
-use Rattle.determinize_dense.specs.Reading.{IsDead, lists_along, ListsAlong}
-use Rattle.std.specs.List.{range_with_len}
-use Rattle.std.specs.Prelude.{drop}
-use Rattle.std.proofs.lemmas.List.{drop_all, drop_more, length-drop}
-use Rattle.std.proofs.lemmas.List.FromFn.{length-map-range_with_len}
-use Rattle.std.proofs.lemmas.List.Elements.{All-cons, All-head, All-nil, All-tail}
+use Rattle.std.proofs.lemmas.List.{drop_all}
 
 -- the numbers from one up to another are that number, and those from the next one
 pub range_first : (a b : ℕ) → a < b → range_with_len a (b - a) ≡ a ∷ range_with_len (a + 1) (b - (a + 1))

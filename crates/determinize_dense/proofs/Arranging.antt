@@ -2,15 +2,12 @@
 -- Main statements: grouping-by_rank, arranged-least, arranged-ordered.
 -- Used by: `arranged`.
 -- Idea: each block has one row, and the ranks of blocks ascend.
-use Rattle.determinize_core.proofs.Common.{arith, length, List, slice_index, ℕ, ◌+◌, ◌<◌, ◌∙◌, ◌≡◌, ◌≤◌}
-use Rattle.determinize_dense.proofs.Common.{DfaValue}
+use Rattle.determinize_dense.proofs.Common.{arith, Blocks, DfaValue, IsByRank, IsGrouping, IsLeast, IsMerged, IsOrdered}
+use Rattle.determinize_dense.proofs.Common.{IsRank, length, List, offset_of, slice_index, ℕ, ◌+◌, ◌<◌, ◌∙◌, ◌≡◌, ◌≤◌}
 use Rattle.std.proofs.Math.Nat.{mul-le-mul_right}
 use Rattle.determinize_dense.proofs.Merging.{merged-least}
-use Rattle.determinize_dense.specs.Least.{IsLeast}
-use Rattle.determinize_dense.specs.Private.Minimizing.{IsGrouping, IsMerged}
-use Rattle.determinize_dense.specs.Private.Order.{AreRanks, IsOrdered, IsRank}
-use Rattle.determinize_dense.specs.Private.Partition.{AreTogether, Blocks, IsByRank, IsLastUpto}
-use Rattle.determinize_dense.specs.Private.Rows.{offset_of}
+use Rattle.determinize_dense.specs.Private.Order.{AreRanks}
+use Rattle.determinize_dense.specs.Private.Partition.{AreTogether, IsLastUpto}
 
 module _ (v : DfaValue) {ranks : List ℕ} {p : Blocks} (are : AreRanks v.table ranks) (is : IsByRank ranks p) where
   -- each block has one row

@@ -2,13 +2,9 @@
 -- Main statement: merged-push.
 -- Used by: `merged_rows`.
 -- Idea: an element of the longer list is one of those before, or the last.
-use Rattle.determinize_core.proofs.Common.{[], arith, length, List, slice_index}
-use Rattle.determinize_core.proofs.Common.{ℕ, ◌*◌, ◌++◌, ◌+◌, ◌<◌, ◌∷◌, ◌≡◌}
-use Rattle.std.proofs.lemmas.Nat.{div-mul-add, mod-mul-add}
-use Rattle.determinize_dense.proofs.Common.{Table}
+use Rattle.determinize_dense.proofs.Common.{AreMergedEntries, arith, Blocks, div-mul-add, entry, length, List}
+use Rattle.determinize_dense.proofs.Common.{mod-mul-add, slice_index, Table, [], ℕ, ◌*◌, ◌++◌, ◌+◌, ◌<◌, ◌∷◌, ◌≡◌}
 use Rattle.determinize_dense.proofs.Splitting.{pushed}
-use Rattle.determinize_dense.specs.Private.Minimizing.{AreMergedEntries, entry}
-use Rattle.determinize_dense.specs.Private.Partition.{Blocks}
 
 -- one entry more of the table of the blocks
 pub merged-push : (d : Table) (p : Blocks) (next : List ℕ) (row column : ℕ) {more : List ℕ} {to : ℕ}

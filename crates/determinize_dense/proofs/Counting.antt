@@ -1,15 +1,15 @@
 -- How many values are reached: one number, and fewer than it are not all.
 -- Main statement: each_count_is_one.
--- Used by: the law of the number of states.
+-- Used by: `build` and the law of the number of states.
 -- Idea: a list of values, each once, that are all in another list is not longer than that.
-use Rattle.determinize_core.proofs.Common.{arith, Contains, length, List, same}
+use Rattle.determinize_dense.proofs.Common.{arith, Contains, IsDistinct-from_AllPairs, length, List, Value, ◌≡◌, ◌≤◌}
+use Rattle.determinize_core.proofs.Common.{same}
 use Rattle.determinize_engine.specs.States.{EachApart}
-use Rattle.determinize_core.proofs.Common.{Value, ◌≡◌, ◌≤◌}
 use Rattle.determinize_engine.proofs.Places.{same_laws}
 use Rattle.determinize_dense.specs.Dfa.{EachCountIsOne}
 use Rattle.determinize_state.specs.Equality.{Decides-same}
 use Rattle.ordered_reach.proofs.lists.Pairs.{pairs_from}
-use Rattle.std.proofs.lemmas.Map.Made.{IsDistinct-from_AllPairs, is_member-Decides, length-le_from_is_member}
+use Rattle.std.proofs.lemmas.Map.Made.{is_member-Decides, length-le_from_is_member}
 use Rattle.std.specs.List.{IsDistinct}
 
 distinct : (vs : List Value) → EachApart vs → IsDistinct same vs

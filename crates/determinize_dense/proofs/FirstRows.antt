@@ -2,11 +2,10 @@
 -- Main statements: first-known, firsts-known, first-new, firsts-new.
 -- Used by: `first_alike`.
 -- Idea: the map has for each list the first of the rows so far that lists it.
-use Rattle.determinize_core.proofs.Common.{arith, cond, List, None, Option, Some, ℕ, ◌+◌, ◌≡◌}
-use Rattle.determinize_dense.proofs.Common.{patterns_at, Table}
-use Rattle.determinize_dense.specs.Private.Minimizing.{AreFirsts, IsFirstAlike}
+use Rattle.determinize_dense.proofs.Common.{AreFirsts, arith, bytes_eq, IsFirstAlike, List, None, Option, patterns_at}
+use Rattle.determinize_dense.proofs.Common.{Some, Table, ℕ, ◌+◌, ◌≡◌}
+use Rattle.determinize_core.proofs.Common.{cond}
 use Rattle.std.specs.Cmp.Lexicographic.{bytes_decides}
-use Rattle.std.specs.Prelude.{bytes_eq}
 
 module _ {d : Table} {n : ℕ} {find : List ℕ → Option ℕ} (are : AreFirsts d n find) where
   -- a list that has a row
@@ -24,6 +23,7 @@ module _ {d : Table} {n : ℕ} {find : List ℕ → Option ℕ} (are : AreFirsts
     pub firsts-new : {next : List ℕ → Option ℕ}
         → ((xs : List ℕ) → next xs ≡ cond (bytes_eq (patterns_at d n) xs) (Some n) (find xs)) → AreFirsts d (n + 1) next
     firsts-new {next} is = record {
-      found = λ xs r at. grind (arith, bytes_decides (patterns_at d n) xs, is xs, are.found xs r, are.none (patterns_at d n) new);
+      found = λ xs r at.
+          grind (arith, bytes_decides (patterns_at d n) xs, is xs, are.found xs r, are.none (patterns_at d n) new);
       none = λ xs none s. grind (arith, bytes_decides (patterns_at d n) xs, is xs, are.none xs);
     }

@@ -2,12 +2,10 @@
 -- Main statements: found-search, found-decides.
 -- Used by: the searches of `Dfa`.
 -- Idea: the start is that of the anchored mode, and what a table finds is the last match of the walk.
-use Rattle.determinize_core.proofs.Common.{Asked, Bool, Decides, false, HalfMatch, is_some}
+use Rattle.determinize_dense.proofs.Common.{Anchored, Bool, DfaValue, false, HalfMatch, is_anchored, is_some, IsFound}
+use Rattle.determinize_dense.proofs.Common.{Option, refl, start_for, start_in, Text, text_of}
+use Rattle.determinize_core.proofs.Common.{Asked, Decides}
 use Rattle.determinize_engine.specs.Searches.{HasMatch, IsSearch}
-use Rattle.determinize_core.proofs.Common.{Option, refl, Text}
-use Rattle.determinize_engine.specs.Searches.{start_for, text_of}
-use Rattle.determinize_dense.proofs.Common.{DfaValue, is_anchored, IsFound, start_in}
-use Rattle.determinize_below.specs.declared.search.Anchored.{Anchored}
 use Rattle.determinize_dense.proofs.Along.{start_is}
 use Rattle.determinize_engine.proofs.Ranges.{match-decides}
 use Rattle.determinize_engine.proofs.SearchMatches.{is-search}

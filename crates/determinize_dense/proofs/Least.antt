@@ -1,18 +1,14 @@
 -- Tables with one meaning, of which one has the fewest rows.
 -- Main statements: row_after-more, row_after-below, has_rows, dead_zero, least_is_least.
--- Used by: Along, Merging, Stepping, `len`, and the law of the fewest rows.
+-- Used by: Merging, Searching, Stepping, `len`, the starts and the walker, and the law of the fewest rows.
 -- Idea: rows of the one table that are reached by the same units as one row of the other list the same, and so are one.
-use Rattle.determinize_core.proofs.Common.{List, MatchKind, Nfa, Option, [], arith, by_cases, inl, inr, length, refl}
-use Rattle.determinize_core.proofs.Common.{sym, ℕ, ◌++◌, ◌<◌, ◌∙◌, ◌∷◌, ◌≡◌, ◌≤◌, ◌⊎◌}
-use Rattle.determinize_dense.specs.Dfa.{IsDfaOf}
-use Rattle.determinize_dense.proofs.Common.{All, DfaValue, IsDfa, IsUnit, Table, patterns_at, row_after, row_over}
-use Rattle.determinize_dense.proofs.Common.{start_row}
-use Rattle.std.proofs.lemmas.Bool.{cases_eq, cases_lt}
-use Rattle.std.proofs.lemmas.List.Elements.{All-append, All-head, All-tail}
+use Rattle.determinize_dense.proofs.Common.{All, All-append, All-head, All-tail, AreApart, arith, by_cases, cases_eq}
+use Rattle.determinize_dense.proofs.Common.{cases_lt, DfaValue, inl, inr, IsDead, IsDfa, IsDfaOf, IsLeast, IsReachedRow}
+use Rattle.determinize_dense.proofs.Common.{IsUnit, length, List, MatchKind, Nfa, Option, patterns_at, refl, row_after}
+use Rattle.determinize_dense.proofs.Common.{row_over, slot_number-below, start_row, sym, Table, [], ℕ, ◌++◌, ◌<◌, ◌∙◌}
+use Rattle.determinize_dense.proofs.Common.{◌∷◌, ◌≡◌, ◌≤◌, ◌⊎◌}
 use Rattle.determinize_dense.proofs.Pigeonhole.{pigeonhole}
-use Rattle.determinize_start.proofs.kinds.StartSlots.{slot_number-below}
-use Rattle.determinize_dense.specs.Reading.{IsDead}
-use Rattle.determinize_dense.specs.Least.{AreApart, HasRows, IsLeast, IsReachedRow, LeastIsLeast}
+use Rattle.determinize_dense.specs.Least.{HasRows, LeastIsLeast}
 
 -- units after units
 pub row_after-more : (d : Table) (us rest : List (Option ℕ)) (r : ℕ)

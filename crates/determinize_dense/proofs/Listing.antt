@@ -1,25 +1,21 @@
 -- The patterns that match where a text ends, in words of runs.
 -- Main statements: list-all, list-preferred, each-accepted, each_text_is_listed.
--- Used by: `patterns_after` and the law of what a table means.
+-- Used by: Stepping, `patterns_after` and the law of what a table means.
 -- Idea: the last value of a walk is that over the unit ahead. Under `LeftmostFirst` it lists a pattern exactly if the
 -- last match of the walk, which is the preferred one, ends with the text.
-use Rattle.determinize_core.proofs.Common.{Accepts, after_at, All, arith, chain, Contains, ended_at, false, future}
-use Rattle.determinize_core.proofs.Common.{HalfMatch, IfSome, IsAccepted, IsPreferredMatch, LeftmostFirst}
-use Rattle.determinize_core.proofs.Common.{length, length-map, List, map, MatchKind, Nfa, None, Option, option_or, refl}
-use Rattle.determinize_core.proofs.Common.{slice_get, Some, start_value, step, suc, sym, Text, units, Value}
-use Rattle.determinize_core.proofs.Common.{value_after, ℕ, [], ◌<◌, ◌∷◌, ◌≡◌, ◌≤◌}
+use Rattle.determinize_dense.proofs.Common.{after_at, arith, chain, Contains, ended_at, false, future, HalfMatch}
+use Rattle.determinize_dense.proofs.Common.{IsAccepted, last_match-push, length, length-map, length-map-range_with_len}
+use Rattle.determinize_dense.proofs.Common.{List, ListsAccepted, map, MatchKind, Nfa, None, Option, option_or, refl}
+use Rattle.determinize_dense.proofs.Common.{slice_get, Some, start_value, suc, sym, Text, text_units, units}
+use Rattle.determinize_dense.proofs.Common.{units_listed, Value, value_after, value_after-push, [], ℕ, ◌<◌, ◌∷◌, ◌≡◌}
+use Rattle.determinize_dense.proofs.Common.{◌≤◌}
+use Rattle.determinize_core.proofs.Common.{Accepts, All, IfSome, IsPreferredMatch, LeftmostFirst, step}
 use Rattle.determinize_core.proofs.step.StepLaws.{one_pattern}
 use Rattle.determinize_core.proofs.walk.AcceptedPatterns.{each_answer_is_one}
-use Rattle.determinize_core.proofs.walk.LastMatches.{last_match-push}
 use Rattle.determinize_core.proofs.walk.UnitLists.{chain_is_future}
-use Rattle.determinize_core.proofs.walk.WalkLoops.{value_after-push}
 use Rattle.determinize_dense.specs.Meaning.{EachTextIsListed, ListsPreferred}
 use Rattle.determinize_engine.proofs.LastUnits.{last_match-within}
-use Rattle.determinize_engine.proofs.TextUnits.{text_units}
-use Rattle.determinize_engine.proofs.Texts.{units_listed}
-use Rattle.determinize_core.specs.Walk.{ListsAccepted}
 use Rattle.determinize_core.proofs.walk.WalkOfRuns.{leftmost_walk, walk_of_all}
-use Rattle.std.proofs.lemmas.List.FromFn.{length-map-range_with_len}
 
 -- the value after all units is the last one
 future-last : (nfa : Nfa) (kind : MatchKind) (v : Value) (us : List (Option ℕ))

@@ -1,10 +1,10 @@
 -- Lists that are mapped, one element more at a time.
 -- Main statements: items-at, mapped-push, lists-push, map-copied.
--- Used by: the loops over lists of patterns, `offsets_of`, `numbers_of`, `to_rows`.
+-- Used by: the loops over lists of patterns, `memory_usage`, `offsets_of`, `numbers_of`, `to_rows`.
 -- Idea: `map_more` of std, with the equations that a loop has.
-use Rattle.determinize_core.proofs.Common.{get_or, length, List, map, refl, take}
-use Rattle.determinize_core.proofs.Common.{Value, ℕ, [], ◌++◌, ◌+◌, ◌<◌, ◌∷◌, ◌≡◌}
-use Rattle.std.proofs.lemmas.List.{get_or-map, map_more, map_push}
+use Rattle.determinize_dense.proofs.Common.{get_or, get_or-map, length, List, map, map_push, refl, take, Value, [], ℕ}
+use Rattle.determinize_dense.proofs.Common.{◌++◌, ◌+◌, ◌<◌, ◌∷◌, ◌≡◌}
+use Rattle.std.proofs.lemmas.List.{map_more}
 use Rattle.std.specs.List.{AllZip}
 
 -- the list of an element at an index

@@ -1,22 +1,17 @@
 -- The table of the blocks of a grouping of rows.
 -- Main statements: merged-dfa, merged-is, merged-least, merged-fewest.
--- Used by: `merged` and `minimized`.
+-- Used by: Arranging, `merged` and `minimized`.
 -- Idea: the row of a block over a unit is the block of the row of its member, and so along units.
-use Rattle.determinize_core.proofs.Common.{Bool, List, None, Option, Some, [], arith, length, refl, slice_index, ℕ}
-use Rattle.determinize_core.proofs.Common.{◌*◌, ◌++◌, ◌+◌, ◌<◌, ◌∷◌, ◌≡◌, ◌≤◌}
-use Rattle.determinize_dense.specs.Dfa.{IsDfaOf}
-use Rattle.determinize_dense.proofs.Common.{All, DfaValue, IsDfa, IsFilled, IsUnit, Table, column_of, patterns_at}
-use Rattle.determinize_dense.proofs.Common.{row_after, row_over, slot_number, slot_of, start_kind_of, start_row}
-use Rattle.determinize_dense.proofs.Common.{value_from}
-use Rattle.std.proofs.lemmas.Nat.{div-mul-add, mod-mul-add, mul-add-lt}
-use Rattle.std.proofs.lemmas.List.Elements.{All-append, All-head, All-nil, All-tail}
+use Rattle.determinize_dense.proofs.Common.{All, All-append, All-head, All-nil, All-tail, arith, Blocks, Bool}
+use Rattle.determinize_dense.proofs.Common.{column_of, DfaValue, div-mul-add, entry, IsDfa, IsDfaOf, IsFilled}
+use Rattle.determinize_dense.proofs.Common.{IsGrouping, IsLeast, IsMerged, IsPartition, IsReachedRow, IsUnit, length}
+use Rattle.determinize_dense.proofs.Common.{List, mod-mul-add, mul-add-lt, None, Option, patterns_at, refl, row_after}
+use Rattle.determinize_dense.proofs.Common.{row_over, slice_index, slot_number, slot_number-below, slot_of, Some}
+use Rattle.determinize_dense.proofs.Common.{start_kind_of, start_row, Table, value_from, [], ℕ, ◌*◌, ◌++◌, ◌+◌, ◌<◌}
+use Rattle.determinize_dense.proofs.Common.{◌∷◌, ◌≡◌, ◌≤◌}
 use Rattle.determinize_dense.proofs.Least.{dead_zero, has_rows, row_after-below, row_after-more}
-use Rattle.determinize_start.proofs.kinds.StartSlots.{slot_number-below}
 use Rattle.determinize_dense.proofs.Splitting.{few_blocks}
-use Rattle.determinize_dense.specs.Least.{IsLeast, IsReachedRow}
-use Rattle.determinize_dense.specs.Private.Minimizing.{AreMergedLists, AreMergedRows, AreMergedStarts, entry}
-use Rattle.determinize_dense.specs.Private.Minimizing.{IsGrouping, IsMerged, IsPartition}
-use Rattle.determinize_dense.specs.Private.Partition.{Blocks}
+use Rattle.determinize_dense.specs.Private.Minimizing.{AreMergedLists, AreMergedRows, AreMergedStarts}
 
 -- a DFA with other rows
 abbrev pub with_rows : DfaValue → List ℕ → List ℕ → List (List ℕ) → DfaValue
@@ -129,8 +124,21 @@ module _ {v : DfaValue} (is : IsDfa v) {p : Blocks} (part : IsGrouping v.table p
   filled : IsFilled e
   filled =
       let are = is.table in
-      grind (arith, listed.count, rows.size, firsts.blocks, block-below, member-below, same_column, over-block,
-      few_blocks part.blocks, are.units, are.column, are.within, are.first)
+      grind (
+        arith,
+        listed.count,
+        rows.size,
+        firsts.blocks,
+        block-below,
+        member-below,
+        same_column,
+        over-block,
+        few_blocks part.blocks,
+        are.units,
+        are.column,
+        are.within,
+        are.first,
+      )
 
   pub merged-dfa : IsDfa (with_rows v next starts lists)
   merged-dfa = record {

@@ -1,17 +1,15 @@
 -- Offsets of rows.
--- Main statements: rows_at-offsets, same-offset, row-of, upto-by-offset, stored-offsets, inverse-is.
--- Used by: the entries of a `Dfa`, `order`, `walker` and `bytes`.
+-- Main statements: rows_at-offsets, same-offset, row-of, stored-offsets, inverse-is.
+-- Used by: Searching, Writing, `match_of`, `next_row`, `finished` and `walker`.
 -- Idea: an offset is a number times the columns, so it is divided by them, and ordered as the numbers are.
-use Rattle.determinize_core.proofs.Common.{[], arith, length, length-map, List, map, refl}
-use Rattle.determinize_core.proofs.Common.{ℕ, ◌*◌, ◌+◌, ◌-◌, ◌<◌, ◌∷◌, ◌≡◌, ◌≤◌}
-use Rattle.determinize_dense.proofs.Common.{All, DfaValue, IsDfa, IsFilled, Table}
+use Rattle.determinize_dense.proofs.Common.{All, All-from_get_or, arith, DfaValue, div-mul-add, get_or-map, IsDfa}
+use Rattle.determinize_dense.proofs.Common.{IsFilled, IsInverse, IsStored, length, length-map, List, map, offset_of}
+use Rattle.determinize_dense.proofs.Common.{refl, rows_at, Table, [], ℕ, ◌*◌, ◌+◌, ◌-◌, ◌/◌, ◌<◌, ◌^◌, ◌∷◌, ◌≡◌, ◌≤◌}
 use Rattle.determinize_dense.proofs.Refining.{entry-below}
-use Rattle.std.specs.Prelude.{◌/◌, ◌%◌, ◌^◌}
+use Rattle.std.specs.Prelude.{◌%◌}
 use Rattle.std.proofs.Math.Nat.{div-lt_iff_lt-mul, mod-lt, mul-add, mul-le-mul_left, mul_assoc}
-use Rattle.std.proofs.lemmas.Nat.{div-add-mod', div-mul-add}
-use Rattle.std.proofs.lemmas.List.{get_or-map}
-use Rattle.std.proofs.lemmas.List.Elements.{All-from_get_or, All-weaker}
-use Rattle.determinize_dense.specs.Private.Rows.{IsInverse, IsStored, offset_of, rows_at}
+use Rattle.std.proofs.lemmas.Nat.{div-add-mod'}
+use Rattle.std.proofs.lemmas.List.Elements.{All-weaker}
 use Rattle.determinize_engine.specs.declared.state_table.TheConstants.{MAX_STATES}
 
 -- a number of columns, over the columns
@@ -63,7 +61,8 @@ stored-offsets v dfa offsets are = rw are (grind (arith, length-map, get_or-map)
 -- the product of an offset and the inverse of the columns has the row
 pub inverse-is : (d : Table) → IsFilled d → IsInverse d (4294967296 / (d.class_count + 1) + 1)
 inverse-is d is =
-    let few = λ (r : ℕ) (h : r < length d.patterns). mul-le-mul_left r is.narrow in grind (arith, few, inverse-room, inverse-row)
+    let few = λ (r : ℕ) (h : r < length d.patterns). mul-le-mul_left r is.narrow in
+    grind (arith, few, inverse-room, inverse-row)
 
 -- each entry is the number of a row
 pub entries_within : (d : Table) → IsFilled d → All (λ row. row < length d.patterns) d.next

@@ -2,15 +2,15 @@
 -- Main statements: ordering-skip, ordering-push, ordering-by_rank.
 -- Used by: `by_rank`.
 -- Idea: a rank and a number within it are a turn, and blocks are numbered in the order of turns.
-use Rattle.std.proofs.Common.{[], All, arith, get_or-set_other, length, List, ℕ}
-use Rattle.std.proofs.Common.{◌*◌, ◌++◌, ◌+◌, ◌<◌, ◌∷◌, ◌≡◌, ◌≤◌}
-use Rattle.std.proofs.lemmas.Grind.{get_or-set_at}
+use Rattle.determinize_dense.proofs.Common.{AreBlocks, arith, get_or-set_at, IsByRank, IsOrdering, length, List}
+use Rattle.determinize_dense.proofs.Common.{mul-add-lt, slice_index, [], ℕ, ◌*◌, ◌++◌, ◌+◌, ◌<◌, ◌∷◌, ◌≡◌, ◌≤◌}
+use Rattle.std.proofs.Common.{All, get_or-set_other}
 use Rattle.std.proofs.lemmas.List.{length-set}
-use Rattle.std.proofs.lemmas.Nat.{mul-add-lt, same_from_place}
-use Rattle.std.specs.Prelude.{slice_index, slice_set}
+use Rattle.std.proofs.lemmas.Nat.{same_from_place}
+use Rattle.std.specs.Prelude.{slice_set}
 use Rattle.determinize_dense.proofs.Pigeonhole.{pigeonhole}
 use Rattle.determinize_dense.proofs.Splitting.{few_blocks, pushed}
-use Rattle.determinize_dense.specs.Private.Partition.{AreBlocks, IsByRank, IsOrdering, turn_of}
+use Rattle.determinize_dense.specs.Private.Partition.{turn_of}
 
 module _ {ranks numbers members : List ℕ} (rank row : ℕ)
     (is : IsOrdering ranks (rank * length ranks + row) numbers members) (h : row < length ranks) where

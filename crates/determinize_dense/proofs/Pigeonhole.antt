@@ -2,13 +2,12 @@
 -- Main statement: pigeonhole.
 -- Used by: Least, Ordering, Splitting.
 -- Idea: a list of distinct numbers below m has at most m elements.
-use Rattle.std.proofs.Common.{◌<◌, ◌≡◌, ◌≤◌, arith, length, List, map, ℕ}
+use Rattle.determinize_dense.proofs.Common.{arith, IsDistinct-from_AllPairs, length, length-map-range_with_len, List}
+use Rattle.determinize_dense.proofs.Common.{map, range_with_len, ℕ, ◌<◌, ◌≡◌, ◌≤◌}
 use Rattle.std.proofs.lemmas.Bool.{eq-eqb, eqb-true}
-use Rattle.std.proofs.lemmas.List.FromFn.{get_or-map-range_with_len, length-map-range_with_len}
-use Rattle.std.proofs.lemmas.Map.Made.{IsDistinct-from_AllPairs}
+use Rattle.std.proofs.lemmas.List.FromFn.{get_or-map-range_with_len}
 use Rattle.std.proofs.lemmas.Map.Steps.{length-le_from_distinct_below}
 use Rattle.std.proofs.lemmas.Map.Views.{Contains-from_any}
-use Rattle.std.specs.List.{range_with_len}
 use Rattle.std.specs.Prelude.{slice_index_or}
 
 abbrev pub Into : (ℕ → ℕ) → ℕ → ℕ → Type 0

@@ -1,22 +1,19 @@
 -- The values that are reached.
--- Main statements: reached-start, reached-step, reached-dead, reached-tested.
--- Used by: Simulation, Least, Merging, and `start`.
+-- Main statements: reached-step, reached-dead, reached-tested.
+-- Used by: Simulation, Building, and `entry`.
 -- Idea: a value is reached by units from a start, so the next one is reached by one unit more.
-use Rattle.determinize_core.proofs.Common.{Bool, dead, List, MatchKind, Nfa}
-use Rattle.determinize_core.proofs.Common.{None, Option, refl, start_value, tables_of, true}
-use Rattle.determinize_core.proofs.Common.{Value, value_after, ℕ, [], ◌++◌, ◌∷◌, ◌≡◌}
-use Rattle.determinize_dense.proofs.Common.{IsReachedValue, IsUnit, start_in}
-use Rattle.std.proofs.lemmas.List.Elements.{All-nil, All-push}
+use Rattle.determinize_dense.proofs.Common.{All-nil, All-push, Bool, dead, IsReachedValue, IsUnit, List, MatchKind}
+use Rattle.determinize_dense.proofs.Common.{NeedsTested, Nfa, None, Option, refl, start_in, start_value, true, Value}
+use Rattle.determinize_dense.proofs.Common.{value_after, value_after-push, [], ℕ, ◌++◌, ◌∷◌, ◌≡◌}
+use Rattle.determinize_core.proofs.Common.{tables_of}
 use Rattle.ordered_reach.proofs.lists.Pieces.{flat_map_none}
 use Rattle.determinize_below.specs.Edges.{is_match, target}
 use Rattle.determinize_below.specs.Look.{has}
 use Rattle.determinize_below.proofs.nfas.Edges.{target-end}
 use Rattle.determinize_start.specs.LookTables.{have_after}
-use Rattle.determinize_core.specs.Step.{step, part_read, working_list}
-use Rattle.determinize_core.specs.Alike.{NeedsTested}
+use Rattle.determinize_core.specs.Step.{part_read, step, working_list}
 use Rattle.determinize_core.proofs.closure.EmptySearch.{reach-none}
 use Rattle.determinize_core.proofs.step.AlikeBytes.{each_need_is_tested}
-use Rattle.determinize_core.proofs.walk.WalkLoops.{value_after-push}
 use Rattle.determinize_engine.proofs.LastUnits.{step_over}
 
 module _ (nfa : Nfa) (kind : MatchKind) where

@@ -1,17 +1,14 @@
 -- Partitions of the rows of a table, which are split until each column is settled.
 -- Main statements: entry-below, partition-first, partition-split, refined-first, refined-more, refined-fewer.
--- Used by: `partition` and `refine`, Offsets.
+-- Used by: Offsets, `entry`, `partition`, `split_by` and `refine`.
 -- Idea: rows that are split were apart, or have entries in a column that were apart.
-use Rattle.determinize_core.proofs.Common.{List, [], arith, by_cases, length, replicate, slice_index, ℕ}
-use Rattle.determinize_core.proofs.Common.{◌+◌, ◌-◌, ◌<◌, ◌∙◌, ◌∷◌, ◌≡◌, ◌≤◌}
-use Rattle.determinize_dense.proofs.Common.{IsFilled, IsUnit, Table, patterns_at}
-use Rattle.std.proofs.lemmas.Bool.{cases_eq}
-use Rattle.std.proofs.lemmas.List.{get_or-replicate, length-replicate}
-use Rattle.std.proofs.lemmas.List.Elements.{All-cons, All-nil}
-use Rattle.determinize_dense.specs.Least.{AreApart}
-use Rattle.determinize_dense.specs.Private.Minimizing.{AreFirstAlike, AreTargets, entry, IsPartition, IsRefined}
-use Rattle.determinize_dense.specs.Private.Minimizing.{IsSplitBy}
-use Rattle.determinize_dense.specs.Private.Partition.{AreEqual, Blocks, IsSplit}
+use Rattle.determinize_dense.proofs.Common.{All-cons, All-nil, AreApart, AreEqual, arith, Blocks, by_cases, cases_eq}
+use Rattle.determinize_dense.proofs.Common.{entry, IsFilled, IsPartition, IsRefined, IsSplit, IsUnit, length}
+use Rattle.determinize_dense.proofs.Common.{length-replicate, List, patterns_at, slice_index, Table, [], ℕ, ◌+◌, ◌-◌}
+use Rattle.determinize_dense.proofs.Common.{◌<◌, ◌∙◌, ◌∷◌, ◌≡◌, ◌≤◌}
+use Rattle.determinize_core.proofs.Common.{replicate}
+use Rattle.std.proofs.lemmas.List.{get_or-replicate}
+use Rattle.determinize_dense.specs.Private.Minimizing.{AreFirstAlike, AreTargets, IsSplitBy}
 
 -- the row after a row in a column is a row
 pub entry-below : (d : Table) → IsFilled d → (r c : ℕ) → r < length d.patterns → c < d.class_count + 1

@@ -1,28 +1,25 @@
 -- A search by a table, one unit more at a time, and what it finds.
 -- Main statements: row-push, patterns-are, come-none, come-some, come-on, found-all, found-dead, found-first.
--- Used by: the searches of `Dfa`.
+-- Used by: the searches of `Dfa`, and `patterns_after`.
 -- Idea: the row lists what the value after the same units lists, so the last match is that of the last row with a list.
-use Rattle.determinize_core.proofs.Common.{[], ap, append-nil, append_assoc, arith, Bool, drop, ended_at, future}
-use Rattle.determinize_core.proofs.Common.{get_or, get_or_from_slice_get, HalfMatch, is_nonempty, is_some}
-use Rattle.determinize_core.proofs.Common.{last_match, length, length-append, length-map, length-take-le, List, map}
-use Rattle.determinize_core.proofs.Common.{inl, inr, Option, option_or, refl, slice_get_within}
-use Rattle.determinize_core.proofs.Common.{Some, start_value, suc, sym, take, take-append-drop, take_all}
-use Rattle.determinize_core.proofs.Common.{take_more, Text, true, true≢false, units, Value, value_after, zero, ℕ}
-use Rattle.determinize_core.proofs.Common.{◌++◌, ◌+◌, ◌-◌, ◌<◌, ◌∙◌, ◌∷◌, ◌≡◌, ◌≤◌, ◌⊎◌}
-use Rattle.determinize_dense.proofs.Common.{All, DfaValue, IsDfa, IsFound, IsRowFrom, IsSearched, IsUnit, patterns_at}
-use Rattle.determinize_dense.proofs.Common.{row_after, row_over, start_in, start_row, Table, value_from}
+use Rattle.determinize_dense.proofs.Common.{All, All-cons, All-head, All-nil, All-push, All-tail, ap, arith, Bool}
+use Rattle.determinize_dense.proofs.Common.{DfaValue, drop, ended_at, future, get_or, get_or_from_slice_get, HalfMatch}
+use Rattle.determinize_dense.proofs.Common.{HasCome, inl, inr, is_some, IsDfa, IsFound, IsOrdered, IsRead, IsRowFrom}
+use Rattle.determinize_dense.proofs.Common.{IsSearched, IsUnit, last_match-push, length, length-map, List, map}
+use Rattle.determinize_dense.proofs.Common.{map_push, offset_of, Option, option_or, patterns_at, Reached, refl}
+use Rattle.determinize_dense.proofs.Common.{row_after, row_over, slice_get_within, Some, start_in, start_row}
+use Rattle.determinize_dense.proofs.Common.{start_value, StaysOver, suc, sym, Table, take, take_all, take_more, Text}
+use Rattle.determinize_dense.proofs.Common.{true, units, units_listed, Value, value_after, value_from, [], ℕ, ◌++◌, ◌+◌}
+use Rattle.determinize_dense.proofs.Common.{◌-◌, ◌<◌, ◌∙◌, ◌∷◌, ◌≡◌, ◌≤◌, ◌⊎◌}
+use Rattle.determinize_core.proofs.Common.{append-nil, append_assoc, is_nonempty, last_match, length-append}
+use Rattle.determinize_core.proofs.Common.{length-take-le, take-append-drop, true≢false, zero}
 use Rattle.determinize_core.specs.Chain.{chain}
-use Rattle.std.proofs.lemmas.List.{map_push}
-use Rattle.std.proofs.lemmas.List.Elements.{All-cons, All-drop, All-head, All-nil, All-push, All-tail}
+use Rattle.std.proofs.lemmas.List.Elements.{All-drop}
 use Rattle.determinize_engine.proofs.LastUnits.{longer}
-use Rattle.determinize_engine.proofs.Texts.{units_listed}
 use Rattle.determinize_dense.proofs.Least.{dead_zero, row_after-more}
 use Rattle.determinize_dense.proofs.Offsets.{offset-zero, same-offset}
-use Rattle.determinize_dense.specs.Private.Order.{IsOrdered}
-use Rattle.determinize_dense.specs.Private.Rows.{IsNext, IsRowAt, IsOffset, offset_of}
-use Rattle.determinize_dense.specs.declared.search.Reached.{Reached}
-use Rattle.determinize_dense.specs.Private.Searching.{HasCome, IsMatch, IsRead, StaysOver}
-use Rattle.determinize_core.proofs.walk.LastMatches.{last_match-push}
+use Rattle.determinize_dense.specs.Private.Rows.{IsNext, IsOffset, IsRowAt}
+use Rattle.determinize_dense.specs.Private.Searching.{IsMatch}
 
 module _ {d : DfaValue} {anchored : Bool} {p : Option ℕ} where
   -- the row of a start
@@ -193,7 +190,8 @@ module _ {d : DfaValue} {anchored : Bool} {text : Text} {r : Reached} (is : IsDf
     pub searched-some : (next ≡ 0 → ⊥) → next ≤ last_match → IsSearched d anchored text
         record { row = next; read = r.read + 1; matched = next; offset = r.read }
     searched-some not upto =
-        let some = match_of_some r.read (patterns_at d.table row_next) (last_of d anchored text (take r.read (units text)))
+        let some = match_of_some r.read (patterns_at d.table row_next)
+        (last_of d anchored text (take r.read (units text)))
         (o.some row_next (grind (arith, row-next.reached)) row-next.below (rw row-next.reached at upto)) in
         record {
           at = rw taken row-next;

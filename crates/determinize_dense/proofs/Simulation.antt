@@ -2,33 +2,27 @@
 -- Main statements: is_dfa, has_states.
 -- Used by: `finish`.
 -- Idea: the unit for which a column is computed is alike to each unit of the column.
-use Rattle.determinize_core.proofs.Common.{arith, Bool, by_cases, Contains, dead, get_or, get_or_from_slice_get}
-use Rattle.determinize_core.proofs.Common.{length, List, map, MatchKind, nat_lt, Nfa, None, Option, refl}
-use Rattle.determinize_core.proofs.Common.{slice_get, slice_get_within, slice_index, Some, start_value, sym}
-use Rattle.determinize_core.proofs.Common.{true, Value, value_after, ℕ, [], length-map, slice_get-get_or}
-use Rattle.determinize_core.proofs.Common.{slice_get-map, ◌*◌, ◌+◌, ◌<◌, ◌∙◌, ◌∷◌, ◌≡◌}
-use Rattle.determinize_dense.proofs.Common.{All, AreClassesOf, AreStarts, Building, Classes, column_of, columns_of}
-use Rattle.determinize_dense.proofs.Common.{first_of, HasStates}
-use Rattle.determinize_dense.proofs.Common.{IsBuilding, IsDfa, IsFilled, IsReachedValue, IsUnit, patterns_at}
-use Rattle.determinize_dense.proofs.Common.{row_after, row_over, slot_of, start_in, start_kind_of, start_row}
-use Rattle.determinize_dense.proofs.Common.{step, Table, unit_at}
-use Rattle.std.specs.Prelude.{◌++◌, false}
-use Rattle.determinize_dense.specs.Least.{IsReachedRow}
-use Rattle.std.proofs.lemmas.Bool.{cases_lt}
-use Rattle.std.proofs.lemmas.List.Elements.{All-head, All-tail}
-use Rattle.std.proofs.lemmas.Nat.{div-mul-add, mod-mul-add, mul-add-lt}
-use Rattle.determinize_core.specs.Alike.{NeedsTested}
+use Rattle.determinize_dense.proofs.Common.{All, All-head, All-tail, AreClassesOf, AreStarts, arith, Bool, Building}
+use Rattle.determinize_dense.proofs.Common.{by_cases, cases_lt, Classes, column_of, columns_of, Contains, dead}
+use Rattle.determinize_dense.proofs.Common.{div-mul-add, false, first_of, get_or, get_or_from_slice_get, HasStates}
+use Rattle.determinize_dense.proofs.Common.{IsBuilding, IsDfa, IsFilled, IsReachedRow, IsReachedValue, IsUnit, length}
+use Rattle.determinize_dense.proofs.Common.{length-map, List, map, MatchKind, mod-mul-add, mul-add-lt, NeedsTested, Nfa}
+use Rattle.determinize_dense.proofs.Common.{None, Option, patterns_at, refl, row_after, row_over, slice_get}
+use Rattle.determinize_dense.proofs.Common.{slice_get_within, slice_index, slot_number-below, slot_of, Some, start_in}
+use Rattle.determinize_dense.proofs.Common.{start_kind_of, start_row, start_value, step, sym, Table, true, unit_at}
+use Rattle.determinize_dense.proofs.Common.{Value, value_after, [], ℕ, ◌*◌, ◌++◌, ◌+◌, ◌<◌, ◌∙◌, ◌∷◌, ◌≡◌}
+use Rattle.determinize_core.proofs.Common.{nat_lt, slice_get-get_or, slice_get-map}
 use Rattle.determinize_core.proofs.step.AlikeBytes.{each_class_steps}
 use Rattle.determinize_core.proofs.step.StepLaws.{dead_stays}
 use Rattle.determinize_engine.proofs.Places.{of_some}
 use Rattle.determinize_dense.proofs.Reached.{reached-tested}
-use Rattle.determinize_start.proofs.kinds.StartSlots.{slot_number-below}
 
 -- the dead value stays along units
 dead_after : (nfa : Nfa) (kind : MatchKind) (us rest : List (Option ℕ)) (v : Value) → value_after nfa kind v us ≡ dead
     → value_after nfa kind v (us ++ rest) ≡ dead
 dead_after nfa kind [] [] v is = is
-dead_after nfa kind [] (u ∷ rest) v is = dead_after nfa kind [] rest (step nfa kind v u) (rw is (dead_stays nfa kind u).0)
+dead_after nfa kind [] (u ∷ rest) v is =
+    dead_after nfa kind [] rest (step nfa kind v u) (rw is (dead_stays nfa kind u).0)
 dead_after nfa kind (u ∷ us) rest v is = dead_after nfa kind us rest (step nfa kind v u) is
 
 -- other classes of the same bytes

@@ -1,16 +1,17 @@
 -- How the blocks of a partition are split, one row at a time.
 -- Main statements: few_blocks, row-kept, row-split, splitting-split.
--- Used by: `split`, `by_rank`, Refining, Ordering.
+-- Used by: Collecting, Merging, Ordering, `split`, `len`, and the loops over rows.
 -- Idea: a row stays in its block if it has the value of the member; else its block and value are a key of a new number.
+use Rattle.determinize_dense.proofs.Common.{AreBlocks, AreEqual, arith, Blocks, IsSplit, IsSplitting, length}
+use Rattle.determinize_dense.proofs.Common.{length_push, List, None, Option, same_pair, slice_index, Some, [], ℕ, ◌++◌}
+use Rattle.determinize_dense.proofs.Common.{◌<◌, ◌∷◌, ◌≡◌, ◌≤◌}
 use mathlib.Core.Path.{fun_ext}
-use Rattle.std.proofs.Common.{[], ◌++◌, ◌<◌, ◌∷◌, ◌≡◌, ◌≤◌, arith, cond, length, List, None, Option, Some, ℕ}
+use Rattle.std.proofs.Common.{cond}
 use Rattle.std.proofs.lemmas.Grind.{same_number_lists}
-use Rattle.std.proofs.lemmas.List.{get_or_append_left, get_or_push, length_push}
-use Rattle.std.specs.Prelude.{slice_index}
+use Rattle.std.proofs.lemmas.List.{get_or_append_left, get_or_push}
 use Rattle.ordered_reach.proofs.Cases.{by_cases}
 use Rattle.determinize_dense.proofs.Pigeonhole.{pigeonhole}
-use Rattle.determinize_dense.specs.Private.Partition.{AreBlocks, AreEqual, Blocks, IsNumbered, IsSplit, IsSplitting}
-use Rattle.determinize_dense.specs.Private.Partition.{pair_of, same_pair}
+use Rattle.determinize_dense.specs.Private.Partition.{IsNumbered, pair_of}
 
 -- there are no more blocks than rows
 pub few_blocks : {p : Blocks} → AreBlocks p → length p.members ≤ length p.numbers
@@ -88,6 +89,6 @@ module _ {p : Blocks} {values : List ℕ} (are : AreBlocks p) where
 
     pub splitting-split : IsSplit values p record { numbers = numbers; members = members }
     splitting-split =
-      let old = same_number_lists numbers p.numbers all in
-      let kept = same_number_lists members p.members in
-      grind (arith, splitting-blocks, one_pair, old, kept)
+        let old = same_number_lists numbers p.numbers all in
+        let kept = same_number_lists members p.members in
+        grind (arith, splitting-blocks, one_pair, old, kept)

@@ -2,12 +2,10 @@
 -- Main statements: entry-at, over-stored, rest-length, rest-index.
 -- Used by: `entry` and `row_over`.
 -- Idea: row r has the places r * columns + c, all of which are below the size.
-use Rattle.determinize_core.proofs.Common.{arith, drop, length, List, Option, slice_index, take}
-use Rattle.determinize_core.proofs.Common.{ℕ, ◌*◌, ◌+◌, ◌-◌, ◌<◌, ◌≡◌}
-use Rattle.determinize_dense.specs.Private.Rows.{IsStored, offset_of}
-use Rattle.determinize_dense.proofs.Common.{column_of, DfaValue, IsFilled, IsUnit, row_over, Table}
-use Rattle.std.proofs.lemmas.List.{get_or-drop, length-drop, take_rest}
-use Rattle.std.proofs.lemmas.Nat.{mul-add-lt}
+use Rattle.determinize_dense.proofs.Common.{arith, column_of, DfaValue, drop, IsFilled, IsStored, IsUnit, length}
+use Rattle.determinize_dense.proofs.Common.{length-drop, List, mul-add-lt, offset_of, Option, row_over, slice_index}
+use Rattle.determinize_dense.proofs.Common.{Table, take, ℕ, ◌*◌, ◌+◌, ◌-◌, ◌<◌, ◌≡◌}
+use Rattle.std.proofs.lemmas.List.{get_or-drop, take_rest}
 
 -- each row has an entry in each column
 pub entry-at : (d : Table) → IsFilled d → (r c : ℕ) → r < length d.patterns → c < d.class_count + 1

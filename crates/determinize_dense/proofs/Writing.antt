@@ -2,20 +2,17 @@
 -- Main statements: write_more, end_more, list_more, whole_of.
 -- Used by: `bytes`.
 -- Idea: what is written, and then the numbers that are left, are all numbers.
-use Rattle.determinize_core.proofs.Common.{[], arith, get_or, length, List, slice_index, ℕ}
-use Rattle.determinize_core.proofs.Common.{◌++◌, ◌+◌, ◌<◌, ◌≡◌, ◌≤◌}
-use Rattle.std.specs.Prelude.{All, drop, take, ◌^◌}
+use Rattle.determinize_dense.proofs.Common.{All-append, All-from_get_or, AreClasses, arith, bytes_of_words, Classes}
+use Rattle.determinize_dense.proofs.Common.{concat, DfaValue, drop, drop_more, ends_from, get_or, IsDfa, length, List}
+use Rattle.determinize_dense.proofs.Common.{MAX_ID, slice_index, take, take_more, [], ℕ, ◌++◌, ◌+◌, ◌<◌, ◌^◌, ◌≡◌, ◌≤◌}
+use Rattle.std.specs.Prelude.{All}
 use Rattle.std.specs.Int.{to_le_bytes, w32}
-use Rattle.std.specs.List.{concat}
 use Rattle.std.proofs.Common.{append_assoc}
-use Rattle.std.proofs.lemmas.List.{append-nil, drop_more, length-append, take_more}
+use Rattle.std.proofs.lemmas.List.{append-nil, length-append}
 use Rattle.std.proofs.lemmas.List.Concat.{flat_map-append}
-use Rattle.std.proofs.lemmas.List.Elements.{All-append, All-from_get_or}
 use Rattle.std.proofs.lemmas.List.Folds.{concat-append}
-use Rattle.determinize_below.specs.declared.primitives.TheConstants.{MAX_ID}
-use Rattle.determinize_dense.proofs.Common.{AreClasses, Classes, DfaValue, IsDfa}
 use Rattle.determinize_dense.proofs.Offsets.{entries_within}
-use Rattle.determinize_dense.specs.Bytes.{bytes_of_words, ends_from, IsWhole, stored_of}
+use Rattle.determinize_dense.specs.Bytes.{IsWhole, stored_of}
 
 pub words-append : (xs ys : List ℕ) → bytes_of_words (xs ++ ys) ≡ bytes_of_words xs ++ bytes_of_words ys
 words-append xs ys = flat_map-append (to_le_bytes w32) xs ys

@@ -61,9 +61,9 @@ dead_stop s whole stop (u ∷ us) all =
     ap (λ n. slice_index d.next n) place ∙ stays_at (d.class_count + 1) d.next stop.stays (column_of d u) at in
     ap (λ r. patterns_at d (row_after d r us)) same ∙ dead_stop s whole stop us (All-tail IsUnit u us all)
 
-pub dead_if : (s : Stored) (r : ℕ) (stops : Bool) → IsWhole s → Decides stops ((r ≡ 0) × HasDeadRow s.table) → stops ≡ true
-    → IsDead s.table r
-dead_if s r stops whole decides so =
+pub dead_if : (s : Stored) (r : ℕ) (is_dead : Bool) → IsWhole s → Decides is_dead ((r ≡ 0) × HasDeadRow s.table)
+    → is_dead ≡ true → IsDead s.table r
+dead_if s r is_dead whole decides so =
     let is = decides.0 so in subst (λ n. IsDead s.table n) (sym is.0) (dead_stop s whole is.1)
 
 -- what is found after a row whose first pattern is this

@@ -1,6 +1,4 @@
-use Rattle.determinize_core.proofs.Common.{◌++◌, ◌≡◌}
-use Rattle.std.specs.Prelude.{drop}
-use Rattle.determinize_dense.specs.Bytes.{bytes_of_words}
+use Rattle.determinize_dense.proofs.Common.{bytes_of_words, drop, ◌++◌, ◌≡◌}
 use Rattle.determinize_dense.proofs.bytes.push_classes.Given as goal
 
 abbrev pub invariant-loop-byte : goal.invariant-loop-byte

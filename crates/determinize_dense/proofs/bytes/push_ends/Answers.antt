@@ -1,4 +1,4 @@
-use Rattle.determinize_core.proofs.Common.{[], arith, get_or, length, length-map, map, rules, ◌+◌, ◌≡◌}
+use Rattle.determinize_dense.proofs.Common.{arith, get_or, length, length-map, map, rules, [], ◌+◌, ◌≡◌}
 use Rattle.determinize_dense.proofs.Lists.{items-at}
 use Rattle.determinize_dense.proofs.Writing.{end_more, sum_more}
 use Rattle.determinize_dense.proofs.bytes.push_ends.Goals as goal

@@ -1,7 +1,5 @@
-use Rattle.determinize_core.proofs.Common.{length, map, ◌++◌, ◌+◌, ◌<◌, ◌≡◌}
-use Rattle.std.specs.Prelude.{drop, ◌^◌}
-use Rattle.std.specs.List.{concat}
-use Rattle.determinize_dense.specs.Bytes.{bytes_of_words, ends_from}
+use Rattle.determinize_dense.proofs.Common.{bytes_of_words, concat, drop, ends_from, length, map, ◌++◌, ◌+◌, ◌<◌, ◌^◌}
+use Rattle.determinize_dense.proofs.Common.{◌≡◌}
 use Rattle.determinize_dense.proofs.bytes.push_ends.Given as goal
 
 abbrev pub invariant-loop-list : goal.invariant-loop-list

@@ -1,7 +1,5 @@
-use Rattle.determinize_core.proofs.Common.{take_all, ◌∙◌, ◌≤◌}
-use Rattle.std.proofs.lemmas.Grind.{get_or_default_zero}
+use Rattle.determinize_dense.proofs.Common.{get_or_default_zero, MAX_ID, take_all, ◌∙◌, ◌≤◌}
 use Rattle.std.proofs.lemmas.List.Elements.{All-more}
-use Rattle.determinize_below.specs.declared.primitives.TheConstants.{MAX_ID}
 use Rattle.determinize_dense.proofs.Writing.{write_more}
 use Rattle.determinize_dense.proofs.bytes.push_list.Goals as goal
 

@@ -1,7 +1,5 @@
-use Rattle.determinize_core.proofs.Common.{take, ◌++◌, ◌≡◌, ◌≤◌}
-use Rattle.std.specs.Prelude.{All, drop}
-use Rattle.determinize_below.specs.declared.primitives.TheConstants.{MAX_ID}
-use Rattle.determinize_dense.specs.Bytes.{bytes_of_words}
+use Rattle.determinize_dense.proofs.Common.{bytes_of_words, drop, MAX_ID, take, ◌++◌, ◌≡◌, ◌≤◌}
+use Rattle.std.specs.Prelude.{All}
 use Rattle.determinize_dense.proofs.bytes.push_list.Given as goal
 
 abbrev pub invariant-loop-pattern : goal.invariant-loop-pattern

@@ -1,5 +1,4 @@
-use Rattle.determinize_core.proofs.Common.{arith, length-map, map, take_all, ◌∙◌, ◌≤◌}
-use Rattle.determinize_below.specs.declared.primitives.TheConstants.{MAX_ID}
+use Rattle.determinize_dense.proofs.Common.{arith, length-map, map, MAX_ID, take_all, ◌∙◌, ◌≤◌}
 use Rattle.determinize_dense.proofs.Lists.{items-at}
 use Rattle.determinize_dense.proofs.Writing.{ids_more, list_more}
 use Rattle.determinize_dense.proofs.bytes.push_lists.Goals as goal

@@ -1,8 +1,5 @@
-use Rattle.determinize_core.proofs.Common.{map, take, ◌++◌, ◌≡◌, ◌≤◌}
-use Rattle.std.specs.Prelude.{All, drop}
-use Rattle.std.specs.List.{concat}
-use Rattle.determinize_below.specs.declared.primitives.TheConstants.{MAX_ID}
-use Rattle.determinize_dense.specs.Bytes.{bytes_of_words}
+use Rattle.determinize_dense.proofs.Common.{bytes_of_words, concat, drop, map, MAX_ID, take, ◌++◌, ◌≡◌, ◌≤◌}
+use Rattle.std.specs.Prelude.{All}
 use Rattle.determinize_dense.proofs.bytes.push_lists.Given as goal
 
 abbrev pub invariant-loop-list : goal.invariant-loop-list

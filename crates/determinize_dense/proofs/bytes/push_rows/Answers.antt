@@ -1,5 +1,4 @@
-use Rattle.determinize_core.proofs.Common.{arith, length-map}
-use Rattle.std.proofs.lemmas.List.{get_or-map}
+use Rattle.determinize_dense.proofs.Common.{arith, get_or-map, length-map}
 use Rattle.determinize_dense.proofs.Writing.{write_more}
 use Rattle.determinize_dense.proofs.bytes.push_rows.Goals as goal
 

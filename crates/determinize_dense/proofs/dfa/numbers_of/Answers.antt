@@ -1,12 +1,11 @@
-use Rattle.determinize_core.proofs.Common.{rules, take_all}
-use Rattle.std.specs.Prelude.{◌/◌}
+use Rattle.determinize_dense.proofs.Common.{rules, take_all, ◌/◌}
 use Rattle.determinize_dense.proofs.Lists.{mapped-push}
 use Rattle.determinize_dense.proofs.dfa.numbers_of.Goals as goal
 
 pub loop-offset-preserved : goal.loop-offset-preserved
 loop-offset-preserved g c = record {
-  rows = mapped-push (λ offset. offset / c.args.columns) _ _ _ _ 0 c.loop-offset.invariant.rows c.in_ok-push.ensures.items
-      (search rules);
+  rows = mapped-push (λ offset. offset / c.args.columns) _ _ _ _ 0 c.loop-offset.invariant.rows
+      c.in_ok-push.ensures.items (search rules);
 }
 
 pub returns : goal.returns

@@ -1,5 +1,4 @@
-use Rattle.determinize_core.proofs.Common.{map, take, ◌≡◌}
-use Rattle.std.specs.Prelude.{◌/◌}
+use Rattle.determinize_dense.proofs.Common.{map, take, ◌/◌, ◌≡◌}
 use Rattle.determinize_dense.proofs.dfa.numbers_of.Given as goal
 
 abbrev pub invariant-loop-offset : goal.invariant-loop-offset

@@ -1,10 +1,11 @@
-use Rattle.determinize_core.proofs.Common.{rules, take_all, ◌*◌}
+use Rattle.determinize_dense.proofs.Common.{rules, take_all, ◌*◌}
 use Rattle.determinize_dense.proofs.Lists.{mapped-push}
 use Rattle.determinize_dense.proofs.order.offsets_of.Goals as goal
 
 pub loop-row-preserved : goal.loop-row-preserved
 loop-row-preserved g c = record {
-  offsets = mapped-push (λ row. row * c.args.columns) _ _ _ _ 0 c.loop-row.invariant.offsets c.in_ok-push.ensures.items (search rules);
+  offsets = mapped-push (λ row. row * c.args.columns) _ _ _ _ 0 c.loop-row.invariant.offsets c.in_ok-push.ensures.items
+      (search rules);
 }
 
 pub returns : goal.returns

@@ -1,4 +1,4 @@
-use Rattle.determinize_core.proofs.Common.{map, take, ◌*◌, ◌≡◌}
+use Rattle.determinize_dense.proofs.Common.{map, take, ◌*◌, ◌≡◌}
 use Rattle.determinize_dense.proofs.order.offsets_of.Given as goal
 
 abbrev pub invariant-loop-row : goal.invariant-loop-row

@@ -1,4 +1,5 @@
-use Rattle.determinize_core.proofs.Common.{ap, arith, Err, rules, sym, ℕ, ◌<◌, ◌∙◌, ◌≡◌, ◌≤◌}
+use Rattle.determinize_dense.proofs.Common.{ap, arith, rules, sym, ℕ, ◌<◌, ◌∙◌, ◌≡◌, ◌≤◌}
+use Rattle.determinize_core.proofs.Common.{Err}
 use Rattle.determinize_dense.proofs.Building.{more-as, same_err}
 use Rattle.determinize_dense.proofs.Counting.{each_count_is_one}
 use Rattle.determinize_dense.proofs.dfa.Dfa.build.Goals as goal

@@ -1,7 +1,5 @@
-use Rattle.determinize_core.proofs.Common.{arith, refl}
-use Rattle.determinize_engine.proofs.Texts.{all_read}
+use Rattle.determinize_dense.proofs.Common.{all_read, arith, IsRead, refl}
 use Rattle.determinize_dense.proofs.Searching.{found-all, ordered, searched-dead, searched-none, searched-some}
-use Rattle.determinize_dense.specs.Private.Searching.{IsRead}
 use Rattle.determinize_dense.proofs.dfa.Dfa.last_of.Given.{Over}
 use Rattle.determinize_dense.proofs.dfa.Dfa.last_of.Goals.{After-over_ahead-end}
 use Rattle.determinize_dense.proofs.dfa.Dfa.last_of.Goals.{then-end-eq0-via-else-end-eq0+then-end-self}

@@ -1,4 +1,4 @@
-use Rattle.determinize_core.proofs.Common.{rules, sym, ◌∙◌}
+use Rattle.determinize_dense.proofs.Common.{rules, sym, ◌∙◌}
 use Rattle.determinize_dense.proofs.Offsets.{offset-zero, same-offset}
 use Rattle.determinize_dense.proofs.dfa.Dfa.match_of.Goals as goal
 

@@ -1,5 +1,4 @@
-use Rattle.determinize_core.proofs.Common.{arith, length, length-map, List, take_all}
-use Rattle.determinize_core.proofs.Common.{ℕ, ◌*◌, ◌+◌}
+use Rattle.determinize_dense.proofs.Common.{arith, length, length-map, List, take_all, ℕ, ◌*◌, ◌+◌}
 use Rattle.determinize_dense.proofs.Lists.{items-at}
 use Rattle.std.proofs.lemmas.List.Sums.{sum_by_more}
 use Rattle.determinize_dense.proofs.dfa.Dfa.memory_usage.Goals as goal

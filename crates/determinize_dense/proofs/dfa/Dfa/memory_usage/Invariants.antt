@@ -1,4 +1,5 @@
-use Rattle.determinize_core.proofs.Common.{length, min, take, ◌*◌, ◌+◌, ◌≡◌}
+use Rattle.determinize_dense.proofs.Common.{length, take, ◌*◌, ◌+◌, ◌≡◌}
+use Rattle.determinize_core.proofs.Common.{min}
 use Rattle.std.below.core.specs.declared.int.usize.TheConstants.{MAX}
 use Rattle.std.specs.Prelude.{sum_by}
 use Rattle.determinize_dense.proofs.dfa.Dfa.memory_usage.Given as goal

@@ -1,4 +1,4 @@
-use Rattle.determinize_core.proofs.Common.{sym, ◌∙◌}
+use Rattle.determinize_dense.proofs.Common.{sym, ◌∙◌}
 use Rattle.determinize_dense.proofs.Offsets.{same-offset}
 use Rattle.determinize_dense.proofs.dfa.Dfa.next_row.Goals as goal
 

@@ -1,7 +1,6 @@
-use Rattle.determinize_core.proofs.Common.{length, refl}
+use Rattle.determinize_dense.proofs.Common.{IsRead, length, refl}
 use Rattle.determinize_engine.proofs.Texts.{unit-last}
 use Rattle.determinize_dense.proofs.Searching.{next-offset}
-use Rattle.determinize_dense.specs.Private.Searching.{IsRead}
 use Rattle.determinize_dense.proofs.dfa.Dfa.over_ahead.Goals as goal
 
 pub returns : goal.returns

@@ -1,7 +1,6 @@
-use Rattle.determinize_core.proofs.Common.{Some}
+use Rattle.determinize_dense.proofs.Common.{IsRead, Some}
 use Rattle.determinize_engine.proofs.Texts.{unit-here}
 use Rattle.determinize_dense.proofs.Searching.{next-offset}
-use Rattle.determinize_dense.specs.Private.Searching.{IsRead}
 use Rattle.determinize_dense.proofs.dfa.Dfa.over_byte.Goals as goal
 
 pub returns : goal.returns

@@ -1,10 +1,8 @@
-use Rattle.determinize_core.proofs.Common.{between, false, rules, subst, sym, Text, units, ◌<◌, ◌≡◌}
+use Rattle.determinize_dense.proofs.Common.{All, All-from_get_or, between, false, is_anchored, IsUnit, lists_along}
+use Rattle.determinize_dense.proofs.Common.{ListsAlong, rules, start_for, start_row, sym, Text, text_units, units, ◌<◌}
+use Rattle.determinize_dense.proofs.Common.{◌≡◌}
+use Rattle.determinize_core.proofs.Common.{subst}
 use Rattle.determinize_dense.proofs.Along.{along_text, start_is}
-use Rattle.determinize_dense.proofs.Common.{All, is_anchored, IsUnit, start_row}
-use Rattle.determinize_dense.specs.Reading.{lists_along, ListsAlong}
-use Rattle.determinize_engine.proofs.TextUnits.{text_units}
-use Rattle.determinize_engine.specs.Searches.{start_for}
-use Rattle.std.proofs.lemmas.List.Elements.{All-from_get_or}
 use Rattle.determinize_dense.proofs.dfa.Dfa.overlapping.Given.{Over}
 use Rattle.determinize_dense.proofs.dfa.Dfa.overlapping.Goals.{After-start_state}
 use Rattle.determinize_dense.proofs.dfa.Dfa.overlapping.Goals as goal

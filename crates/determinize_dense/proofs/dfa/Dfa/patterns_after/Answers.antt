@@ -1,5 +1,4 @@
-use Rattle.determinize_core.proofs.Common.{between, rules, take_all, take_more}
-use Rattle.std.proofs.lemmas.List.{map_push}
+use Rattle.determinize_dense.proofs.Common.{between, map_push, rules, take_all, take_more}
 use Rattle.determinize_core.proofs.walk.UnitLists.{units_are}
 use Rattle.determinize_dense.proofs.Along.{start_is}
 use Rattle.determinize_dense.proofs.Listing.{each-accepted, list-all, list-preferred}
@@ -8,8 +7,8 @@ use Rattle.determinize_dense.proofs.dfa.Dfa.patterns_after.Goals as goal
 
 pub loop-byte-init : goal.loop-byte-init
 loop-byte-init g c = record {
-  at = rw c.is_anchored.ensures at (row-start {d = c.args.self.now} c.start_row-row.ensures.unit c.start_row-row.ensures.value
-      c.start_row-row.ensures.limit);
+  at = rw c.is_anchored.ensures at (row-start {d = c.args.self.now} c.start_row-row.ensures.unit
+      c.start_row-row.ensures.value c.start_row-row.ensures.limit);
 }
 
 pub loop-byte-preserved : goal.loop-byte-preserved

@@ -1,5 +1,4 @@
-use Rattle.determinize_core.proofs.Common.{map, Some, take}
-use Rattle.determinize_dense.proofs.Common.{is_anchored, IsRowFrom}
+use Rattle.determinize_dense.proofs.Common.{is_anchored, IsRowFrom, map, Some, take}
 use Rattle.determinize_dense.proofs.dfa.Dfa.patterns_after.Given as goal
 
 abbrev pub invariant-loop-byte : goal.invariant-loop-byte

@@ -1,4 +1,4 @@
-use Rattle.determinize_core.proofs.Common.{arith}
+use Rattle.determinize_dense.proofs.Common.{arith}
 use Rattle.determinize_dense.proofs.Searching.{come-dead, come-none, come-some, ordered}
 use Rattle.determinize_dense.proofs.dfa.Dfa.read_block.Goals as goal
 

@@ -1,5 +1,4 @@
-use Rattle.determinize_core.proofs.Common.{◌-◌, ◌≤◌}
-use Rattle.determinize_dense.specs.Private.Searching.{HasCome}
+use Rattle.determinize_dense.proofs.Common.{HasCome, ◌-◌, ◌≤◌}
 use Rattle.determinize_dense.proofs.dfa.Dfa.read_block.Given as goal
 
 abbrev pub invariant-loop-at : goal.invariant-loop-at

@@ -1,5 +1,4 @@
-use Rattle.determinize_core.proofs.Common.{length, ◌-◌, ◌≤◌}
-use Rattle.determinize_dense.specs.Private.Searching.{HasCome}
+use Rattle.determinize_dense.proofs.Common.{HasCome, length, ◌-◌, ◌≤◌}
 use Rattle.determinize_dense.proofs.dfa.Dfa.read_blocks.Given as goal
 
 abbrev pub invariant-loop-left : goal.invariant-loop-left

@@ -1,6 +1,4 @@
-use Rattle.determinize_core.proofs.Common.{arith, ◌*◌, ◌≡◌}
-use Rattle.std.specs.Prelude.{◌/◌}
-use Rattle.determinize_dense.specs.Private.Rows.{IsInverse}
+use Rattle.determinize_dense.proofs.Common.{arith, IsInverse, ◌*◌, ◌/◌, ◌≡◌}
 use Rattle.determinize_dense.proofs.dfa.Dfa.row_number.Given.{Over}
 use Rattle.determinize_dense.proofs.dfa.Dfa.row_number.Goals.{After-self}
 use Rattle.determinize_dense.proofs.dfa.Dfa.row_number.Goals as goal

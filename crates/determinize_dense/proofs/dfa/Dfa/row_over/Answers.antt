@@ -1,4 +1,4 @@
-use Rattle.determinize_core.proofs.Common.{arith}
+use Rattle.determinize_dense.proofs.Common.{arith}
 use Rattle.determinize_dense.proofs.Tables.{over-stored, rest-index, rest-length}
 use Rattle.determinize_dense.proofs.dfa.Dfa.row_over.Goals as goal
 

@@ -1,4 +1,4 @@
-use Rattle.determinize_core.proofs.Common.{arith}
+use Rattle.determinize_dense.proofs.Common.{arith}
 use Rattle.determinize_dense.proofs.dfa.Dfa.scan.Goals as goal
 
 pub loop-read-preserved : goal.loop-read-preserved

@@ -1,5 +1,4 @@
-use Rattle.determinize_core.proofs.Common.{length, ◌-◌, ◌≤◌}
-use Rattle.determinize_dense.specs.Private.Searching.{StaysOver}
+use Rattle.determinize_dense.proofs.Common.{length, StaysOver, ◌-◌, ◌≤◌}
 use Rattle.determinize_dense.proofs.dfa.Dfa.scan.Given as goal
 
 abbrev pub invariant-loop-read : goal.invariant-loop-read

@@ -1,4 +1,4 @@
-use Rattle.determinize_core.proofs.Common.{between}
+use Rattle.determinize_dense.proofs.Common.{between}
 use Rattle.determinize_dense.proofs.Inputs.{found-search}
 use Rattle.determinize_dense.proofs.dfa.Dfa.search.Goals as goal
 

@@ -1,5 +1,5 @@
-use Rattle.determinize_core.proofs.Common.{false, is_done, rules, sym, ◌∙◌, ◌≡◌}
-use Rattle.determinize_engine.specs.Searches.{text_of}
+use Rattle.determinize_dense.proofs.Common.{false, rules, sym, text_of, ◌∙◌, ◌≡◌}
+use Rattle.determinize_core.proofs.Common.{is_done}
 use Rattle.determinize_engine.proofs.Ranges.{is-result, none-done, offset-within}
 use Rattle.determinize_dense.proofs.Inputs.{found-search}
 use Rattle.determinize_dense.proofs.dfa.Dfa.search_input.Goals as goal

@@ -1,11 +1,8 @@
-use Rattle.determinize_core.proofs.Common.{arith, length, Text, ℕ, ◌<◌, ◌≤◌}
-use Rattle.determinize_dense.proofs.Common.{DfaValue}
+use Rattle.determinize_dense.proofs.Common.{arith, DfaValue, HasCome, length, Reached, Text, ℕ, ◌<◌, ◌≤◌}
 use Rattle.determinize_dense.proofs.Searching.{come-dead, come-none, come-on, come-some, found-over, ordered}
-use Rattle.determinize_dense.specs.Private.Searching.{HasCome}
-use Rattle.determinize_dense.specs.declared.search.Reached.{Reached}
 use Rattle.determinize_dense.proofs.dfa.Dfa.search_rest.Given.{Over}
-use Rattle.determinize_dense.proofs.dfa.Dfa.search_rest.Goals.{After-is_over, else-loop-at-2-test}
-use Rattle.determinize_dense.proofs.dfa.Dfa.search_rest.Goals.{else-at-pauses, then-at-pauses}
+use Rattle.determinize_dense.proofs.dfa.Dfa.search_rest.Goals.{After-is_over, else-at-pauses, else-loop-at-2-test}
+use Rattle.determinize_dense.proofs.dfa.Dfa.search_rest.Goals.{then-at-pauses}
 use Rattle.determinize_dense.proofs.dfa.Dfa.search_rest.Goals.{then-loop-at-2-test+else-at-stop+else-at-self+else-at-ne0}
 use Rattle.determinize_dense.proofs.dfa.Dfa.search_rest.Goals.{then-loop-at-2-test+else-at-stop+else-at-self+then-at-ne0}
 use Rattle.determinize_dense.proofs.dfa.Dfa.search_rest.Goals.{then-loop-at-2-test+else-at-stop+then-at-self+then-record}

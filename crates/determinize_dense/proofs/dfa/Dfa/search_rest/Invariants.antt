@@ -1,5 +1,4 @@
-use Rattle.determinize_core.proofs.Common.{length, ◌-◌, ◌<◌, ◌≤◌}
-use Rattle.determinize_dense.specs.Private.Searching.{HasCome}
+use Rattle.determinize_dense.proofs.Common.{HasCome, length, ◌-◌, ◌<◌, ◌≤◌}
 use Rattle.determinize_dense.proofs.dfa.Dfa.search_rest.Given as goal
 
 -- the bytes that are read with one test of the row; at least one of them is

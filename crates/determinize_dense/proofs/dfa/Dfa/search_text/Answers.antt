@@ -1,4 +1,3 @@
-use Rattle.determinize_core.proofs.Common.{arith}
 use Rattle.determinize_dense.proofs.Common.{IsSearched}
 use Rattle.determinize_dense.proofs.Searching.{found-over, row-start, searched-start}
 use Rattle.determinize_dense.proofs.dfa.Dfa.search_text.Given.{Over}

@@ -1,4 +1,4 @@
-use Rattle.determinize_core.proofs.Common.{arith}
+use Rattle.determinize_dense.proofs.Common.{arith}
 use Rattle.determinize_dense.proofs.Least.{dead_zero}
 use Rattle.determinize_dense.proofs.dfa.Dfa.start_state.Goals as goal
 

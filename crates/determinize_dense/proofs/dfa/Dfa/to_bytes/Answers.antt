@@ -1,4 +1,4 @@
-use Rattle.determinize_core.proofs.Common.{refl}
+use Rattle.determinize_dense.proofs.Common.{refl}
 use Rattle.determinize_dense.proofs.Writing.{whole_of}
 use Rattle.determinize_dense.proofs.dfa.Dfa.to_bytes.Goals as goal
 

@@ -1,7 +1,5 @@
-use Rattle.determinize_core.proofs.Common.{map, rules, ◌≡◌}
+use Rattle.determinize_dense.proofs.Common.{dfa_value, map, rules, same_from_all_zip, ◌≡◌}
 use Rattle.determinize_dense.proofs.Lists.{map-copied}
-use Rattle.std.proofs.lemmas.List.Elements.{same_from_all_zip}
-use Rattle.determinize_dense.specs.Private.Rows.{dfa_value}
 use Rattle.determinize_dense.proofs.dfa.Dfa.to_rows.Given.{Over}
 use Rattle.determinize_dense.proofs.dfa.Dfa.to_rows.Goals.{In_ok-clone-2}
 use Rattle.determinize_dense.proofs.dfa.Dfa.to_rows.Goals as goal

@@ -1,4 +1,4 @@
-use Rattle.determinize_core.proofs.Common.{arith, rules}
+use Rattle.determinize_dense.proofs.Common.{arith, rules}
 use Rattle.determinize_dense.proofs.Least.{dead_zero}
 use Rattle.determinize_dense.proofs.Offsets.{row-of}
 use Rattle.determinize_dense.proofs.dfa.Dfa.walker.Goals as goal

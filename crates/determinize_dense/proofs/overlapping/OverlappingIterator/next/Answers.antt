@@ -1,6 +1,5 @@
-use Rattle.determinize_core.proofs.Common.{[], length, sym, units, ◌∙◌, ◌≡◌, ◌≤◌}
+use Rattle.determinize_dense.proofs.Common.{all_read, length, sym, units, [], ◌∙◌, ◌≡◌, ◌≤◌}
 use Rattle.determinize_dense.proofs.Along.{lists_along-done}
-use Rattle.determinize_engine.proofs.Texts.{all_read}
 use Rattle.determinize_dense.proofs.overlapping.OverlappingIterator.next.Goals as goal
 
 pub returns-then-self-len-clause-steps : goal.returns-then-self-len-clause-steps

@@ -1,5 +1,4 @@
-use Rattle.std.proofs.Common.{length, ◌*◌, ◌+◌, ◌≤◌}
-use Rattle.determinize_dense.specs.Private.Partition.{IsOrdering}
+use Rattle.determinize_dense.proofs.Common.{IsOrdering, length, ◌*◌, ◌+◌, ◌≤◌}
 use Rattle.determinize_dense.proofs.partition.Partition.by_rank.Given as goal
 
 abbrev pub invariant-loop-rank : goal.invariant-loop-rank

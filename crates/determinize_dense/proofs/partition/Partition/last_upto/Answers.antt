@@ -1,5 +1,4 @@
-use Rattle.std.proofs.Common.{arith, length, ◌+◌, ◌<◌}
-use Rattle.std.proofs.lemmas.Grind.{get_or_default_zero}
+use Rattle.determinize_dense.proofs.Common.{arith, get_or_default_zero, length, ◌+◌, ◌<◌}
 use Rattle.determinize_dense.proofs.partition.Partition.last_upto.Goals as goal
 
 pub bounds-ranks-index : goal.bounds-ranks-index

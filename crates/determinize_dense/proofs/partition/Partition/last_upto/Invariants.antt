@@ -1,5 +1,4 @@
-use Rattle.std.proofs.Common.{length, ℕ, ◌-◌, ◌<◌, ◌≤◌}
-use Rattle.std.specs.Prelude.{slice_index}
+use Rattle.determinize_dense.proofs.Common.{length, slice_index, ℕ, ◌-◌, ◌<◌, ◌≤◌}
 use Rattle.determinize_dense.proofs.partition.Partition.last_upto.Given as goal
 
 abbrev pub invariant-loop-last : goal.invariant-loop-last

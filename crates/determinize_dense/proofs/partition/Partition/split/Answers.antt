@@ -1,13 +1,9 @@
-use Rattle.std.proofs.Common.{arith, length, rules, ◌<◌, ◌≡◌}
-use Rattle.std.proofs.lemmas.Grind.{get_or_default_zero}
-use Rattle.std.proofs.lemmas.List.{length_push}
-use Rattle.std.proofs.lemmas.List.Elements.{same_from_all_zip}
-use Rattle.std.specs.Prelude.{slice_index}
-use Rattle.determinize_dense.proofs.Splitting.{row-kept, row-split, splitting-blocks, splitting-none}
-use Rattle.determinize_dense.proofs.Splitting.{splitting-split}
+use Rattle.determinize_dense.proofs.Common.{arith, get_or_default_zero, length, length_push, rules, same_from_all_zip}
+use Rattle.determinize_dense.proofs.Common.{slice_index, ◌<◌, ◌≡◌}
+use Rattle.determinize_dense.proofs.Splitting.{row-kept, row-split, splitting-blocks, splitting-none, splitting-split}
 use Rattle.determinize_dense.proofs.partition.Partition.split.Given.{Over}
 use Rattle.determinize_dense.proofs.partition.Partition.split.Goals.{After-index-in-loop-row}
-use Rattle.determinize_dense.proofs.partition.Partition.split.Goals.{then-value-values, else-value-values+in_ok-number}
+use Rattle.determinize_dense.proofs.partition.Partition.split.Goals.{else-value-values+in_ok-number, then-value-values}
 use Rattle.determinize_dense.proofs.partition.Partition.split.Goals as goal
 
 module _ (g : Over) (c : After-index-in-loop-row g) where

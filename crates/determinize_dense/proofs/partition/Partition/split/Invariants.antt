@@ -1,6 +1,5 @@
-use Rattle.std.proofs.Common.{◌≡◌, ◌≤◌, length}
+use Rattle.determinize_dense.proofs.Common.{IsSplitting, length, same_pair, ◌≡◌, ◌≤◌}
 use Rattle.std.specs.HashMap.{get}
-use Rattle.determinize_dense.specs.Private.Partition.{IsSplitting, same_pair}
 use Rattle.determinize_dense.proofs.partition.Partition.split.Given as goal
 
 abbrev pub invariant-loop-row : goal.invariant-loop-row

@@ -1,10 +1,6 @@
-use Rattle.determinize_core.proofs.Common.{refl, ◌≡◌}
-use Rattle.determinize_dense.specs.Least.{IsLeast}
-use Rattle.std.proofs.lemmas.List.Elements.{All-from_get_or}
-use Rattle.std.proofs.lemmas.Result.{IfOk-weaker}
+use Rattle.determinize_dense.proofs.Common.{All-from_get_or, IfOk-weaker, IsLeast, refl, ◌<◌, ◌≡◌}
 use Rattle.determinize_dense.proofs.Arranging.{arranged-least, arranged-ordered, grouping-by_rank}
 use Rattle.determinize_dense.specs.declared.partition.TheConstants.{RANKS}
-use Rattle.std.specs.Prelude.{◌<◌}
 use Rattle.determinize_dense.proofs.rows.Rows.arranged.Goals as goal
 
 pub by_rank-requires : goal.by_rank-requires

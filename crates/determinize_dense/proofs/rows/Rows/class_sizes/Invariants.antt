@@ -1,4 +1,4 @@
-use Rattle.determinize_core.proofs.Common.{slice_index, ℕ, ◌<◌, ◌≤◌}
+use Rattle.determinize_dense.proofs.Common.{slice_index, ℕ, ◌<◌, ◌≤◌}
 use Rattle.determinize_dense.proofs.rows.Rows.class_sizes.Given as goal
 
 abbrev pub invariant-loop-byte : goal.invariant-loop-byte

@@ -1,5 +1,4 @@
-use Rattle.determinize_core.proofs.Common.{arith, length, ◌*◌, ◌+◌, ◌<◌}
-use Rattle.std.proofs.lemmas.Grind.{get_or_default_zero}
+use Rattle.determinize_dense.proofs.Common.{arith, get_or_default_zero, length, ◌*◌, ◌+◌, ◌<◌}
 use Rattle.determinize_dense.proofs.Refining.{entry-below}
 use Rattle.determinize_dense.proofs.Tables.{entry-at}
 use Rattle.determinize_dense.proofs.rows.Rows.entry.Given.{Over}

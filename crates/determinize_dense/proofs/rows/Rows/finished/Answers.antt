@@ -1,4 +1,4 @@
-use Rattle.determinize_core.proofs.Common.{arith, length, refl, ◌+◌}
+use Rattle.determinize_dense.proofs.Common.{arith, length, refl, ◌+◌}
 use Rattle.determinize_dense.proofs.Offsets.{entries_few, inverse-is, rows_at-offsets, stored-offsets}
 use Rattle.determinize_dense.proofs.rows.Rows.finished.Goals as goal
 

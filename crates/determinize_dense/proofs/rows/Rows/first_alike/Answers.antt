@@ -1,4 +1,4 @@
-use Rattle.determinize_core.proofs.Common.{sym}
+use Rattle.determinize_dense.proofs.Common.{sym}
 use Rattle.determinize_dense.proofs.FirstRows.{first-known, first-new, firsts-known, firsts-new}
 use Rattle.std.proofs.lemmas.Map.Text.{hash_map_updates_str}
 use Rattle.determinize_dense.proofs.rows.Rows.first_alike.Goals as goal

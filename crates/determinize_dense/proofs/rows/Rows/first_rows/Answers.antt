@@ -1,5 +1,5 @@
+use Rattle.determinize_dense.proofs.Common.{arith}
 use Rattle.determinize_dense.proofs.Splitting.{pushed}
-use Rattle.determinize_core.proofs.Common.{arith}
 use Rattle.determinize_dense.proofs.rows.Rows.first_rows.Goals as goal
 
 pub loop-row-init : goal.loop-row-init

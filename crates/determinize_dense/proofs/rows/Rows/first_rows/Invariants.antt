@@ -1,7 +1,5 @@
-use Rattle.determinize_core.proofs.Common.{length, slice_index, ℕ, ◌<◌, ◌≡◌, ◌≤◌}
+use Rattle.determinize_dense.proofs.Common.{AreFirsts, bytes_eq, IsFirstAlike, length, slice_index, ℕ, ◌<◌, ◌≡◌, ◌≤◌}
 use Rattle.std.specs.HashMap.{get_by}
-use Rattle.std.specs.Prelude.{bytes_eq}
-use Rattle.determinize_dense.specs.Private.Minimizing.{AreFirsts, IsFirstAlike}
 use Rattle.determinize_dense.proofs.rows.Rows.first_rows.Given as goal
 
 abbrev pub invariant-loop-row : goal.invariant-loop-row

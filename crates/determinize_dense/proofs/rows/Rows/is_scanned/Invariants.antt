@@ -1,4 +1,4 @@
-use Rattle.determinize_core.proofs.Common.{◌*◌, ◌≤◌}
+use Rattle.determinize_dense.proofs.Common.{◌*◌, ◌≤◌}
 use Rattle.determinize_dense.proofs.rows.Rows.is_scanned.Given as goal
 
 abbrev pub invariant-loop-class : goal.invariant-loop-class

@@ -1,6 +1,5 @@
-use Rattle.determinize_core.proofs.Common.{map, rules, ◌≡◌}
+use Rattle.determinize_dense.proofs.Common.{dfa_value, map, rules, ◌≡◌}
 use Rattle.determinize_dense.proofs.Merging.{merged-dfa, merged-is, with_rows}
-use Rattle.determinize_dense.specs.Private.Rows.{dfa_value}
 use Rattle.determinize_dense.proofs.rows.Rows.merged.Given.{Over}
 use Rattle.determinize_dense.proofs.rows.Rows.merged.Goals.{In_ok-merged_lists}
 use Rattle.determinize_dense.proofs.rows.Rows.merged.Goals as goal

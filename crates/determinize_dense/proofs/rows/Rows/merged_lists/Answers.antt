@@ -1,7 +1,5 @@
+use Rattle.determinize_dense.proofs.Common.{arith, length-map, map_push, same_from_all_zip}
 use Rattle.determinize_dense.proofs.Splitting.{pushed}
-use Rattle.determinize_core.proofs.Common.{arith, length-map}
-use Rattle.std.proofs.lemmas.List.{map_push}
-use Rattle.std.proofs.lemmas.List.Elements.{same_from_all_zip}
 use Rattle.determinize_dense.proofs.Lists.{items-at}
 use Rattle.determinize_dense.proofs.rows.Rows.merged_lists.Goals as goal
 

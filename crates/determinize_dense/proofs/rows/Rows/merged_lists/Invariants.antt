@@ -1,5 +1,4 @@
-use Rattle.determinize_core.proofs.Common.{[], get_or, length, map, slice_index, ℕ, ◌<◌, ◌≡◌, ◌≤◌}
-use Rattle.determinize_dense.proofs.Common.{patterns_at}
+use Rattle.determinize_dense.proofs.Common.{get_or, length, map, patterns_at, slice_index, [], ℕ, ◌<◌, ◌≡◌, ◌≤◌}
 use Rattle.determinize_dense.proofs.rows.Rows.merged_lists.Given as goal
 
 abbrev pub invariant-loop-row : goal.invariant-loop-row

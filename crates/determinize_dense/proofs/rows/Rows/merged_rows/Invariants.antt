@@ -1,5 +1,4 @@
-use Rattle.determinize_core.proofs.Common.{length, ◌*◌, ◌+◌, ◌≡◌, ◌≤◌}
-use Rattle.determinize_dense.specs.Private.Minimizing.{AreMergedEntries}
+use Rattle.determinize_dense.proofs.Common.{AreMergedEntries, length, ◌*◌, ◌+◌, ◌≡◌, ◌≤◌}
 use Rattle.determinize_dense.proofs.rows.Rows.merged_rows.Given as goal
 
 abbrev pub invariant-loop-row : goal.invariant-loop-row

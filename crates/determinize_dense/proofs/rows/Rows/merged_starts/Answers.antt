@@ -1,6 +1,5 @@
-use Rattle.std.proofs.lemmas.Grind.{get_or-set_at}
-use Rattle.determinize_core.proofs.Common.{get_or-set_other}
-use Rattle.determinize_core.proofs.Common.{arith, length-set}
+use Rattle.determinize_dense.proofs.Common.{arith, get_or-set_at}
+use Rattle.determinize_core.proofs.Common.{get_or-set_other, length-set}
 use Rattle.determinize_dense.proofs.Splitting.{few_blocks}
 use Rattle.determinize_dense.proofs.rows.Rows.merged_starts.Goals as goal
 

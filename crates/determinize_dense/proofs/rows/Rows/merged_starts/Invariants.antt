@@ -1,4 +1,4 @@
-use Rattle.determinize_core.proofs.Common.{length, slice_index, ℕ, ◌-◌, ◌<◌, ◌≡◌, ◌≤◌}
+use Rattle.determinize_dense.proofs.Common.{length, slice_index, ℕ, ◌-◌, ◌<◌, ◌≡◌, ◌≤◌}
 use Rattle.determinize_dense.proofs.rows.Rows.merged_starts.Given as goal
 
 abbrev pub invariant-loop-number : goal.invariant-loop-number

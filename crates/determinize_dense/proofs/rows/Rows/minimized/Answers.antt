@@ -1,4 +1,4 @@
-use Rattle.determinize_core.proofs.Common.{IfOk-weaker}
+use Rattle.determinize_dense.proofs.Common.{IfOk-weaker}
 use Rattle.determinize_dense.proofs.Merging.{merged-fewest, merged-least}
 use Rattle.determinize_dense.proofs.rows.Rows.minimized.Goals as goal
 

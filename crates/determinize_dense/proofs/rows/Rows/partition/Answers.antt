@@ -1,5 +1,5 @@
+use Rattle.determinize_dense.proofs.Common.{arith, length-replicate, None, true}
 use Rattle.determinize_dense.proofs.Splitting.{few_blocks}
-use Rattle.determinize_core.proofs.Common.{arith, length-replicate, None, true}
 use Rattle.determinize_dense.proofs.Refining.{partition-first}
 use Rattle.determinize_dense.proofs.rows.Rows.partition.Goals as goal
 

@@ -1,5 +1,4 @@
-use Rattle.determinize_core.proofs.Common.{length, ◌-◌}
-use Rattle.determinize_dense.specs.Private.Minimizing.{IsPartition}
+use Rattle.determinize_dense.proofs.Common.{IsPartition, length, ◌-◌}
 use Rattle.determinize_dense.proofs.rows.Rows.partition.Given as goal
 
 abbrev pub invariant-loop-parts : goal.invariant-loop-parts

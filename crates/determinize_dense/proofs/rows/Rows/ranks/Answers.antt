@@ -1,5 +1,5 @@
+use Rattle.determinize_dense.proofs.Common.{arith, None, true}
 use Rattle.determinize_dense.proofs.Splitting.{pushed}
-use Rattle.determinize_core.proofs.Common.{arith, None, true}
 use Rattle.determinize_dense.proofs.rows.Rows.ranks.Goals as goal
 
 pub loop-row-preserved : goal.loop-row-preserved

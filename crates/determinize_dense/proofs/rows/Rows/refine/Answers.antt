@@ -1,4 +1,4 @@
-use Rattle.determinize_core.proofs.Common.{arith, ◌+◌, ◌≡◌}
+use Rattle.determinize_dense.proofs.Common.{arith, ◌+◌, ◌≡◌}
 use Rattle.determinize_dense.proofs.Refining.{refined-fewer, refined-first, refined-more}
 use Rattle.determinize_dense.proofs.rows.Rows.refine.Goals as goal
 

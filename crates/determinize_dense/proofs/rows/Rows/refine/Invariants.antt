@@ -1,4 +1,4 @@
-use Rattle.determinize_dense.specs.Private.Minimizing.{IsRefined}
+use Rattle.determinize_dense.proofs.Common.{IsRefined}
 use Rattle.determinize_dense.proofs.rows.Rows.refine.Given as goal
 
 abbrev pub invariant-loop-column : goal.invariant-loop-column

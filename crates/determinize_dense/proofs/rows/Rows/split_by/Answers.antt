@@ -1,4 +1,4 @@
-use Rattle.determinize_core.proofs.Common.{IfOk-weaker}
+use Rattle.determinize_dense.proofs.Common.{IfOk-weaker}
 use Rattle.determinize_dense.proofs.Refining.{partition-split}
 use Rattle.determinize_dense.proofs.rows.Rows.split_by.Goals as goal
 

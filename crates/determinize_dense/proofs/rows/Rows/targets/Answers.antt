@@ -1,6 +1,5 @@
+use Rattle.determinize_dense.proofs.Common.{arith, entry, length-map, rules}
 use Rattle.determinize_dense.proofs.Splitting.{pushed}
-use Rattle.determinize_core.proofs.Common.{arith, length-map, rules}
-use Rattle.determinize_dense.specs.Private.Minimizing.{entry}
 use Rattle.determinize_dense.proofs.rows.Rows.targets.Goals as goal
 
 pub entry-requires-clause-row : goal.entry-requires-clause-row

@@ -1,5 +1,4 @@
-use Rattle.determinize_core.proofs.Common.{length, slice_index, ℕ, ◌<◌, ◌≡◌, ◌≤◌}
-use Rattle.determinize_dense.specs.Private.Minimizing.{entry}
+use Rattle.determinize_dense.proofs.Common.{entry, length, slice_index, ℕ, ◌<◌, ◌≡◌, ◌≤◌}
 use Rattle.determinize_dense.proofs.rows.Rows.targets.Given as goal
 
 abbrev pub invariant-loop-row : goal.invariant-loop-row

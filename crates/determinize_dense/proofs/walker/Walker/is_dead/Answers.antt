@@ -1,4 +1,4 @@
-use Rattle.determinize_core.proofs.Common.{arith}
+use Rattle.determinize_dense.proofs.Common.{arith}
 use Rattle.determinize_dense.proofs.Offsets.{row-of}
 use Rattle.determinize_dense.proofs.walker.Walker.is_dead.Goals as goal
 

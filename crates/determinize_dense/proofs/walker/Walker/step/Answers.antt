@@ -1,4 +1,4 @@
-use Rattle.determinize_core.proofs.Common.{refl}
+use Rattle.determinize_dense.proofs.Common.{refl}
 use Rattle.determinize_dense.proofs.Offsets.{row-of}
 use Rattle.determinize_dense.proofs.walker.Walker.step.Goals as goal
 
