@@ -1,5 +1,5 @@
 -- A table that is being built: one value more, and one entry more.
--- Main statements: building-first, building-value, building-entry, next_row-before, stays-more, one_too_many.
+-- Main statements: building-first, building-value, building-entry, next_row-before, next_row-base, stays-more, one_too_many.
 -- Used by: the functions of `Builder`, and `build`.
 -- Idea: what holds of each value so far, and of one more, holds of each after it is added.
 use Rattle.determinize_core.proofs.Common.{All-nil, AllResolve, ap, arith, Bool, get_or, by_cases, by_test, dead, Err, false}
@@ -8,9 +8,13 @@ use Rattle.determinize_core.proofs.Common.{Nfa, Ok, refl, Result, same, slice_ge
 use Rattle.determinize_core.proofs.Common.{sym, true, Value, ℕ, [], get_or-set_other, get_or-set_same}
 use Rattle.determinize_core.proofs.Common.{length-set, slice_get-get_or, slice_get_within, ◌*◌, ◌++◌, ◌+◌, ◌-◌, ◌<◌, ◌∙◌, ◌∷◌, ◌≡◌, ◌≤◌}
 use Rattle.determinize_dense.proofs.Common.{AreClasses, AreClassesOf, AreStarts, Building, Classes, columns_of}
-use Rattle.determinize_dense.proofs.Common.{first_of, HasChanges, HasMoreStates, IsBuilding, IsReachedValue, IsStart, IsNextRow}
-use Rattle.determinize_dense.proofs.Common.{IsUnit, slot_number, Stays, unit_at}
+use Rattle.determinize_dense.proofs.Common.{first_of, HasChanges, HasIds, HasMoreStates, IsBase, IsBuilding}
+use Rattle.determinize_dense.proofs.Common.{IsReachedValue, IsStart, IsNextRow, IsUnit, slot_number, Stays, unit_at}
+use Rattle.determinize_core.specs.Private.Reading.{gives_nothing}
 use Rattle.determinize_core.specs.Step.{step}
+use Rattle.determinize_dense.proofs.IdleStates.{step_same}
+use Rattle.ordered_reach.specs.Runs.{without}
+use Rattle.std.proofs.lemmas.List.Elements.{filter-append}
 use Rattle.std.specs.Prelude.{◌%◌, ◌/◌}
 use Rattle.std.proofs.Math.Nat.{mul-le-mul_right, mul_comm}
 use Rattle.std.proofs.lemmas.Option.{slice_get_read}
@@ -95,6 +99,18 @@ module _ (b : Building) (is : IsBuilding b) where
       λ x h. let k = In_from_Contains more.values x h in each_reached k.0 x k.1,
     )
 
+  -- an entry that is computed serves another place, if the step is the same
+  next_row-as : (row column at_row at_column r : ℕ) (v w : Value) → slice_get b.values row ≡ Some v
+      → slice_get b.values at_row ≡ Some w → at_column < columns_of b.classes
+      → slice_get b.next (at_row * columns_of b.classes + at_column) ≡ Some r
+      → step b.nfa b.kind w (unit_at b.classes at_column) ≡ step b.nfa b.kind v (unit_at b.classes column)
+      → IsNextRow b row column r
+  next_row-as row column at_row at_column r v w at there inside entry same =
+      let place = place-of at_row at_column (columns_of b.classes) inside in
+      let found : IsNextRow b at_row at_column r = rw (place.0, place.1) at (is.entries _ r entry) in
+      let here : found.0 ≡ w = of_some (sym found.1 ∙ there) in
+      (v, at, rw (← same, ← here) found.2)
+
   -- the entry of the column before, if one step serves both columns
   pub next_row-before : (row column r : ℕ) (v : Value) → slice_get b.values row ≡ Some v → 0 < column
       → column < length b.classes.firsts → slice_get b.next (row * columns_of b.classes + (column - 1)) ≡ Some r
@@ -102,11 +118,20 @@ module _ (b : Building) (is : IsBuilding b) where
       ≡ step b.nfa b.kind v (Some (first_of b.classes column))
       → IsNextRow b row column r
   next_row-before row column r v at positive inside entry same =
-      let place = place-of row (column - 1) (columns_of b.classes) (omega (arith, inside)) in
-      let before : IsNextRow b row (column - 1) r = rw (place.0, place.1) at (is.entries _ r entry) in
-      let here : before.0 ≡ v = of_some (sym before.1 ∙ at) in
-      let first = unit_at-byte b.classes (column - 1) (omega (arith, inside)) in
-      (v, at, rw (unit_at-byte b.classes column inside, ← same, ← here, ← first) before.2)
+      next_row-as row column row (column - 1) r v v at at (omega (arith, inside)) entry
+      (rw (unit_at-byte b.classes (column - 1) (omega (arith, inside)), unit_at-byte b.classes column inside) same)
+
+  -- the entry of the base, if no further state gives anything
+  pub next_row-base : (row base column r : ℕ) (further : List ℕ) → row < length b.values → IsBase b row base further
+      → column < columns_of b.classes → slice_get b.next (base * columns_of b.classes + column) ≡ Some r
+      → without (gives_nothing b.nfa (unit_at b.classes column)) further ≡ [] → IsNextRow b row column r
+  next_row-base row base column r further room base_is inside entry idle =
+      let at = slice_get-get_or b.values row dead room in
+      let there = slice_get-get_or b.values base dead (omega (arith, room, base_is.before)) in
+      let v = base_is.of_row _ at in
+      let w = base_is.of_base _ there in
+      next_row-as row column base column r _ _ at there inside entry
+      (step_same b.nfa b.kind _ _ _ w.0 v.0 (rw (v.1, w.1, filter-append, idle) refl))
 
   -- an entry more
   pub building-entry : (row column r : ℕ) → length b.next ≡ row * columns_of b.classes + column
@@ -233,6 +258,28 @@ changes-stay {a} {b} {row} marks s inside has v at =
     let here : slice_get a.values row ≡ Some (get_or a.values row v) = slice_get-get_or a.values row v inside in
     let same : get_or a.values row v ≡ v = of_some (sym (s.values row _ here) ∙ at) in
     rw s.nfa (has v (here ∙ ap Some same))
+
+-- the dead value has no NFA states
+pub dead-ids : {b : Building} → IsBuilding b → HasIds b 0 []
+dead-ids is v at = rw (← of_some (sym is.first ∙ at)) (refl, refl)
+
+-- the NFA states of a row stay
+pub ids-stay : {a b : Building} {row : ℕ} (ids : List ℕ) → Stays a b → row < length a.values → HasIds a row ids
+    → HasIds b row ids
+ids-stay {a} {b} {row} ids s inside has v at =
+    let here : slice_get a.values row ≡ Some (get_or a.values row v) = slice_get-get_or a.values row v inside in
+    let same : get_or a.values row v ≡ v = of_some (sym (s.values row _ here) ∙ at) in
+    has v (here ∙ ap Some same)
+
+-- the base of a row stays
+pub base-stays : {a b : Building} {row base : ℕ} (further : List ℕ) → Stays a b → row < length a.values
+    → IsBase a row base further → IsBase b row base further
+base-stays further s inside is = record {
+  before = is.before;
+  ids = is.ids;
+  of_base = ids-stay is.ids s (omega (arith, inside, is.before)) is.of_base;
+  of_row = ids-stay (further ++ is.ids) s inside is.of_row;
+}
 
 -- the row after a row, once its value was placed
 pub next_row-placed : {a b : Building} → Stays a b → (row column r : ℕ) (v w : Value) → slice_get a.values row ≡ Some v

@@ -5,6 +5,7 @@ mod Collecting
 mod Common
 mod Counting
 mod FirstRows
+mod IdleStates
 mod Inputs
 mod Least
 mod Listing

@@ -2,26 +2,35 @@
 //!
 //! The states found so far have rows in the order in which they were found: the dead state, the
 //! start states, and then the next states of each row. An entry is computed for one byte of each
-//! class, and for the end of input (EOI). If each NFA state of a row has the same target on the
-//! byte of a column as on that of the column before, one step mostly serves both.
+//! class, and for the end of input (EOI). Two ways save most steps:
+//!
+//! - If each NFA state of a row has the same target on the byte of a column as on that of the
+//!   column before, one step mostly serves both.
+//! - A row mostly has the NFA states of an earlier row, its *base*, behind a few *further* ones. In
+//!   a column where none of these matches or has a target, its entry is that of the base. The base
+//!   is the unanchored start, to which a search returns at each position, or else the dead state,
+//!   which has no NFA states.
 
-ghost use Rattle.std.specs.Prelude.{◌≡◌, ◌<◌, ◌≤◌, ◌+◌, ◌*◌, ◌∷◌, [], Err, Some, IfOk, IfSome, OnOk, length, map, min, slice_get};
+ghost use Rattle.std.specs.Prelude.{◌≡◌, ◌<◌, ◌≤◌, ◌+◌, ◌++◌, ◌*◌, ◌∷◌, [], Err, Some, IfOk, IfSome, IsTrue, OnOk, length, map, min, not, slice_get};
 ghost use Rattle.determinize_below.specs.Unit.{byte_of};
 ghost use Rattle.determinize_start.specs.declared.start.TheConstants.StartSlot.{COUNT};
 ghost use Rattle.determinize_below.specs.Nfa.{AllResolve};
+ghost use Rattle.determinize_core.specs.Private.Reading.{gives_nothing};
 ghost use Rattle.determinize_core.specs.Value.{Value as StateValue, dead};
 ghost use Rattle.determinize_dense.specs.Dfa.{HasMoreStates, HasStates, IsReachedValue, start_in};
-ghost use Rattle.determinize_dense.specs.Private.Building.{AreStarts, HasChanges, IsStart, IsNextRow, Stays};
+ghost use Rattle.determinize_dense.specs.Private.Building.{AreStarts, HasChanges, HasIds, IsBase, IsStart, IsNextRow, Stays};
 ghost use Rattle.determinize_dense.specs.Private.Building.{columns_of, unit_at};
 ghost use Rattle.determinize_dense.specs.declared.error.DfaError.TheVariants.{TooManyStates};
+ghost use Rattle.ordered_reach.specs.Runs.{without};
 
 use crate::error::DfaError;
 use crate::rows::Rows;
 use determinize_below::alphabet::ByteClasses;
+use determinize_below::nfa::State as NfaState;
 use determinize_below::{MatchKind, NFA, PatternID, StateID, Unit};
 use determinize_core::determinize::Stepper;
 use determinize_core::determinize::changes::{changes, steps_alike};
-use determinize_core::start::StartSlot;
+use determinize_core::start::{Start, StartSlot};
 use determinize_core::state::State;
 use determinize_engine::state_table::{MAX_STATES, StateTable};
 use std::alloc::{AllocError, Allocator};
@@ -96,6 +105,43 @@ fn start_in<N: Allocator>(nfa: &NFA<N>, is_anchored: bool) -> StateID
     }
 }
 
+/// Returns whether an NFA state matches, or has a target over a unit.
+fn gives<N: Allocator>(nfa: &NFA<N>, id: StateID, unit: Unit) -> bool
+    requires { id < length nfa.now.states }
+    ensures { result ≡ not (gives_nothing nfa.now (byte_of unit) id) }
+{
+    match nfa.state(id) {
+        NfaState::ByteRange { trans } => trans.matches_unit(unit),
+        NfaState::Sparse(sparse) => sparse.matches_unit(unit).is_some(),
+        NfaState::Dense(dense) => dense.matches_unit(unit).is_some(),
+        NfaState::Match { .. } => true,
+        _ => false,
+    }
+}
+
+/// Returns whether none of these NFA states matches or has a target over a unit.
+fn none_gives<N: Allocator>(nfa: &NFA<N>, ids: &[StateID], unit: Unit) -> bool
+    requires { AllResolve nfa.now ids.now }
+    ensures { IsTrue result → without (gives_nothing nfa.now (byte_of unit)) ids.now ≡ [] }
+{
+    for id in ids {
+        if gives(nfa, *id, unit) {
+            return false;
+        }
+    }
+    true
+}
+
+/// Pushes the NFA states of a state.
+fn push_ids<A: Allocator>(state: &State<A>, ids: &mut Vec<StateID, A>) -> Result<(), AllocError>
+    ensures { OnOk result (ids.new.items ≡ ids.old.items ++ state.now.states) }
+{
+    for id in state.iter_nfa_state_ids() {
+        ids.push(id)?;
+    }
+    Ok(())
+}
+
 /// Returns a table with the dead state only.
 fn dead_only<A: Allocator + Copy>(alloc: A) -> Result<StateTable<A>, AllocError>
     ensures { IfOk result (λ states. states ≡ dead ∷ []) }
@@ -131,6 +177,13 @@ fn lists_of<A: Allocator + Copy>(
         lists.push(patterns_of(alloc, state)?)?;
     }
     Ok(lists)
+}
+
+/// A row whose NFA states a later row has behind further ones.
+#[derive(Drop)]
+struct Base<'i> {
+    row: usize,
+    further: &'i [StateID],
 }
 
 impl<'n, N: Allocator, A: Allocator + Copy> Builder<'n, N, A> {
@@ -281,11 +334,86 @@ impl<'n, N: Allocator, A: Allocator + Copy> Builder<'n, N, A> {
         Some(self.next[self.next.len() - 1])
     }
 
-    /// Returns the entry of a row in a column. Often it is the entry before or above.
+    /// Lists the NFA states of a row if they test no assertion, or else those of row 0, none.
+    /// Returns the number of that row.
+    fn list_ids(&self, row: usize, ids: &mut Vec<StateID, A>) -> Result<usize, AllocError>
+        requires { row < length self.now.values }
+        ensures ids { IfOk result (λ listed. HasIds self.now listed ids.new.items) }
+        ensures within { IfOk result (λ listed. listed < length self.now.values) }
+    {
+        ids.clear();
+        let state = &self.states.as_slice()[row];
+        if !state.look_need().is_empty() {
+            return Ok(0);
+        }
+        push_ids(state, ids)?;
+        Ok(row)
+    }
+
+    /// Returns the base of a row, if the row is listed and has one.
     ///
-    /// - `changes` are those of the state of the row.
-    fn entry(&mut self, row: usize, column: usize, changes: &[bool; 256]) -> Result<u32, DfaError>
+    /// - `ids` are the NFA states of the row `listed`.
+    /// - `usual` has the row that is the base if it can be, and the NFA states of that row.
+    fn base<'i>(
+        &self,
+        row: usize,
+        listed: usize,
+        ids: &'i [StateID],
+        usual: &Base<'_>,
+    ) -> Option<Base<'i>>
+        requires ids { HasIds self.now listed ids.now }
+        requires usual { HasIds self.now usual.now.row usual.now.further.now }
+        requires dead { HasIds self.now 0 [] }
+        ensures { IfSome result (λ base. IsBase self.now row base.row base.further.now) }
+    {
+        if listed != row || row == 0 {
+            return None;
+        }
+        if row > usual.row {
+            if let Some(further) = ids.strip_suffix(usual.further) {
+                return Some(Base {
+                    row: usual.row,
+                    further,
+                });
+            }
+        }
+        Some(Base {
+            row: 0,
+            further: ids,
+        })
+    }
+
+    /// Returns the entry of the base of a row in a column, if it is surely that of the row.
+    fn of_base(&self, row: usize, column: usize, base: &Option<Base<'_>>) -> Option<u32>
+        requires row { row < length self.now.values }
+        requires column { column < columns_of self.now.classes }
+        requires base { IfSome base.now
+            (λ base. IsBase self.now row base.row base.further.now) }
+        requires entry { length self.now.next ≡ row * columns_of self.now.classes + column }
+        ensures { IfSome result (λ next. IsNextRow self.now row column next) }
+    {
+        let Some(base) = base else { return None };
+        if !none_gives(self.stepper.nfa(), base.further, self.unit(column)) {
+            return None;
+        }
+        Some(self.next[base.row * self.classes.alphabet_len() + column])
+    }
+
+    /// Returns the entry of a row in a column. Often it is the entry of the base, or that before or
+    /// above.
+    ///
+    /// - `base` is that of the row, and `changes` are those of its state.
+    fn entry(
+        &mut self,
+        row: usize,
+        column: usize,
+        base: &Option<Base<'_>>,
+        changes: &[bool; 256],
+    ) -> Result<u32, DfaError>
         requires row { row < length self.old.values }
+        requires column { column < columns_of self.old.classes }
+        requires base { IfSome base.now
+            (λ base. IsBase self.old row base.row base.further.now) }
         requires changes { HasChanges self.old row changes.now }
         requires entry { length self.old.next ≡ row * columns_of self.old.classes + column }
         ensures at { IfOk result (λ next. IsNextRow self.new row column next) }
@@ -294,6 +422,9 @@ impl<'n, N: Allocator, A: Allocator + Copy> Builder<'n, N, A> {
         ensures many { result ≡ Err TooManyStates
             → HasMoreStates self.old.nfa self.old.kind self.old.limit }
     {
+        if let Some(entry) = self.of_base(row, column, base) {
+            return Ok(entry);
+        }
         if let Some(entry) = self.repeated(row, column, changes) {
             return Ok(entry);
         }
@@ -306,8 +437,16 @@ impl<'n, N: Allocator, A: Allocator + Copy> Builder<'n, N, A> {
     }
 
     /// Adds the entries of a row.
-    fn add_row(&mut self, row: usize) -> Result<(), DfaError>
+    ///
+    /// - `usual` has the row that is mostly the base, and its NFA states. `ids` is scratch.
+    fn add_row(
+        &mut self,
+        row: usize,
+        usual: &Base<'_>,
+        ids: &mut Vec<StateID, A>,
+    ) -> Result<(), DfaError>
         requires row { row < length self.old.values }
+        requires usual { HasIds self.old usual.now.row usual.now.further.now }
         requires whole { length self.old.next ≡ row * columns_of self.old.classes }
         ensures whole { OnOk result
             (length self.new.next ≡ (row + 1) * columns_of self.new.classes) }
@@ -316,25 +455,36 @@ impl<'n, N: Allocator, A: Allocator + Copy> Builder<'n, N, A> {
             → HasMoreStates self.old.nfa self.old.kind self.old.limit }
     {
         let changes = self.changes(row);
+        let listed = self.list_ids(row, ids)?;
+        let base = self.base(row, listed, ids.as_slice(), usual);
         for column in 0..self.classes.alphabet_len() {
-            let entry = self.entry(row, column, &changes)?;
+            let entry = self.entry(row, column, &base, &changes)?;
             self.next.push(entry)?;
         }
         Ok(())
     }
 
     /// Computes the entries of all rows, also of those that are found meanwhile.
-    fn fill(&mut self) -> Result<(), DfaError>
-        requires { self.old.next ≡ [] }
+    ///
+    /// - `usual` is the row that is the base of another if it can be.
+    fn fill(&mut self, alloc: A, usual: usize) -> Result<(), DfaError>
+        requires usual { usual < length self.old.values }
+        requires empty { self.old.next ≡ [] }
         ensures whole { OnOk result
             (length self.new.next ≡ length self.new.values * columns_of self.new.classes) }
         ensures stays { OnOk result (Stays self.old self.new) }
         ensures many { result ≡ Err TooManyStates
             → HasMoreStates self.old.nfa self.old.kind self.old.limit }
     {
+        let (mut ids, mut usual_ids) = (Vec::new(alloc), Vec::new(alloc));
+        let listed = self.list_ids(usual, &mut usual_ids)?;
+        let usual = Base {
+            row: listed,
+            further: usual_ids.as_slice(),
+        };
         let mut row = 0;
         while row < self.states.len() {
-            self.add_row(row)?;
+            self.add_row(row, &usual, &mut ids)?;
             row += 1;
         }
         Ok(())
@@ -352,7 +502,11 @@ impl<'n, N: Allocator, A: Allocator + Copy> Builder<'n, N, A> {
             → HasMoreStates self.old.nfa self.old.kind self.old.limit }
     {
         let starts = self.starts()?;
-        self.fill()?;
+        let usual = StartSlot {
+            is_anchored: false,
+            kind: Start::Text,
+        };
+        self.fill(alloc, starts[usual.as_usize()] as usize)?;
         Ok(self.finish(alloc, starts)?)
     }
 

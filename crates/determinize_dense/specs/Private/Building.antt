@@ -1,5 +1,5 @@
 -- A table that is being built: the values found so far, and the entries of their rows.
-use Rattle.std.specs.Prelude.{◌≡◌, ◌<◌, ◌≤◌, ◌+◌, ◌*◌, ◌/◌, ◌%◌, ℕ, Bool, cond, Option, Some, None}
+use Rattle.std.specs.Prelude.{◌≡◌, ◌<◌, ◌≤◌, ◌+◌, ◌++◌, ◌*◌, ◌/◌, ◌%◌, ℕ, Bool, cond, Option, Some, None}
 use Rattle.std.specs.Prelude.{List, length, nat_lt}
 use Rattle.std.specs.Prelude.{slice_get, slice_index}
 use Rattle.determinize_below.specs.ByteClasses.{AreClasses, AreClassesOf, Classes, first_of}
@@ -47,6 +47,19 @@ IsEntry b e r = IsNextRow b (e / columns_of b.classes) (e % columns_of b.classes
 abbrev pub HasChanges : Building → ℕ → List Bool → Type 0
 HasChanges b row marks = (v : Value) → slice_get b.values row ≡ Some v
     → AreChanges b.nfa v.states marks
+
+-- the value of a row has these NFA states, and they test no assertion
+abbrev pub HasIds : Building → ℕ → List ℕ → Type 0
+HasIds b row ids = (v : Value) → slice_get b.values row ≡ Some v
+    → (v.look_need ≡ 0) × (v.states ≡ ids)
+
+-- the value of a row has the NFA states of that of an earlier row, its base, behind further ones,
+-- and they test no assertion
+pub record IsBase (b : Building) (row base : ℕ) (further : List ℕ) : Type 0 where
+  pub before : base < row
+  pub ids : List ℕ
+  pub of_base : HasIds b base ids
+  pub of_row : HasIds b row (further ++ ids)
 
 -- the values are reached and apart, the first of them is the dead one, and the entries so far are
 -- right

@@ -1,13 +1,14 @@
 use Rattle.determinize_core.proofs.Common.{ap, arith, Err, length, length_push, rules, sym, ◌*◌, ◌+◌, ◌<◌, ◌∙◌, ◌≡◌}
-use Rattle.determinize_dense.proofs.Building.{building-entry, changes-stay, more-before, same_err, stays-more, stays-next}
+use Rattle.determinize_dense.proofs.Building.{base-stays, building-entry, changes-stay, dead-ids, more-before, same_err, stays-more, stays-next}
 use Rattle.determinize_dense.proofs.Common.{columns_of}
 use Rattle.determinize_dense.proofs.build.Builder.add_row.Given.{Over}
 use Rattle.determinize_dense.proofs.build.Builder.add_row.Goals.{In_ok-push}
 use Rattle.determinize_dense.proofs.build.Builder.add_row.Goals as goal
+use Rattle.std.proofs.lemmas.Option.{IfSome_then}
 
 pub returns-in_err-entry-clause-many : goal.returns-in_err-entry-clause-many
 returns-in_err-entry-clause-many g c = λ same.
-    let e : c.from_residual.result ≡ Err c.in_err-entry.field-0.0 = search rules in
+    let e : c.from_residual-in_err-entry.result ≡ Err c.in_err-entry.field-0.0 = search rules in
     more-before c.loop-column.invariant.stays (c.in_err-entry.ensures.many (ap Err (same_err (sym e ∙ same))))
 
 -- where the next entry is
@@ -35,10 +36,14 @@ loop-column-preserved g c =
     let room : c.args.row < length c.loop-column.self.values = omega (arith, c.requires.row, longer) in
     let more : length c.push.new.self.items ≡ length c.self-in-loop-column.inside.next.items + 1 =
     rw c.in_ok-push.ensures.items (length_push c.self-in-loop-column.inside.next.items c.in_ok-entry.entry) in
+    let over = stays-next c.push.new.self.items (rw (← c.self-in-loop-column.view_is) at c.in_ok-entry.ensures.stays) in
     record {
-      stays = stays-next c.push.new.self.items (rw (← c.self-in-loop-column.view_is)
-          at (stays-more c.loop-column.invariant.stays c.in_ok-entry.ensures.stays));
+      stays = stays-more c.loop-column.invariant.stays over;
       count = omega (arith, more, count g (goal.at.loop-column-preserved g c).In_ok-push);
-      changes = rw (← c.self-in-loop-column.view_is)
-          at (changes-stay _ c.in_ok-entry.ensures.stays room c.loop-column.invariant.changes);
+      base = IfSome_then c.base-base.result c.loop-column.invariant.base
+          (λ base is. base-stays base.further.now over room is);
+      changes = changes-stay _ over room c.loop-column.invariant.changes;
     }
+
+pub base-base-requires-clause-dead : goal.base-base-requires-clause-dead
+base-base-requires-clause-dead g c = rw (← c.self.view_is) (dead-ids c.self.invariant)

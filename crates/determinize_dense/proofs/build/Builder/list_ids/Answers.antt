@@ -1,0 +1,13 @@
+use Rattle.determinize_core.proofs.Common.{arith, slice_get, Some, sym, ◌∙◌, ◌≡◌}
+use Rattle.determinize_dense.proofs.Building.{read-at}
+use Rattle.determinize_dense.proofs.build.Builder.list_ids.Goals as goal
+use Rattle.determinize_engine.proofs.Places.{of_some}
+
+pub returns-clause-ids : goal.returns-clause-ids
+returns-clause-ids g c = λ v got.
+    let here : slice_get c.self.inside.states c.args.row ≡ Some c.index-as_slice-row.result =
+    read-at (rw (← c.self.view_is) at c.requires) c.as_slice.ensures c.index-as_slice-row.is in
+    let same : c.index-as_slice-row.result ≡ v = of_some (sym here ∙ (rw (← c.self.view_is) at got)) in
+    let ids : c.push_ids.new.ids.items ≡ c.index-as_slice-row.result.states =
+    rw c.clear.ensures.items at c.in_ok-push_ids.ensures in
+    rw (← same) (grind (arith, c.if-not-is_empty.false, c.is_empty.ensures.value, c.look_need.ensures), sym ids)

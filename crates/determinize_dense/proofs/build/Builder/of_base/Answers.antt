@@ -1,0 +1,36 @@
+use Rattle.determinize_below.specs.Unit.{byte_of}
+use Rattle.determinize_core.proofs.Common.{arith, length, refl, ◌*◌, ◌+◌, ◌<◌, ◌≡◌}
+use Rattle.determinize_dense.proofs.Building.{next_row-base, read-at}
+use Rattle.determinize_dense.proofs.Common.{columns_of, IsBase, unit_at}
+use Rattle.determinize_dense.proofs.build.Builder.of_base.Given.{Over}
+use Rattle.determinize_dense.proofs.build.Builder.of_base.Goals.{After-alphabet_len}
+use Rattle.determinize_dense.proofs.build.Builder.of_base.Goals as goal
+use Rattle.std.proofs.Math.Nat.{mul_comm}
+use Rattle.std.proofs.lemmas.Nat.{mul-add-lt}
+
+is-base : (g : Over) (c : After-alphabet_len g)
+    → IsBase c.args.self.now c.args.row c.in-Some.base.row c.in-Some.base.further.now
+is-base g c = rw c.in-Some.is at c.requires.base
+
+entry-at : (g : Over) (c : After-alphabet_len g)
+    → c.in-Some.base.row * columns_of c.self.inside.classes + c.args.column < length c.self.inside.next.items
+entry-at g c =
+    let below = mul-add-lt c.in-Some.base.row (columns_of c.self.inside.classes) c.args.column c.args.row
+    (is-base g c).before (rw (← c.self.view_is) at c.requires.column) in
+    let count : length c.self.inside.next.items ≡ c.args.row * columns_of c.self.inside.classes + c.args.column =
+    rw (← c.self.view_is) at c.requires.entry in
+    omega (arith, below, count, mul_comm (columns_of c.self.inside.classes) c.args.row)
+
+pub index-requires : goal.index-requires
+index-requires g c = rw c.alphabet_len.ensures.count (grind (arith, entry-at g c))
+
+pub returns : goal.returns
+returns g c =
+    let d = (goal.at.returns g c).After-alphabet_len in
+    let unit : byte_of c.unit.result ≡ unit_at c.self.inside.classes c.args.column =
+    rw (← c.self.view_is) at c.unit.ensures in
+    rw (← c.self.view_is) (next_row-base _ c.self.invariant c.args.row c.in-Some.base.row c.args.column
+    c.index.result.now c.in-Some.base.further.now (rw (← c.self.view_is) at c.requires.row)
+    (rw (← c.self.view_is) at (is-base g d)) (rw (← c.self.view_is) at c.requires.column)
+    (read-at (entry-at g d) refl (rw c.alphabet_len.ensures.count at c.index.ensures))
+    (rw (← c.nfa.ensures, ← unit) (c.none_gives.ensures c.if-not-none_gives.false)))
