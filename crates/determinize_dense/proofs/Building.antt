@@ -251,13 +251,17 @@ pub read-at : {K : Type 0} {xs ys : List K} {i : ℕ} {x : K} → i < length xs 
     → slice_get xs i ≡ Some x
 read-at {K} {xs} {ys} {i} {x} inside same is = slice_get_read xs (length xs) i x refl inside (rw same at is)
 
+-- the value of a row before is the one after
+value-before : {a b : Building} {row : ℕ} {v : Value} → Stays a b → row < length a.values
+    → slice_get b.values row ≡ Some v → slice_get a.values row ≡ Some v
+value-before {a} {b} {row} {v} s inside at =
+    let here : slice_get a.values row ≡ Some (get_or a.values row v) = slice_get-get_or a.values row v inside in
+    let same : get_or a.values row v ≡ v = of_some (sym (s.values row _ here) ∙ at) in here ∙ ap Some same
+
 -- the marks of a row stay
 pub changes-stay : {a b : Building} {row : ℕ} (marks : List Bool) → Stays a b → row < length a.values
     → HasChanges a row marks → HasChanges b row marks
-changes-stay {a} {b} {row} marks s inside has v at =
-    let here : slice_get a.values row ≡ Some (get_or a.values row v) = slice_get-get_or a.values row v inside in
-    let same : get_or a.values row v ≡ v = of_some (sym (s.values row _ here) ∙ at) in
-    rw s.nfa (has v (here ∙ ap Some same))
+changes-stay marks s inside has v at = rw s.nfa (has v (value-before s inside at))
 
 -- the dead value has no NFA states
 pub dead-ids : {b : Building} → IsBuilding b → HasIds b 0 []
@@ -266,10 +270,7 @@ dead-ids is v at = rw (← of_some (sym is.first ∙ at)) (refl, refl)
 -- the NFA states of a row stay
 pub ids-stay : {a b : Building} {row : ℕ} (ids : List ℕ) → Stays a b → row < length a.values → HasIds a row ids
     → HasIds b row ids
-ids-stay {a} {b} {row} ids s inside has v at =
-    let here : slice_get a.values row ≡ Some (get_or a.values row v) = slice_get-get_or a.values row v inside in
-    let same : get_or a.values row v ≡ v = of_some (sym (s.values row _ here) ∙ at) in
-    has v (here ∙ ap Some same)
+ids-stay ids s inside has v at = has v (value-before s inside at)
 
 -- the base of a row stays
 pub base-stays : {a b : Building} {row base : ℕ} (further : List ℕ) → Stays a b → row < length a.values

@@ -1,6 +1,6 @@
 -- States that give nothing on a unit, no pattern and no target, do not change a step.
--- Main statements: step_same.
--- Used by: Building.
+-- Main statements: step_same, idle-push.
+-- Used by: Building, `none_gives`.
 -- Idea: what is read of a list is what is read of it without them.
 use Rattle.determinize_core.proofs.Common.{[], All, arith, before, distinct, is_match, LeftmostFirst, List}
 use Rattle.determinize_core.proofs.Common.{MatchKind, Nfa, none_held, Option}
