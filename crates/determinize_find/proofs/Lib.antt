@@ -1,3 +1,4 @@
+pub mod Common
 pub mod idling
 pub mod leftmost
 pub mod matches

@@ -206,6 +206,7 @@ impl<F: Engine, B: Engine<Error = F::Error>> Regex<F, B> {
         requires { IsEndOf self.old.nfa haystack.now start end }
         ensures start { IfOk result
             (λ begin. IsBeginOf self.old.nfa haystack.now start end begin) }
+        ensures inside { IfOk result (λ begin. (start ≤ begin) × (begin ≤ end)) }
         ensures same { self.new ≡ self.old }
     {
         match self.search_start(haystack, start, end)? {

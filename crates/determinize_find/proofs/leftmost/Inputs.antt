@@ -1,32 +1,60 @@
--- What a search of an input finds, as a match of the text of its range.
--- Main statements: found_in_text.
--- Used by: both ways to the leftmost match.
--- Idea: the match in the text and the same match in the haystack are in one record.
-use Rattle.std.specs.Option.{IfNone, IfSome}
-use Rattle.std.specs.Prelude.{option_map}
-use Rattle.std.proofs.Common.{◌≡◌, None, Option, Some, ap, refl}
-use Rattle.determinize_below.specs.Semantics.{Nfa}
-use Rattle.determinize_below.specs.Search.{Asked}
-use Rattle.determinize_below.specs.declared.search.HalfMatch.{HalfMatch}
-use Rattle.determinize_core.specs.LastMatch.{IsPreferredMatch}
-use Rattle.determinize_engine.specs.Searches.{HasMatch, IsPreferredIn, in_haystack, start_for, text_of}
+-- The leftmost match of an input, as one of the text of its range.
+-- Main statements: in_text, none_in_text, leftmost_in, found_past.
+-- Used by: all that follows of the leftmost match of an input, or shows what it is.
+-- Idea: where the range does not start past its end, the match of the text and the same match in the haystack are in one
+-- record.
+use Rattle.determinize_find.proofs.Common.{ap, Asked, by_cases, cases_lt, false, IsLeftmost, IsLeftmostIn}
+use Rattle.determinize_find.proofs.Common.{IsLeftmostMatch, latest, le-ltb, lt-ltb, Match, moved, Nfa, None, Option}
+use Rattle.determinize_find.proofs.Common.{option_map, refl, Some, sym, text_of, true≢false, ◌+◌, ◌<◌, ◌∙◌, ◌≡◌, ◌≤◌}
 
--- the preferred match of the text of an input, and the same in the haystack
-pub record IsFoundIn (nfa : Nfa) (asked : Asked) (answer : Option HalfMatch) : Type 0 where
-  pub found : Option HalfMatch
-  pub preferred : IsPreferredMatch nfa (start_for nfa asked.anchored) (text_of nfa.reverse asked) found
-  pub is : answer ≡ option_map (in_haystack nfa.reverse asked) found
+-- the match of the text that is this match of the haystack
+pub record IsInText (nfa : Nfa) (asked : Asked) (m : Match) : Type 0 where
+  pub order : asked.start ≤ asked.end
+  pub match : Match
+  pub early : match.start ≤ latest nfa asked
+  pub leftmost : IsLeftmostMatch nfa (text_of false asked) match
+  pub start : m.start ≡ asked.start + match.start
+  pub end : m.end ≡ asked.start + match.end
 
-pub found_in_text : (nfa : Nfa) (asked : Asked) (answer : Option HalfMatch)
-    → IfSome answer (λ m. IsPreferredIn nfa asked m) → IfNone answer (HasMatch nfa asked → ⊥)
-    → IsFoundIn nfa asked answer
-found_in_text nfa asked None p n = record {
-  found = None;
-  preferred = λ cs i pattern acc. n (cs, i, pattern, acc);
-  is = refl;
+pub in_text : {nfa : Nfa} {asked : Asked} {m : Match} → IsLeftmostIn nfa asked (Some m) → IsInText nfa asked m
+in_text {nfa} {asked} {m} h = by_cases (cases_lt asked.end asked.start)
+    (λ l. let none : Some m ≡ None = h.done (lt-ltb _ _ l) in cc)
+    (λ l. go l (h.found (le-ltb _ _ l)))
+  where
+    go : asked.start ≤ asked.end → ((o : Option Match) × IsLeftmost nfa (text_of false asked) (latest nfa asked) o
+        × (Some m ≡ option_map (moved asked.start) o)) → IsInText nfa asked m
+    go l (None, is, e) = cc
+    go l (Some n, is, e) =
+        let same : m ≡ moved asked.start n = cc in record {
+          order = l;
+          match = n;
+          early = is.0;
+          leftmost = is.1;
+          start = ap (λ (w : Match). w.start) same;
+          end = ap (λ (w : Match). w.end) same;
+        }
+
+-- without a match the text has none
+pub none_in_text : {nfa : Nfa} {asked : Asked} → IsLeftmostIn nfa asked None → asked.start ≤ asked.end
+    → IsLeftmost nfa (text_of false asked) (latest nfa asked) None
+none_in_text {nfa} {asked} h l = go (h.found (le-ltb _ _ l))
+  where
+    go : ((o : Option Match) × IsLeftmost nfa (text_of false asked) (latest nfa asked) o
+        × (None ≡ option_map (moved asked.start) o)) → IsLeftmost nfa (text_of false asked) (latest nfa asked) None
+    go (None, is, e) = is
+    go (Some n, is, e) = cc
+
+-- the leftmost match of the text is that of the input
+pub leftmost_in : (nfa : Nfa) (asked : Asked) (o : Option Match) → asked.start ≤ asked.end
+    → IsLeftmost nfa (text_of false asked) (latest nfa asked) o → IsLeftmostIn nfa asked (option_map (moved asked.start) o)
+leftmost_in nfa asked o l is = record {
+  done = λ d. absurd (true≢false (sym d ∙ le-ltb _ _ l));
+  found = λ d. (o, is, refl);
 }
-found_in_text nfa asked (Some h) p n = record {
-  found = Some record { pattern = h.pattern; offset = p.1 };
-  preferred = (p.0, p.3);
-  is = ap Some (λ i. record { pattern = h.pattern; offset = p.2 i });
+
+-- and a range that starts past its end has none
+pub found_past : (nfa : Nfa) (asked : Asked) → asked.end < asked.start → IsLeftmostIn nfa asked None
+found_past nfa asked l = record {
+  done = λ d. refl;
+  found = λ d. absurd (true≢false (sym (lt-ltb _ _ l) ∙ d));
 }

@@ -1,27 +1,14 @@
 -- Each input has a leftmost match or none, and a list of all of its matches.
 -- Main statements: each_input_has_matches.
--- Used by: `laws::matches_law`.
+-- Used by: `laws::matches_law`, and StreamsOfPatterns of `determinize_regex`.
 -- Idea: the walk from the anchored start at each position in turn gives the match that begins there, or says that there
 -- is none; and each match leaves fewer indices.
-use Rattle.std.specs.Prelude.{option_map}
-use Rattle.std.proofs.Common.{◌≡◌, ◌+◌, ◌≤◌, ◌∙◌, ℕ, false, List, None, Option, Some, [], ◌∷◌, arith, length, refl, subst, suc, sym, zero}
-use Rattle.std.proofs.lemmas.Bool.{true≢false}
-use Rattle.determinize_below.specs.Nfa.{IsAccepted}
-use Rattle.determinize_below.specs.Semantics.{Nfa, Text}
-use Rattle.determinize_below.specs.Search.{Asked, is_done}
-use Rattle.determinize_below.specs.declared.search.Match.{Match}
-use Rattle.determinize_below.specs.declared.search.MatchKind.TheVariants.{LeftmostFirst}
-use Rattle.ordered_reach.proofs.Cases.{by_test, some_injective}
-use Rattle.determinize_core.specs.Chain.{chain}
-use Rattle.determinize_core.specs.LastMatch.{last_match}
-use Rattle.determinize_engine.specs.Searches.{text_of}
-use Rattle.determinize_engine.proofs.SearchMatches.{preferred}
-use Rattle.determinize_nfa.specs.Leftmost.{IsLeftmost}
-use Rattle.determinize_nfa.specs.Runs.{since}
-use Rattle.determinize_find.specs.Laws.{EachInputHasMatches}
-use Rattle.determinize_find.specs.LeftmostIn.{IsLeftmostIn, latest, moved}
-use Rattle.determinize_find.specs.Matches.{AreMatches, IsNext, from, is_touching}
-use Rattle.determinize_find.specs.Private.Left.{left}
+use Rattle.determinize_find.proofs.Common.{AreMatches, arith, Asked, before, by_cases, by_test, cases_lt, chain}
+use Rattle.determinize_find.proofs.Common.{EachInputHasMatches, false, from, is_touching, IsAccepted, IsLeftmost}
+use Rattle.determinize_find.proofs.Common.{IsLeftmostIn, IsNext, last_match, latest, left, LeftmostFirst, length, List}
+use Rattle.determinize_find.proofs.Common.{Match, moved, Nfa, None, Option, option_map, preferred, refl, since, Some}
+use Rattle.determinize_find.proofs.Common.{suc, Text, text_of, zero, [], ℕ, ◌+◌, ◌<◌, ◌∷◌, ◌≡◌, ◌≤◌}
+use Rattle.determinize_find.proofs.leftmost.Inputs.{found_past, leftmost_in}
 use Rattle.determinize_find.proofs.leftmost.PreferredRun.{each_anchored_is_leftmost}
 use Rattle.determinize_find.proofs.matches.NextMatch.{fewer, next_further, next_plain}
 use Rattle.determinize_find.proofs.streams.Rests.{leftmost_since}
@@ -38,61 +25,47 @@ module _ (nfa : Nfa) (accepted : IsAccepted nfa) where
   -- the leftmost match that begins at a position or before
   leftmost : (last : ℕ) (text : Text) → (o : Option Match) × IsLeftmost nfa text last o
   leftmost zero text = first text
-  leftmost (suc last) text = let h = first text in go h.0 h.1 (leftmost last (since text 1))
+  leftmost (suc last) text = go (first text) (leftmost last (since text 1))
     where
-      go : (o : Option Match) → IsLeftmost nfa text 0 o
-          → ((p : Option Match) × IsLeftmost nfa (since text 1) last p)
+      go : ((o : Option Match) × IsLeftmost nfa text 0 o) → ((p : Option Match) × IsLeftmost nfa (since text 1) last p)
           → (p : Option Match) × IsLeftmost nfa text (suc last) p
-      go None h r =
-          let z : 1 + last ≡ suc last = omega arith in (
-            option_map (moved 1) r.0,
-            subst (λ n. IsLeftmost nfa text n (option_map (moved 1) r.0)) z
-                (leftmost_since nfa text 1 last r.0 (λ k l. h k (omega arith)) r.1),
-          )
-      go (Some m) h r = (Some m, (let l : m.start ≤ 0 = h.0 in let k : m.start ≤ suc last = omega arith in k, h.1))
+      go (None, h) (p, r) =
+          let z : 1 + last ≡ suc last = omega arith in
+          (option_map (moved 1) p, rw z at (leftmost_since nfa text 1 last p (λ k l. h k (omega arith)) r))
+      go (Some m, h) r = (Some m, (omega (arith, h.0), h.1))
 
-  leftmost_in : (asked : Asked) → (o : Option Match) × IsLeftmostIn nfa asked o
-  leftmost_in asked = by_test (is_done asked)
-      (λ d. (None, record { done = λ e. refl; found = λ e. absurd (true≢false (sym d ∙ e)) }))
-      (λ d. let r = leftmost (latest nfa asked) (text_of false asked) in (
-        option_map (moved asked.start) r.0,
-        record { done = λ e. absurd (true≢false (sym e ∙ d)); found = λ e. (r.0, r.1, refl) },
-      ))
+  leftmost_of : (asked : Asked) → (o : Option Match) × IsLeftmostIn nfa asked o
+  leftmost_of asked = by_cases (cases_lt asked.end asked.start)
+      (λ l. (None, found_past nfa asked l))
+      (λ l. let r = leftmost (latest nfa asked) (text_of false asked) in
+      (option_map (moved asked.start) r.0, leftmost_in nfa asked r.0 l r.1))
 
   next : (asked : Asked) (before : Option ℕ) → (found : Option Match) × IsNext nfa asked before found
   next asked before =
-      let one = leftmost_in asked in
+      let one = leftmost_of asked in
       by_test (is_touching before one.0)
-      (λ t. let further = leftmost_in (from asked (asked.start + 1)) in (
-        further.0,
-        next_further nfa nfa asked (from asked (asked.start + 1)) before one.0 further.0 refl refl one.1 t further.1,
-      ))
+      (λ t. let further = leftmost_of (from asked (asked.start + 1)) in
+      (further.0, next_further nfa nfa asked _ before one.0 further.0 refl refl one.1 t further.1))
       (λ t. (one.0, next_plain nfa asked before one.0 one.1 t))
 
-  -- all matches, of which there are at most n
+  -- all matches, of which there are fewer than n
   abbrev Has : ℕ → Type 0
-  Has n = (asked : Asked) (before : Option ℕ) → left asked.end asked.start before ≤ n
+  Has n = (asked : Asked) (before : Option ℕ) → left asked.end asked.start before < n
       → asked.end ≤ length asked.haystack → ((last : ℕ) → before ≡ Some last → last ≡ asked.start)
       → (ms : List Match) × AreMatches nfa asked before ms
 
   matches : (n : ℕ) → Has n
-  matches zero asked before few inside starts = let h = next asked before in go h.0 h.1
+  matches zero asked before few inside starts = absurd (omega arith)
+  matches (suc n) asked before few inside starts = go (next asked before) (matches n)
     where
-      go : (found : Option Match) → IsNext nfa asked before found → (ms : List Match) × AreMatches nfa asked before ms
-      go None h = ([], h)
-      go (Some m) h =
-          let f = fewer nfa nfa asked asked asked.start before m refl refl inside starts h in absurd (omega (arith, f.0))
-  matches (suc n) asked before few inside starts = let h = next asked before in go h.0 h.1 (matches n)
-    where
-      go : (found : Option Match) → IsNext nfa asked before found → Has n
+      go : ((found : Option Match) × IsNext nfa asked before found) → Has n
           → (ms : List Match) × AreMatches nfa asked before ms
-      go None h rest = ([], h)
-      go (Some m) h rest =
-          let f = fewer nfa nfa asked asked asked.start before m refl refl inside starts h in
-          let r = rest (from asked m.end) (Some m.end) (omega (arith, f.0)) inside
-          (λ last e. sym (some_injective m.end last e)) in
+      go (None, h) rest = ([], h)
+      go (Some m, h) rest =
+          let less = (fewer nfa nfa asked asked asked.start before m refl refl inside starts h).0 in
+          let r = rest (from asked m.end) (Some m.end) (omega arith) inside (λ last e. cc) in
           (m ∷ r.0, (h, r.1))
 
 pub each_input_has_matches : EachInputHasMatches
 each_input_has_matches nfa accepted asked before inside starts =
-    matches nfa accepted (left asked.end asked.start before) asked before (omega arith) inside starts
+    matches nfa accepted (suc (left asked.end asked.start before)) asked before (omega arith) inside starts

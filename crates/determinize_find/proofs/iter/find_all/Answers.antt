@@ -1,6 +1,5 @@
-use Rattle.std.proofs.Common.{rules, ◌≡◌, ◌<◌, ◌≤◌, ◌++◌, ◌∙◌, ◌∷◌, None, Some, [], ap, arith, length}
-use Rattle.determinize_find.specs.Private.Left.{left}
-use Rattle.determinize_find.proofs.matches.NextMatch.{IsAfter, after_all, after_none, after_one}
+use Rattle.determinize_find.proofs.Common.{ap, arith, None, rules, [], ◌++◌, ◌∙◌, ◌∷◌, ◌≡◌}
+use Rattle.determinize_find.proofs.matches.NextMatch.{after_all, after_none, after_one, IsOneMore}
 use Rattle.determinize_find.proofs.iter.find_all.Given.{Over}
 use Rattle.determinize_find.proofs.iter.find_all.Goals.{In-Some}
 use Rattle.determinize_find.proofs.iter.find_all.Goals as goal
@@ -9,21 +8,15 @@ pub loop-all-init : goal.loop-all-init
 loop-all-init g c = record {
   same = search rules;
   after = after_none _ c.args.input.now None c.new-searcher.result c.new-all.result.items (search rules) (search rules)
-      (λ end e. absurd (let z : None ≡ Some end = e in cc));
+      (λ end e. cc);
 }
 
 -- the cursor is behind one more match, and fewer indices are left
-after_next : (g : Over) (c : In-Some g)
-    → IsAfter (g.F.Finder.nfa c.args.finder.now) c.args.input.now None c.advance_with_alloc_error.new.self
-    (c.loop-all.all.items ++ c.in-Some.found ∷ [])
-    × (left c.args.input.now.end c.advance_with_alloc_error.new.self.asked.start
-    c.advance_with_alloc_error.new.self.before
-    < left c.args.input.now.end c.loop-all.searcher.asked.start c.loop-all.searcher.before)
-after_next g c =
-    let inside : c.args.input.now.end ≤ length c.args.input.now.haystack
-    = omega (arith, c.end.ensures.value, c.end.ensures.in_haystack) in
-    after_one _ _ c.args.input.now c.loop-all.searcher c.advance_with_alloc_error.new.self c.loop-all.all.items
-    c.in-Some.found (ap g.F.Finder.nfa c.loop-all.invariant.same) inside c.loop-all.invariant.after
+after_next : (g : Over) (c : In-Some g) → IsOneMore (g.F.Finder.nfa c.args.finder.now) c.args.input.now None
+    c.loop-all.searcher c.advance_with_alloc_error.new.self c.loop-all.all.items c.in-Some.found
+after_next g c = after_one _ _ c.args.input.now c.loop-all.searcher c.advance_with_alloc_error.new.self
+    c.loop-all.all.items c.in-Some.found (ap g.F.Finder.nfa c.loop-all.invariant.same)
+    (omega (arith, c.end.ensures.value, c.end.ensures.in_haystack)) c.loop-all.invariant.after
     (rw c.in-Some.is at c.in_ok-found.ensures.next) (rw c.in-Some.is at c.in_ok-found.ensures.after)
 
 pub loop-all-smaller : goal.loop-all-smaller

@@ -1,5 +1,4 @@
-use Rattle.std.proofs.Common.{◌≡◌, None}
-use Rattle.determinize_find.specs.Private.Left.{left}
+use Rattle.determinize_find.proofs.Common.{left, None, ◌≡◌}
 use Rattle.determinize_find.proofs.matches.NextMatch.{IsAfter}
 use Rattle.determinize_find.proofs.iter.find_all.Given as goal
 

@@ -1,4 +1,4 @@
-use Rattle.std.proofs.Common.{◌≡◌, ◌≤◌, ◌∙◌, ap, arith, length, sym}
+use Rattle.determinize_find.proofs.Common.{ap, arith, length, sym, ◌∙◌, ◌≡◌, ◌≤◌}
 use Rattle.determinize_find.proofs.matches.NextMatch.{touched_within}
 use Rattle.determinize_find.proofs.iter.further.Goals as goal
 

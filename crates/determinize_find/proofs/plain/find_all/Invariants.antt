@@ -1,6 +1,5 @@
-use Rattle.std.proofs.Common.{◌≡◌, ◌≤◌, ◌+◌, ℕ, None, Some}
-use Rattle.determinize_find.specs.Private.Left.{left}
-use Rattle.determinize_find.proofs.matches.NextMatch.{AreFirst}
+use Rattle.determinize_find.proofs.Common.{from, left, None, ◌+◌, ◌≡◌, ◌≤◌}
+use Rattle.determinize_find.proofs.matches.NextMatch.{IsAfter}
 use Rattle.determinize_find.proofs.plain.find_all.Given as goal
 
 abbrev pub invariant-loop-found : goal.invariant-loop-found
@@ -9,8 +8,7 @@ invariant-loop-found g l = record {
   kind : l.lazy.kind ≡ l.fn.lazy.kind;
   limit : l.lazy.limit ≡ l.fn.lazy.limit;
   near : l.start ≤ l.input.end + 1;
-  last : (e : ℕ) → l.before ≡ Some e → e ≡ l.start;
-  first : AreFirst l.fn.lazy.nfa l.input None l.start l.before l.found.items;
+  after : IsAfter l.fn.lazy.nfa l.input None record { asked = from l.input l.start; before = l.before } l.found.items;
 }
 
 abbrev pub decreases-loop-found : goal.decreases-loop-found

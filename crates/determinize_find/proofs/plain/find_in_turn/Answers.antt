@@ -1,7 +1,5 @@
-use Rattle.std.proofs.Common.{rules, ◌≡◌, ◌<◌, ◌≤◌, Some, None, ap, arith}
-use Rattle.std.proofs.lemmas.Result.{IfOk-weaker}
-use Rattle.determinize_engine.specs.Engines.{EngineValue}
-use Rattle.determinize_find.proofs.leftmost.SearchInTurn.{IsLatest, found_here, found_last, latest_is, more_nothing}
+use Rattle.determinize_find.proofs.Common.{ap, arith, IfOk-weaker, None, rules, Some, ◌≡◌}
+use Rattle.determinize_find.proofs.leftmost.SearchInTurn.{found_here, found_last, IsLatest, latest_is, more_nothing}
 use Rattle.determinize_find.proofs.plain.find_in_turn.Given.{Over}
 use Rattle.determinize_find.proofs.plain.find_in_turn.Goals.{After-latest_start-latest}
 use Rattle.determinize_find.proofs.plain.find_in_turn.Goals as goal
@@ -9,37 +7,31 @@ use Rattle.determinize_find.proofs.plain.find_in_turn.Goals as goal
 -- no match begins behind this index
 latest : (g : Over) (c : After-latest_start-latest g)
     → IsLatest (g.E.Engine.engine c.args.engine.now).nfa c.args.input.now c.latest_start-latest.result
-latest g c =
-    let order : c.args.input.now.start ≤ c.args.input.now.end
-    = omega (arith, c.if-start-end.false, c.start-start.ensures.value, c.end-end.ensures.value) in
-    latest_is _ c.args.input.now c.latest_start-latest.result c.args.nfa.now order c.requires.nfa
+latest g c = latest_is _ c.args.input.now c.latest_start-latest.result c.args.nfa.now
+    (omega (arith, c.if-start-end.false, c.start-start.ensures.value, c.end-end.ensures.value)) c.requires.nfa
     c.latest_start-latest.ensures
 
 pub returns-in-Some-clause-leftmost : goal.returns-in-Some-clause-leftmost
 returns-in-Some-clause-leftmost g c =
-    let last = latest g (goal.at.returns-in-Some-clause-leftmost g c).After-latest_start-latest in
-    let low : c.args.input.now.start ≤ c.loop-at.at = omega (arith, c.start-start.ensures.value) in
-    let high : c.loop-at.at < c.latest_start-latest.result = omega arith in
     let is : c.in_ok-found.field-0 ≡ Some c.in-Some.found = search rules in
     found_here _ _ c.args.input.now c.loop-at.at c.latest_start-latest.result c.in-Some.found
-    (ap (λ (v : EngineValue). v.nfa) c.loop-at.invariant.same) last low high c.loop-at.invariant.nothing
+    (ap (λ v. v.nfa) c.loop-at.invariant.same) (latest g (goal.at.returns-in-Some-clause-leftmost g c).After-latest_start-latest)
+    (omega (arith, c.start-start.ensures.value)) (omega arith) c.loop-at.invariant.nothing
     (rw is at c.in_ok-found.ensures.best)
 
 pub loop-at-preserved : goal.loop-at-preserved
 loop-at-preserved g c =
-    let same = ap (λ (v : EngineValue). v.nfa) c.loop-at.invariant.same in
-    let low : c.args.input.now.start ≤ c.loop-at.at = omega (arith, c.start-start.ensures.value) in
     let is : c.in_ok-found.field-0 ≡ None = search rules in record {
       same = search rules;
-      nothing = more_nothing _ _ c.args.input.now c.loop-at.at same
-          low c.loop-at.invariant.nothing (rw is at c.in_ok-found.ensures.best);
+      nothing = more_nothing _ _ c.args.input.now c.loop-at.at (ap (λ v. v.nfa) c.loop-at.invariant.same)
+          (omega (arith, c.start-start.ensures.value)) c.loop-at.invariant.nothing
+          (rw is at c.in_ok-found.ensures.best);
     }
 
 pub returns-clause-leftmost : goal.returns-clause-leftmost
 returns-clause-leftmost g c =
     let last = latest g (goal.at.returns-clause-leftmost g c).After-latest_start-latest in
-    let past : c.latest_start-latest.result ≤ c.loop-at.at = omega arith in
     IfOk-weaker c.find_at-2.result _ _
     (λ found best. found_last _ _ c.args.input.now c.loop-at.at c.latest_start-latest.result found
-    (ap (λ (v : EngineValue). v.nfa) c.loop-at.invariant.same) last past c.loop-at.invariant.nothing best)
+    (ap (λ v. v.nfa) c.loop-at.invariant.same) last (omega arith) c.loop-at.invariant.nothing best)
     c.find_at-2.ensures.best

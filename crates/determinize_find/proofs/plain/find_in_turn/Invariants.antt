@@ -1,4 +1,4 @@
-use Rattle.std.proofs.Common.{◌≡◌}
+use Rattle.determinize_find.proofs.Common.{◌≡◌}
 use Rattle.determinize_find.proofs.leftmost.SearchInTurn.{NothingBefore}
 use Rattle.determinize_find.proofs.plain.find_in_turn.Given as goal
 

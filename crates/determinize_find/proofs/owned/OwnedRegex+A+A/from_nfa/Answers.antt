@@ -1,6 +1,5 @@
-use Rattle.std.proofs.Common.{ap, length, rules, sym, ◌∙◌, ◌≡◌}
+use Rattle.determinize_find.proofs.Common.{ap, is_match_node, length, rules, sym, ◌∙◌, ◌≡◌}
 use Rattle.std.proofs.lemmas.List.Sums.{length-filter}
-use Rattle.determinize_below.specs.Edges.{is_match_node}
 use Rattle.determinize_find.proofs.owned.OwnedRegex+A+A.from_nfa.Goals as goal
 
 pub returns-clause-pattern : goal.returns-clause-pattern

@@ -1,16 +1,7 @@
-use Rattle.std.proofs.Common.{rules, ◌+◌, ◌<◌, ◌≡◌, ◌≤◌, ◌∙◌, None, Option, ap, arith, drop, length, subst, sym, ℕ}
-use Rattle.std.proofs.lemmas.Bool.{false≢true}
-use Rattle.std.specs.Option.{IfSome}
-use Rattle.std.specs.Prelude.{IsSome}
-use Rattle.determinize_below.specs.Semantics.{Nfa}
-use Rattle.determinize_start.specs.StartKinds.{byte_before}
-use Rattle.determinize_find.specs.Certain.{certain_match}
-use Rattle.determinize_find.specs.Private.Begins.{IsBeginOf}
-use Rattle.determinize_find.specs.Private.Windows.{IsCertain}
-use Rattle.determinize_find.specs.Regexes.{RegexValue}
-use Rattle.determinize_find.specs.Streams.{IsEndScan}
+use Rattle.determinize_find.proofs.Common.{arith, byte_before, drop, false≢true, IsCertain, IsEndScan, length, None}
+use Rattle.determinize_find.proofs.Common.{rules, sym, ◌+◌, ◌∙◌, ◌≡◌, ◌≤◌}
 use Rattle.determinize_find.proofs.leftmost.TwoSearches.{all_bytes}
-use Rattle.determinize_find.proofs.streams.Certain.{HasCertain, certain_is, is_ended}
+use Rattle.determinize_find.proofs.streams.Certain.{certain_is, HasCertain, is_ended}
 use Rattle.determinize_find.proofs.regex.Regex+Lazy+N+A+B.certain.Given.{Over}
 use Rattle.determinize_find.proofs.regex.Regex+Lazy+N+A+B.certain.Goals.{In-Some, In-Some-2}
 use Rattle.determinize_find.proofs.regex.Regex+Lazy+N+A+B.certain.Goals as goal
@@ -23,15 +14,13 @@ has g c scan = record {
   within = c.requires.within;
   small = all_bytes c.args.haystack.now c.type_inv.haystack;
   scan = scan;
-  certain = ap (λ (n : Nfa). certain_match n c.args.scan.now)
-      (sym (c.nfa.ensures.value ∙ ap (λ (v : RegexValue). v.nfa) c.self.view_is))
-      ∙ sym c.certain_match.ensures.value ∙ c.in-Some.is;
+  certain = rw (← c.self.view_is, ← c.nfa.ensures.value) (sym c.certain_match.ensures.value ∙ c.in-Some.is);
 }
 
 pub returns-in_default-2-clause-unsettled : goal.returns-in_default-2-clause-unsettled
 returns-in_default-2-clause-unsettled g c scan =
     let none : c.in_ok-begin.field-0 ≡ None = search rules in
-    absurd (false≢true (subst (λ (o : Option ℕ). IsSome o) none (c.in_ok-begin.ensures.some
+    absurd (false≢true (rw none at (c.in_ok-begin.ensures.some
     (is_ended (has g (goal.at.returns-in_default-2-clause-unsettled g c).In-Some scan)))))
 
 -- it begins in the haystack
@@ -39,15 +28,13 @@ certain : (g : Over) (c : In-Some-2 g) (h : HasCertain c.args.self.now.nfa c.arg
     c.args.scan.now c.in-Some.half) → IsCertain c.args.self.now.nfa c.args.haystack.now c.args.start
     record { pattern = c.in-Some.half.pattern; start = c.in-Some-2.begin; end = c.args.start + c.in-Some.half.offset }
 certain g c h = certain_is h c.in_ok-begin.ensures.reverse.0 c.in_ok-begin.ensures.reverse.1 c.in-Some-2.begin
-    (subst (λ (o : Option ℕ). IfSome o (λ begin. IsBeginOf c.args.self.now.nfa c.args.haystack.now c.args.start
-    (c.args.start + c.in-Some.half.offset) begin)) c.in-Some-2.is c.in_ok-begin.ensures.start)
+    (rw c.in-Some-2.is at c.in_ok-begin.ensures.start)
 
 pub returns-then-begin-haystack-clause-unsettled : goal.returns-then-begin-haystack-clause-unsettled
 returns-then-begin-haystack-clause-unsettled g c scan =
     let at = goal.at.returns-then-begin-haystack-clause-unsettled g c in
-    let l : c.in-Some-2.begin < length c.args.haystack.now
-    = (certain g at.In-Some-2 (has g at.In-Some scan)).inside.some in
-    let k : length c.args.haystack.now ≤ c.in-Some-2.begin = search rules in absurd (omega arith)
+    let inside = (certain g at.In-Some-2 (has g at.In-Some scan)).inside in
+    let past : length c.args.haystack.now ≤ c.in-Some-2.begin = search rules in absurd (omega (arith, inside.some))
 
 pub returns-clause-certain : goal.returns-clause-certain
 returns-clause-certain g c scan =

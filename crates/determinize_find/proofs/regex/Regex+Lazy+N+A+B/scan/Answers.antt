@@ -1,10 +1,5 @@
-use Rattle.std.proofs.Common.{rules, ◌≡◌, IfOk, ℕ, List, ap, drop, subst}
-use Rattle.std.proofs.lemmas.List.{length-drop, take_rest}
-use Rattle.determinize_below.specs.Nfa.{AllResolve}
-use Rattle.determinize_below.specs.Semantics.{Nfa}
-use Rattle.determinize_start.specs.StartKinds.{byte_before}
-use Rattle.determinize_engine.specs.Scans.{IsScan, Scanned}
-use Rattle.determinize_find.specs.Regexes.{RegexValue}
+use Rattle.determinize_find.proofs.Common.{AllResolve, ap, byte_before, drop, IfOk, IsScan, length-drop, List, Nfa}
+use Rattle.determinize_find.proofs.Common.{RegexValue, rules, Scanned, subst, take_rest, ℕ, ◌≡◌}
 use Rattle.determinize_find.proofs.streams.Certain.{end_scan, scan_read}
 use Rattle.determinize_find.proofs.regex.Regex+Lazy+N+A+B.scan.Goals as goal
 
