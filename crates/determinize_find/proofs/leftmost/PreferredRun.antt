@@ -2,10 +2,10 @@
 -- Main statements: from_start, to_start, each_preferred_is_leftmost, each_anchored_is_leftmost.
 -- Used by: `laws::prefix_law`, TwoSearches, InputMatches, Certain, Fresh, and ListsOfPatterns of `determinize_regex`.
 -- Idea: after the prefix a run that skips fewer bytes is preferred, so the preferred run begins leftmost.
-use Rattle.determinize_find.proofs.Common.{Accepts, AcceptsFrom, All, ap, arith, Before, Before-asym, by_cases}
+use Rattle.determinize_find.proofs.Common.{Accepts, AcceptsFrom, All, ap, arith, Before, Before-asym, by_cases, choices}
 use Rattle.determinize_find.proofs.Common.{EachAnchoredIsLeftmost, EachPreferredIsLeftmost, end_of, HalfMatch}
 use Rattle.determinize_find.proofs.Common.{HasPrefix, IsLeftmost, IsPreferredRun, length, List, Match, Nfa, None}
-use Rattle.determinize_find.proofs.Common.{Option, option_map, pattern_in, refl, shape, skip, skip_before}
+use Rattle.determinize_find.proofs.Common.{Option, option_map, pattern_in, preferred, refl, shape, skip, skip_before}
 use Rattle.determinize_find.proofs.Common.{skip_same, Some, Text, true_at, unshape, ℕ, ◌+◌, ◌<◌, ◌∷◌, ◌≡◌, ◌≤◌, ◌⊎◌}
 
 module _ (nfa : Nfa) (text : Text) (has : HasPrefix nfa) (small : All (λ b. b < 256) text.bytes) where
@@ -28,12 +28,11 @@ module _ (nfa : Nfa) (text : Text) (has : HasPrefix nfa) (small : All (λ b. b <
 
   preferred_one : (h : HalfMatch) (cs : List ℕ) → IsPreferredRun nfa text nfa.start_unanchored cs h.offset h.pattern
       → (m : Option Match) × IsLeftmost nfa text (length text.bytes) m × (Some h ≡ option_map end_of m)
-  preferred_one h cs r = go (to_start cs h.offset h.pattern r.accepts)
-    where
-      go : ((k : ℕ) × (k ≤ length text.bytes) × (ds : List ℕ) × (cs ≡ skip k ds)
-          × AcceptsFrom nfa text k nfa.start_anchored ds h.offset h.pattern)
-          → (m : Option Match) × IsLeftmost nfa text (length text.bytes) m × (Some h ≡ option_map end_of m)
-      go (k, within, ds, is, accepts) = (
+  preferred_one h cs r =
+      let (k, within, ds, is, accepts) = to_start cs h.offset h.pattern r.accepts in
+      let preferred : (j : ℕ) (es : List ℕ) (i y : ℕ) → j ≤ length text.bytes
+      → AcceptsFrom nfa text j nfa.start_anchored es i y → (skip k ds ≡ skip j es) ⊎ Before (skip k ds) (skip j es)
+      = λ j es i y l acc. rw is at (r.preferred (skip j es) i y (from_start j es i y l acc)) in (
         Some record { pattern = h.pattern; start = k; end = h.offset },
         (
           within,
@@ -50,11 +49,6 @@ module _ (nfa : Nfa) (text : Text) (has : HasPrefix nfa) (small : All (λ b. b <
         ),
         refl,
       )
-        where
-          preferred : (j : ℕ) (es : List ℕ) (i y : ℕ) → j ≤ length text.bytes
-              → AcceptsFrom nfa text j nfa.start_anchored es i y
-              → (skip k ds ≡ skip j es) ⊎ Before (skip k ds) (skip j es)
-          preferred j es i y l acc = rw is at (r.preferred (skip j es) i y (from_start j es i y l acc))
 
 pub each_preferred_is_leftmost : EachPreferredIsLeftmost
 each_preferred_is_leftmost nfa has text small None p =

@@ -4,12 +4,13 @@
 -- Idea: the text from a later index is the rest of the text (LaterRuns), and the first index with a match is the least
 -- one where a run accepts.
 use Rattle.determinize_find.proofs.Common.{Accepts, AcceptsFrom, ap, arith, Asked, asked_of, before, before_at, between}
-use Rattle.determinize_find.proofs.Common.{by_cases, by_test, byte_before, cases_lt, cond, drop, drop-drop}
-use Rattle.determinize_find.proofs.Common.{drop-take, each_run_moves, false, from, HalfMatch, is_anchored, IsLeftmost}
+use Rattle.determinize_find.proofs.Common.{by_cases, byte_before, cases_lt, choices, cond, drop, drop-drop, drop-take}
+use Rattle.determinize_find.proofs.Common.{each_run_moves, false, from, HalfMatch, is_anchored, IsLeftmost}
 use Rattle.determinize_find.proofs.Common.{IsLeftmostIn, IsSearchResult, latest, le-ltb, LeftmostFirst, List, Match}
-use Rattle.determinize_find.proofs.Common.{moved, nat_lt, Nfa, None, NothingFrom, Option, option_map, refl}
-use Rattle.determinize_find.proofs.Common.{since, slice_get, slice_get-drop, slice_get-take, slice_range, Some, suc}
-use Rattle.determinize_find.proofs.Common.{Text, text_of, Yes, zero, ℕ, ◌+◌, ◌-◌, ◌<◌, ◌∙◌, ◌≡◌, ◌≤◌}
+use Rattle.determinize_find.proofs.Common.{moved, nat_lt, nat_tests, Nfa, None, NothingFrom, Option, option_map}
+use Rattle.determinize_find.proofs.Common.{preferred, refl, since, slice_get, slice_get-drop, slice_get-take}
+use Rattle.determinize_find.proofs.Common.{slice_range, Some, suc, Text, text_of, Yes, zero, ℕ, ◌+◌, ◌-◌, ◌<◌, ◌∙◌, ◌≡◌}
+use Rattle.determinize_find.proofs.Common.{◌≤◌}
 use Rattle.determinize_find.specs.Private.BestAt.{from_index, IsBestAt, IsBestIn}
 use Rattle.determinize_find.proofs.leftmost.Inputs.{leftmost_in}
 use Rattle.determinize_find.proofs.runs.LaterRuns.{later_run}
@@ -131,11 +132,7 @@ pub record IsLatest (nfa : Nfa) (asked : Asked) (value : ℕ) : Type 0 where
 
 pub latest_is : (nfa : Nfa) (asked : Asked) (value : ℕ) (now : Nfa) → asked.start ≤ asked.end → now ≡ nfa
     → value ≡ cond (is_anchored now asked.anchored) asked.start asked.end → IsLatest nfa asked value
-latest_is nfa asked value now l n v = by_test (is_anchored nfa asked.anchored)
-    (λ t. let z : value ≡ asked.start = rw (n, t) at v in
-    record { is = rw t (omega arith); low = omega arith; high = omega arith })
-    (λ f. let z : value ≡ asked.end = rw (n, f) at v in
-    record { is = rw f (omega arith); low = omega arith; high = omega arith })
+latest_is nfa asked value now l n v = grind (arith, nat_tests)
 
 -- a match that is found in turn is the leftmost
 pub found_here : (nfa now : Nfa) (asked : Asked) (at value : ℕ) (m : Match) → now ≡ nfa → IsLatest nfa asked value

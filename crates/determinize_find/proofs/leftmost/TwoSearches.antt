@@ -3,18 +3,18 @@
 -- Used by: the calls of `Regex`, and of starts_differ Rests and FoundOfPatterns of `determinize_regex`.
 -- Idea: runs of any pattern that end where the leftmost match ends begin where it does or later, so the farthest
 -- backward is its start.
-use Rattle.determinize_find.proofs.Common.{Accepts, AcceptsFrom, after_at, All, All-drop, All-from_get_or, All-take, ap}
-use Rattle.determinize_find.proofs.Common.{arith, Asked, asked_of, between, Bool, by_cases, by_test, cases_lt, cond}
-use Rattle.determinize_find.proofs.Common.{Decides, drop, each_run_reads_forward, end_of, Err, false, Fits, HalfMatch}
-use Rattle.determinize_find.proofs.Common.{has_start, HasMatch, HasPrefix, IfOk, in_haystack, is_anchored, is_done}
-use Rattle.determinize_find.proofs.Common.{IsEnded, IsEnding, IsFarthestMatch, IsLeftmost, IsLeftmostIn}
-use Rattle.determinize_find.proofs.Common.{IsLeftmostMatch, IsPreferredMatch, IsReverseOf, IsSearchResult, last_in}
-use Rattle.determinize_find.proofs.Common.{le-ltb, LeftmostFirst, length, length-reverse, length-take, List}
+use Rattle.determinize_find.proofs.Common.{Accepts, AcceptsFrom, All, All-drop, All-from_get_or, All-take, arith, Asked}
+use Rattle.determinize_find.proofs.Common.{asked_of, between, Bool, by_cases, by_test, cases_lt, cond, Decides}
+use Rattle.determinize_find.proofs.Common.{each_run_reads_forward, end_of, Err, false, Fits, HalfMatch, has_start}
+use Rattle.determinize_find.proofs.Common.{HasMatch, HasPrefix, IfOk, in_haystack, is_anchored, is_done, IsEnded}
+use Rattle.determinize_find.proofs.Common.{IsEnding, IsFarthestMatch, IsLeftmost, IsLeftmostIn, IsLeftmostMatch}
+use Rattle.determinize_find.proofs.Common.{IsPreferredMatch, IsReverseOf, IsSearchResult, last_in, le-ltb, left}
+use Rattle.determinize_find.proofs.Common.{LeftmostFirst, length, length-drop, length-reverse, length-take, List}
 use Rattle.determinize_find.proofs.Common.{lt-ltb, Match, moved, nat_eq, ne_eqb, Nfa, No, no_run_leaves_the_text, None}
-use Rattle.determinize_find.proofs.Common.{Ok, Option, option_map, or_some, Pattern, refl, Result, slice_get}
-use Rattle.determinize_find.proofs.Common.{slice_get-drop, slice_get-take, slice_get_past, slice_index_or, slice_range}
-use Rattle.determinize_find.proofs.Common.{Some, start_for, sym, take, take-take, Text, text_of, true, true≢false}
-use Rattle.determinize_find.proofs.Common.{turned, u_not_a, upto, w8, Yes, [], ℕ, ◌+◌, ◌-◌, ◌<◌, ◌∙◌, ◌≡◌, ◌≤◌}
+use Rattle.determinize_find.proofs.Common.{Ok, Option, option_map, or_some, Pattern, refl, Result, slice_get-drop}
+use Rattle.determinize_find.proofs.Common.{slice_get-take, slice_get_past, slice_index_or, slice_range, Some, start_for}
+use Rattle.determinize_find.proofs.Common.{sym, take-take, Text, text_of, true, true≢false, turned, u_not_a, upto, w8}
+use Rattle.determinize_find.proofs.Common.{Yes, [], ℕ, ◌+◌, ◌-◌, ◌<◌, ◌∙◌, ◌≡◌, ◌≤◌}
 use Rattle.determinize_below.specs.declared.search.Anchored.{Anchored}
 use Rattle.determinize_below.specs.declared.search.MatchKind.TheVariants as kinds
 use Rattle.determinize_find.proofs.leftmost.Inputs.{found_past, in_text, IsInText, leftmost_in, none_in_text}
@@ -54,13 +54,6 @@ module _ (nfa : Nfa) (text : Text) (has : HasPrefix nfa) (small : All (λ b. b <
   begins_somewhere Yes cs i y s acc = (0, omega arith, cs, acc)
   begins_somewhere (Pattern k) cs i y s acc = cc
 
-pub no_match : (nfa : Nfa) (asked : Asked) → IsEnding nfa asked None → IsLeftmostIn nfa asked None
-no_match nfa asked e = go e.match e.leftmost e.is
-  where
-    go : (o : Option Match) → IsLeftmostIn nfa asked o → None ≡ option_map end_of o → IsLeftmostIn nfa asked None
-    go None l z = l
-    go (Some m) l z = cc
-
 module _ {nfa : Nfa} {asked : Asked} (is : IsForward nfa asked) where
   small : All (λ b. b < 256) (slice_range asked.haystack asked.start asked.end)
   small = All-take (λ b. b < 256) _ _ (All-drop (λ b. b < 256) asked.start asked.haystack is.bytes)
@@ -72,18 +65,12 @@ module _ {nfa : Nfa} {asked : Asked} (is : IsForward nfa asked) where
       → IsPreferredMatch nfa (start_for nfa asked.anchored) (text_of false asked) found
       → IsEnding nfa asked (option_map (in_haystack false asked) found)
   ending_of l found p =
-      let r = rw (length-range asked is.within)
-      at (leftmost_of nfa (text_of false asked) is.prefix small asked.anchored found is.start p) in
+      let (o, leftmost, e) = leftmost_of nfa (text_of false asked) is.prefix small asked.anchored found is.start p in
       record {
-        match = option_map (moved asked.start) r.0;
-        leftmost = leftmost_in nfa asked r.0 l r.1;
-        is = ap (option_map (in_haystack false asked)) r.2 ∙ both r.0;
+        match = option_map (moved asked.start) o;
+        leftmost = leftmost_in nfa asked o l (rw (length-range asked is.within) at leftmost);
+        is = grind arith;
       }
-    where
-      both : (o : Option Match) → option_map (in_haystack false asked) (option_map end_of o)
-          ≡ option_map end_of (option_map (moved asked.start) o)
-      both None = refl
-      both (Some m) = refl
 
   -- a search forward finds the end of the leftmost match
   pub leftmost_end : (found : Option HalfMatch) → IsSearchResult nfa LeftmostFirst asked found
@@ -126,26 +113,14 @@ module _ {nfa : Nfa} {asked : Asked} (is : IsForward nfa asked) where
       none : found ≡ false → IsLeftmostIn nfa asked None
       none f = by_cases (cases_lt asked.end asked.start)
           (found_past nfa asked)
-          (λ l. no_match nfa asked (ending_of l None
-          (λ cs i y acc. true≢false (sym ((d (le-ltb _ _ l)).1 (cs, i, y, rw text_is acc)) ∙ f))))
+          (λ l. let e = ending_of l None
+          (λ cs i y acc. true≢false (sym ((d (le-ltb _ _ l)).1 (cs, i, y, rw text_is acc)) ∙ f)) in grind arith)
 
 -- the start of a range up to a match, in reverse, is the text up to there in the other direction
 text-back : (asked : Asked) (j : ℕ) → asked.start + j ≤ asked.end → asked.end ≤ length asked.haystack
     → text_of true (asked_of asked.haystack asked.start (asked.start + j) Yes) ≡ turned (upto (text_of false asked) j)
-text-back asked j l within = rw (bytes, ahead)
-  where
-    bytes : slice_range asked.haystack asked.start (asked.start + j)
-        ≡ take j (slice_range asked.haystack asked.start asked.end)
-    bytes =
-        let size : asked.start + j - asked.start ≡ j = omega arith in
-        rw (size, take-take j (asked.end - asked.start) (drop asked.start asked.haystack) (omega arith))
-
-    ahead : slice_get asked.haystack (asked.start + j) ≡ after_at (text_of false asked) j
-    ahead = by_cases (cases_lt j (asked.end - asked.start))
-        (λ k. rw (slice_get-take _ _ j k, slice_get-drop, or_some asked.haystack (asked.start + j) _ (omega arith)))
-        (λ k. let z : asked.start + j ≡ asked.end = omega arith in
-        let size = length-range asked within in
-        rw (z, slice_get_past (slice_range asked.haystack asked.start asked.end) j (omega arith)))
+text-back asked j l within =
+    grind (arith, take-take, slice_get-take, slice_get-drop, or_some, slice_get_past, length-take, length-drop)
 
 module _ {nfa backward : Nfa} (is : IsReverseOf backward nfa) {text : Text} {m : Match}
     (within : m.end ≤ length text.bytes) (left : IsLeftmostMatch nfa text m) where

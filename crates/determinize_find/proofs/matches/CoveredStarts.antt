@@ -4,12 +4,11 @@
 -- Used by: `laws::matches_law`.
 -- Idea: the next match is a leftmost one, so no run begins before it; where the first leftmost match is skipped, it is
 -- empty and begins where the range does, and the next one is leftmost from one byte further on.
-use Rattle.determinize_find.proofs.Common.{and_parts, ap, AreMatches, arith, Asked, before, BeginsAt, Bool, by_cases}
-use Rattle.determinize_find.proofs.Common.{by_test, cases_lt, Contains, Covers, EachStartIsCovered, eqb-true, false}
-use Rattle.determinize_find.proofs.Common.{from, inl, inr, is_anchored, IsEmptyAt, IsLeftmostIn, IsNext, IsTaken}
-use Rattle.determinize_find.proofs.Common.{length, List, Match, nat_eq, Nfa, None, none-some, Option, refl, Some}
-use Rattle.determinize_find.proofs.Common.{some_injective, suc, sym, text_of, touches, true, [], ℕ, ◌+◌, ◌-◌, ◌<◌, ◌∙◌}
-use Rattle.determinize_find.proofs.Common.{◌∷◌, ◌≡◌, ◌≤◌, ◌⊎◌}
+use Rattle.determinize_find.proofs.Common.{ap, AreMatches, arith, Asked, before, BeginsAt, Bool, by_cases, by_test}
+use Rattle.determinize_find.proofs.Common.{cases_lt, Contains, Covers, EachStartIsCovered, false, from, inl, inr}
+use Rattle.determinize_find.proofs.Common.{is_anchored, IsEmptyAt, IsLeftmostIn, IsNext, IsTaken, length, List, Match}
+use Rattle.determinize_find.proofs.Common.{nat_tests, Nfa, None, none-some, Option, refl, Some, some_injective, suc}
+use Rattle.determinize_find.proofs.Common.{text_of, touches, true, [], ℕ, ◌+◌, ◌-◌, ◌<◌, ◌∙◌, ◌∷◌, ◌≡◌, ◌≤◌, ◌⊎◌}
 use Rattle.determinize_find.proofs.leftmost.Inputs.{in_text, none_in_text}
 use Rattle.determinize_find.proofs.leftmost.SearchInTurn.{text-since}
 use Rattle.determinize_find.proofs.matches.OneList.{next_lies}
@@ -19,7 +18,6 @@ use Rattle.determinize_find.proofs.runs.LaterRuns.{later_run}
 begins_later : (nfa : Nfa) (asked : Asked) (at start : ℕ) → asked.start ≤ start → start ≤ at → start ≤ asked.end
     → BeginsAt nfa asked at → BeginsAt nfa (from asked start) at
 begins_later nfa asked at start l low high (k, at_is, cs, i, y, acc) =
-    let d : ℕ = start - asked.start in
     let text = text-since asked (from asked start) (start - asked.start) refl (omega arith) refl (omega arith) in (
       k - (start - asked.start),
       omega arith,
@@ -44,12 +42,7 @@ none_passed nfa asked at (Some m) l h p (k, at_is, cs, i, y, acc) =
 
 -- a match that touches the one before is empty, and begins where that one ended
 touching : (before : Option ℕ) (n : Match) → touches before n ≡ true → (before ≡ Some n.start) × (n.end ≡ n.start)
-touching None n t = cc
-touching (Some last) n t =
-    let p = and_parts (nat_eq n.start n.end) (nat_eq n.end last) t in
-    let a = eqb-true n.start n.end p.0 in
-    let b = eqb-true n.end last p.1 in
-    (ap Some (sym (a ∙ b)), sym a)
+touching before n t = grind (arith, nat_tests)
 
 -- where a run begins that accepts, before the next match: the match before ended there, and an empty one was skipped
 skipped : (nfa : Nfa) (asked : Asked) (before : Option ℕ) (at : ℕ) (found : Option Match)

@@ -18,9 +18,9 @@ module _ (nfa : Nfa) (accepted : IsAccepted nfa) where
   first : (text : Text) → (o : Option Match) × IsLeftmost nfa text 0 o
   first text =
       let found = last_match (chain nfa LeftmostFirst nfa.start_anchored text) in
-      let h = each_anchored_is_leftmost nfa text found
+      let (o, h, e) = each_anchored_is_leftmost nfa text found
       (preferred nfa LeftmostFirst nfa.start_anchored text found accepted refl refl) in
-      (h.0, h.1)
+      (o, h)
 
   -- the leftmost match that begins at a position or before
   leftmost : (last : ℕ) (text : Text) → (o : Option Match) × IsLeftmost nfa text last o

@@ -4,29 +4,25 @@
 -- Idea: a list of all matches from the cursor on, after what was found, is the list of all matches.
 use Rattle.determinize_find.proofs.Common.{ap, append-nil, append_assoc, AreMatches, arith, Asked, before, false, from}
 use Rattle.determinize_find.proofs.Common.{IfSome, is_touching, IsLeftmostIn, IsNext, left, length, List, Match, Nfa}
-use Rattle.determinize_find.proofs.Common.{None, Option, refl, SearcherValue, Some, sym, true, true≢false, [], ℕ, ◌++◌}
-use Rattle.determinize_find.proofs.Common.{◌+◌, ◌<◌, ◌∙◌, ◌∷◌, ◌≡◌, ◌≤◌}
+use Rattle.determinize_find.proofs.Common.{None, Option, refl, SearcherValue, Some, true, [], ℕ, ◌++◌, ◌+◌, ◌<◌, ◌∷◌}
+use Rattle.determinize_find.proofs.Common.{◌≡◌, ◌≤◌}
 use Rattle.determinize_find.specs.Cursors.{after_match}
 use Rattle.determinize_find.proofs.matches.OneList.{IsLater, next_lies}
 
 pub next_plain : (nfa : Nfa) (asked : Asked) (before : Option ℕ) (first : Option Match) → IsLeftmostIn nfa asked first
     → is_touching before first ≡ false → IsNext nfa asked before first
-next_plain nfa asked before None x t = (None, x, refl)
-next_plain nfa asked before (Some m) x t = (Some m, x, (λ e. absurd (true≢false (sym e ∙ t)), λ e. refl))
+next_plain nfa asked before first x t = grind arith
 
 pub next_further : (nfa now : Nfa) (asked further : Asked) (before : Option ℕ) (first found : Option Match)
     → now ≡ nfa → further ≡ from asked (asked.start + 1)
     → IsLeftmostIn nfa asked first → is_touching before first ≡ true → IsLeftmostIn now further found
     → IsNext nfa asked before found
-next_further nfa now asked further before None found n f x t y = cc
-next_further nfa now asked further before (Some m) found n f x t y =
-    (Some m, x, (λ e. rw (n, f) at y, λ e. absurd (true≢false (sym t ∙ e))))
+next_further nfa now asked further before first found n f x t y = grind arith
 
 -- where a match of a range is skipped, the range does not start past its end
 pub touched_within : (before : Option ℕ) (first : Option Match) (start end : ℕ) → is_touching before first ≡ true
     → IfSome first (λ m. (start ≤ m.start) × (m.start ≤ m.end) × (m.end ≤ end)) → start ≤ end
-touched_within before None start end t within = cc
-touched_within before (Some m) start end t (low, order, high) = omega arith
+touched_within before first start end t within = grind arith
 
 -- each match leaves fewer indices
 pub fewer : (nfa now : Nfa) (asked rest : Asked) (start : ℕ) (before : Option ℕ) (m : Match) → now ≡ nfa
@@ -34,12 +30,8 @@ pub fewer : (nfa now : Nfa) (asked rest : Asked) (start : ℕ) (before : Option 
     → ((last : ℕ) → before ≡ Some last → last ≡ start) → IsNext now rest before (Some m)
     → (left asked.end m.end (Some m.end) < left asked.end start before) × (m.end ≤ asked.end)
 fewer nfa now asked rest start before m e r l starts n =
-    let y = next_lies now (from asked start) before m l starts (rw r at n) in (go before y starts, y.high)
-  where
-    go : (b : Option ℕ) → IsLater (from asked start) b m → ((last : ℕ) → b ≡ Some last → last ≡ start)
-        → left asked.end m.end (Some m.end) < left asked.end start b
-    go None y f = omega arith
-    go (Some last) y f = omega (arith, y.later last refl, f last refl)
+    let y = next_lies now (from asked start) before m l starts (rw r at n) in
+    (grind (arith, y.later, starts, y.low, y.order, y.high), y.high)
 
 -- what was found so far, before all that is left; `initial` is the end of a match before all of them
 abbrev pub AreFirst : Nfa → Asked → Option ℕ → ℕ → Option ℕ → List Match → Type 0

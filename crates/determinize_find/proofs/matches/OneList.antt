@@ -15,8 +15,8 @@ use Rattle.determinize_find.proofs.runs.LaterRuns.{run_within}
 pub each_leftmost_in_is_one : EachLeftmostInIsOne
 each_leftmost_in_is_one nfa asked found other a b = by_test (is_done asked)
     (λ d. a.done d ∙ sym (b.done d))
-    (λ d. let p = a.found d in let q = b.found d in
-    p.2 ∙ ap (option_map (moved asked.start)) (each_leftmost_is_one _ _ _ p.0 q.0 p.1 q.1) ∙ sym q.2)
+    (λ d. let (m, p, e) = a.found d in let (n, q, f) = b.found d in
+    e ∙ ap (option_map (moved asked.start)) (each_leftmost_is_one _ _ _ m n p q) ∙ sym f)
 
 one_taken : (nfa : Nfa) (asked : Asked) (before : Option ℕ) (first found other : Option Match)
     → IsTaken nfa asked before first found → IsTaken nfa asked before first other → found ≡ other
@@ -71,33 +71,27 @@ pub record IsLater (asked : Asked) (before : Option ℕ) (m : Match) : Type 0 wh
   pub later : (last : ℕ) → before ≡ Some last → last < m.end
 
 -- a match behind the one before that does not touch it ends later
-not_touching : (last : ℕ) (m : Match) → last ≤ m.start → m.start ≤ m.end → touches (Some last) m ≡ false → last < m.end
-not_touching last m low order e = grind (arith, nat_tests)
+not_touching : (start : ℕ) (before : Option ℕ) (m : Match) → ((last : ℕ) → before ≡ Some last → last ≡ start)
+    → start ≤ m.start → m.start ≤ m.end → touches before m ≡ false → (last : ℕ) → before ≡ Some last → last < m.end
+not_touching start before m starts low order apart last is = grind (arith, nat_tests, starts last is)
 
 pub next_lies : (nfa : Nfa) (asked : Asked) (before : Option ℕ) (m : Match) → asked.end ≤ length asked.haystack
     → ((last : ℕ) → before ≡ Some last → last ≡ asked.start)
     → IsNext nfa asked before (Some m) → IsLater asked before m
-next_lies nfa asked before m l starts (first, x, taken) = go first x taken
-  where
-    go : (first : Option Match) → IsLeftmostIn nfa asked first → IsTaken nfa asked before first (Some m)
-        → IsLater asked before m
-    go None x t = cc
-    go (Some n) x t = by_test (touches before n)
-        (λ e. let y = lies nfa (from asked (asked.start + 1)) m l (t.0 e) in
-        record {
-          low = omega arith;
-          order = y.order;
-          high = y.high;
-          later = λ last k. omega (arith, starts last k);
-        })
-        (λ e. let same : m ≡ n = some_injective m n (t.1 e) in
-        let y = lies nfa asked n l x in
-        rw same record {
-          low = y.low;
-          order = y.order;
-          high = y.high;
-          later = λ last k. not_touching last n (omega (arith, starts last k)) y.order (rw k at e);
-        })
+next_lies nfa asked before m l starts (None, x, taken) = cc
+next_lies nfa asked before m l starts (Some n, x, taken) = by_test (touches before n)
+    (λ e. let y = lies nfa (from asked (asked.start + 1)) m l (taken.0 e) in record {
+      low = omega (arith, y.low);
+      order = y.order;
+      high = y.high;
+      later = λ last k. omega (arith, starts last k, y.low, y.order);
+    })
+    (λ e. let y = lies nfa asked n l x in rw (some_injective m n (taken.1 e)) record {
+      low = y.low;
+      order = y.order;
+      high = y.high;
+      later = not_touching asked.start before n starts y.low y.order e;
+    })
 
 apart : (nfa : Nfa) (asked : Asked) (before : Option ℕ) (ms : List Match) → asked.end ≤ length asked.haystack
     → ((last : ℕ) → before ≡ Some last → last ≡ asked.start)
