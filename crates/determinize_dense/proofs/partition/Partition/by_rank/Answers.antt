@@ -14,9 +14,12 @@ pub loop-row-preserved : goal.loop-row-preserved
 loop-row-preserved g c = record {
   below = omega (arith, c.loop-row-test.true);
   ordering = elim c.if-ranks-row.branch [
-    | then-ranks-row+in_ok-push w ↦ rw (w.members-is, w.blocks-is) (grind (arith,
-        w.in_ok-push.ensures.items, w.len.ensures,
-        ordering-push c.loop-rank.rank c.loop-row.row c.loop-row.invariant.ordering))
+    | then-ranks-row+in_ok-push w ↦ rw (w.members-is, w.blocks-is) (grind (
+      arith,
+      w.in_ok-push.ensures.items,
+      w.len.ensures,
+      ordering-push c.loop-rank.rank c.loop-row.row c.loop-row.invariant.ordering,
+    ))
     | else-ranks-row w ↦ rw (w.members-is, w.blocks-is) (ordering-skip c.loop-rank.rank c.loop-row.row
         c.loop-row.invariant.ordering c.loop-row-test.true w.if-ranks-row.false)
   ];
