@@ -1,3 +1,2 @@
-pub mod Busy
-pub mod Fresh
+pub mod Begun
 pub mod Recorded

@@ -1,7 +1,6 @@
 pub mod Certain
 pub mod Finish
 pub mod FirstMatch
-pub mod Fresh
 pub mod Kept
 pub mod Moves
 pub mod Rests

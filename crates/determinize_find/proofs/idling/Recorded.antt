@@ -1,60 +1,37 @@
--- What the value of a scan records, and that no run accepts before its last match.
--- Main statements: recorded, none_yet.
--- Used by: the laws of idle scans (Fresh, Busy).
--- Idea: a scan whose value has an NFA state has read all bytes, so its value is the one of a walk over the text up to
--- there.
-use Rattle.std.specs.Prelude.{All, slice_get}
-use Rattle.std.proofs.Common.{◌≡◌, ◌<◌, ◌≤◌, ◌+◌, ◌++◌, ◌∙◌, ◌∷◌, ℕ, Bool, List, None, Option, Some, [], ap, arith, cond, false, get_or, length, length-append, map, not, refl, subst, suc, sym, take, true}
-use Rattle.std.proofs.Math.Seq.{take-suc}
-use Rattle.std.proofs.lemmas.Bool.{false≢true}
-use Rattle.std.proofs.lemmas.List.{length-map, length-take-le, map-append, take-take, take_at}
-use Rattle.std.proofs.lemmas.List.Elements.{All-take}
-use Rattle.std.proofs.lemmas.Option.{slice_get-get_or}
-use Rattle.determinize_below.specs.Edges.{is_capture}
-use Rattle.determinize_below.specs.Nfa.{IsAccepted}
-use Rattle.determinize_below.specs.Semantics.{Nfa, Accepts, Text, after_at, between}
-use Rattle.determinize_below.specs.declared.search.MatchKind.{MatchKind}
-use Rattle.determinize_below.specs.declared.search.MatchKind.TheVariants.{LeftmostFirst}
-use Rattle.ordered_reach.specs.Runs.{ListsReached}
-use Rattle.ordered_reach.proofs.Cases.{by_test}
-use Rattle.determinize_core.specs.Chain.{chain, future, units, value_after}
-use Rattle.determinize_core.specs.LastMatch.{last_match}
-use Rattle.determinize_core.specs.Step.{start_value, step}
-use Rattle.determinize_core.specs.Value.{Value, is_nonempty}
-use Rattle.determinize_core.proofs.walk.UnitLists.{units_are}
+-- What the value of a scan records, in words of runs over the bytes so far.
+-- Main statements: recorded, scanned_whole, ends_later, none_before.
+-- Used by: Begun and FirstMatch.
+-- Idea: a scan whose value has an NFA state has read all bytes, so its value is the one of a walk over them; and the
+-- least run to its first state is before all runs to the others.
+use Rattle.determinize_find.proofs.Common.{append_assoc, arith, Before, Before-asym, Before-trans, between, Bool}
+use Rattle.determinize_find.proofs.Common.{chain, Contains_In, false, future, HalfMatch, is_capture, IsAccepted}
+use Rattle.determinize_find.proofs.Common.{IsPath, IsScan, last_match, LeftmostFirst, length, length-map, List, map}
+use Rattle.determinize_find.proofs.Common.{map-append, MatchKind, Nfa, None, Option, option_map, option_or, refl}
+use Rattle.determinize_find.proofs.Common.{same_decides, same_least, Scanned, slice_get, Some, some_injective}
+use Rattle.determinize_find.proofs.Common.{start_value, step, suc, sym, units_read, Value, value_after, zero, [], ℕ}
+use Rattle.determinize_find.proofs.Common.{◌++◌, ◌+◌, ◌∙◌, ◌∷◌, ◌≡◌, ◌≤◌, ◌⊎◌}
+use Rattle.ordered_reach.specs.Runs.{IsLeastRun, ListsReached}
+use Rattle.determinize_core.proofs.walk.UnitLists.{chain_is_future}
 use Rattle.determinize_core.proofs.walk.WalkOfRuns.{each_chain_reaches}
-use Rattle.determinize_engine.specs.Scans.{IsScan, Scanned}
-use Rattle.determinize_engine.specs.UnitsRead.{units_read}
-use Rattle.determinize_engine.proofs.SearchMatches.{none_accepts}
-use Rattle.determinize_nfa.specs.Reversal.{upto}
-use Rattle.determinize_nfa.proofs.runs.Choices.{choices_under}
-use Rattle.determinize_find.proofs.runs.Cuts.{known_is, known_there}
-use Rattle.determinize_nfa.proofs.runs.Mirrors.{or_some}
-
--- a list with an element
-has_first : (xs : List ℕ) (x : ℕ) → slice_get xs 0 ≡ Some x → is_nonempty xs ≡ true
-has_first [] x e = absurd (let z : None ≡ Some x = e in cc)
-has_first (y ∷ xs) x e = refl
+use Rattle.determinize_engine.proofs.Scanning.{last-scanned}
+use Rattle.determinize_engine.specs.Private.Later.{last_from, later_by}
+use Rattle.determinize_find.proofs.runs.Cuts.{begun, graph, known_is}
 
 first_append : (xs ys : List ℕ) (x : ℕ) → slice_get xs 0 ≡ Some x → slice_get (xs ++ ys) 0 ≡ Some x
 first_append [] ys x e = absurd (let z : None ≡ Some x = e in cc)
 first_append (z ∷ xs) ys x e = e
 
+later_than : (n : ℕ) (o : Option HalfMatch) (h : HalfMatch) → option_or (option_map (later_by n) o) None ≡ Some h
+    → n ≤ h.offset
+later_than n o h e = grind arith
+
 module _ (nfa : Nfa) (kind : MatchKind) where
   -- a search that is at a value with an NFA state has read all units
-  reads_all : (us : List (Option ℕ)) (v : Value)
-      → is_nonempty (value_after nfa kind v (units_read (step nfa kind) false v us)).states ≡ true
+  reads_all : (us : List (Option ℕ)) (v : Value) (x : ℕ)
+      → slice_get (value_after nfa kind v (units_read (step nfa kind) false v us)).states 0 ≡ Some x
       → value_after nfa kind v (units_read (step nfa kind) false v us) ≡ value_after nfa kind v us
-  reads_all [] v h = refl
-  reads_all (u ∷ us) v h = by_test (is_nonempty v.states)
-      (λ e. subst (λ b. value_after nfa kind v (reads (not b)) ≡ value_after nfa kind (step nfa kind v u) us) (sym e)
-      (reads_all us (step nfa kind v u)
-      (subst (λ b. is_nonempty (value_after nfa kind v (reads (not b))).states ≡ true) e h)))
-      (λ e. absurd (false≢true
-      (sym e ∙ subst (λ b. is_nonempty (value_after nfa kind v (reads (not b))).states ≡ true) e h)))
-    where
-      reads : Bool → List (Option ℕ)
-      reads b = cond b [] (u ∷ units_read (step nfa kind) false (step nfa kind v u) us)
+  reads_all [] v x first = refl
+  reads_all (u ∷ us) v x first = grind (arith, reads_all us (step nfa kind v u) x)
 
   -- the value after some units, among those that follow
   future_at : (us vs : List (Option ℕ)) (v : Value)
@@ -63,71 +40,50 @@ module _ (nfa : Nfa) (kind : MatchKind) where
   future_at [] (w ∷ vs) v = refl
   future_at (u ∷ us) vs v = future_at us vs (step nfa kind v u)
 
-pub inside : (bytes more : List ℕ) → length bytes ≤ length (bytes ++ more)
-inside bytes more =
-    let l : length (bytes ++ more) ≡ length bytes + length more = length-append bytes more in omega arith
-
-pub small_up_to : (bytes more : List ℕ) (m : ℕ) → m ≤ length bytes → All (λ b. b < 256) bytes
-    → All (λ b. b < 256) (take m (bytes ++ more))
-small_up_to bytes more m l small = subst (λ bs. All (λ b. b < 256) bs)
-    (ap (λ bs. take m bs) (sym (take_at bytes more (length bytes) refl))
-    ∙ take-take m (length bytes) (bytes ++ more) l)
-    (All-take (λ b. b < 256) m bytes small)
-
--- the list has the states that runs reach at a position, by what is known there
-abbrev pub ListsKnown : Nfa → ℕ → Text → ℕ → List ℕ → Type 0
-ListsKnown nfa start text m xs =
-    ListsReached (choices_under nfa text (known_there nfa text m)) (is_capture nfa) start m xs
-
-module _ (nfa : Nfa) (accepted : IsAccepted nfa) {start : ℕ} {behind : Option ℕ} {bytes : List ℕ} {s : Scanned}
-    (is : IsScan nfa LeftmostFirst start behind bytes s) (more : List ℕ) (ahead : Option ℕ) where
-  abbrev text : Text
-  text = between behind (bytes ++ more) ahead
-
+module _ {nfa : Nfa} {start : ℕ} {behind : Option ℕ} {bytes : List ℕ} {s : Scanned}
+    (is : IsScan nfa LeftmostFirst start behind bytes s) where
   abbrev first : Value
   first = start_value nfa start behind
 
-  -- the first state of the value is the first that runs reach there
-  pub recorded : (x : ℕ) → slice_get s.state.states 0 ≡ Some x
-      → (xs : List ℕ) × ListsKnown nfa start (upto text (length bytes)) (length bytes) xs × (slice_get xs 0 ≡ Some x)
-  unfolding chain
-  recorded x e =
-      let all : s.state ≡ value_after nfa LeftmostFirst first (map Some bytes)
-      = is.state ∙ reads_all nfa LeftmostFirst (map Some bytes) first
-      (subst (λ (v : Value). is_nonempty v.states ≡ true) is.state (has_first s.state.states x e)) in
-      let us : units (upto text (length bytes)) ≡ map Some bytes ++ after_at text (length bytes) ∷ []
-      = units_are behind (after_at text (length bytes)) (take (length bytes) (bytes ++ more))
-      ∙ ap (λ l. map Some l ++ after_at text (length bytes) ∷ []) (take_at bytes more (length bytes) refl) in
-      let item : slice_get (chain nfa LeftmostFirst start (upto text (length bytes))) (length bytes) ≡ Some s.state
-      = ap (λ l. slice_get (future nfa LeftmostFirst first l) (length bytes)) us
-      ∙ ap (λ i. slice_get (future nfa LeftmostFirst first (map Some bytes ++ after_at text (length bytes) ∷ [])) i)
-      (sym (length-map bytes Some))
-      ∙ future_at nfa LeftmostFirst (map Some bytes) (after_at text (length bytes) ∷ []) first ∙ ap Some (sym all) in
-      let l : length (take (length bytes) (bytes ++ more)) ≡ length bytes
-      = length-take-le (length bytes) (bytes ++ more) (inside bytes more) in
-      let r = (each_chain_reaches nfa accepted LeftmostFirst start (upto text (length bytes))).ids (length bytes)
-      s.state (omega arith) item in (
-        r.0,
-        subst (λ g. ListsReached g (is_capture nfa) start (length bytes) r.0)
-            (known_is nfa (upto text (length bytes)) (length bytes)) r.1,
-        subst (λ ys. slice_get ys 0 ≡ Some x) (sym r.2.1) (first_append s.state.states r.2.0 x e),
-      )
+  -- the last match of each text that begins with the bytes
+  pub scanned_whole : (more : List ℕ) (ahead : Option ℕ)
+      → last_match (chain nfa LeftmostFirst start (between behind (bytes ++ more) ahead))
+      ≡ last_from nfa LeftmostFirst s.read s.last s.state (map Some more ++ ahead ∷ [])
+  scanned_whole more ahead =
+      rw (chain_is_future, map-append, append_assoc) (last-scanned is (map Some more ++ ahead ∷ []))
 
-  -- without a match so far, no run accepts before the end
-  pub none_yet : (m : ℕ) → suc m ≡ length bytes → s.last ≡ None → (cs : List ℕ) (i y : ℕ)
-      → Accepts nfa (upto text m) start cs i y → ⊥
-  unfolding chain
-  none_yet m e none =
-      let k : length bytes ≤ length (bytes ++ more) = inside bytes more in
-      let l : m < length (bytes ++ more) = omega arith in
-      let next : after_at text m ≡ Some (get_or (bytes ++ more) m 0)
-      = or_some (bytes ++ more) m ahead l ∙ slice_get-get_or (bytes ++ more) m 0 l in
-      let cut : take m (bytes ++ more) ++ get_or (bytes ++ more) m 0 ∷ [] ≡ bytes
-      = sym (take-suc (bytes ++ more) m 0 l) ∙ ap (λ n. take n (bytes ++ more)) e
-      ∙ take_at bytes more (length bytes) refl in
-      let us : units (upto text m) ≡ map Some bytes
-      = units_are behind (after_at text m) (take m (bytes ++ more))
-      ∙ ap (λ u. map Some (take m (bytes ++ more)) ++ u ∷ []) next
-      ∙ sym (map-append Some (take m (bytes ++ more)) (get_or (bytes ++ more) m 0 ∷ [])) ∙ ap (λ w. map Some w) cut in
-      none_accepts nfa LeftmostFirst start (upto text m) accepted
-      (sym none ∙ is.last ∙ ap (λ w. last_match (future nfa LeftmostFirst first w)) (sym us))
+  -- which ends there or later, if there is no match so far
+  pub ends_later : s.last ≡ None → (more : List ℕ) (ahead : Option ℕ) (h : HalfMatch)
+      → last_match (chain nfa LeftmostFirst start (between behind (bytes ++ more) ahead)) ≡ Some h
+      → length bytes ≤ h.offset
+  ends_later none more ahead h e = rw (← is.read) (later_than s.read _ h (rw none at (sym (scanned_whole more ahead) ∙ e)))
+
+  -- the first state of the value is the first that runs reach where the bytes end
+  pub recorded : IsAccepted nfa → (x : ℕ) → slice_get s.state.states 0 ≡ Some x → (xs : List ℕ)
+      × ListsReached (graph nfa behind bytes) (is_capture nfa) start (length bytes) xs × (slice_get xs 0 ≡ Some x)
+  recorded accepted x e =
+      let all : s.state ≡ value_after nfa LeftmostFirst first (map Some bytes)
+      = is.state ∙ reads_all nfa LeftmostFirst (map Some bytes) first x (rw (← is.state) e) in
+      let item : slice_get (chain nfa LeftmostFirst start (begun nfa behind bytes)) (length bytes) ≡ Some s.state
+      = rw (chain_is_future, all, ← length-map bytes Some) (future_at nfa LeftmostFirst (map Some bytes) _ first) in
+      let r = (each_chain_reaches nfa accepted LeftmostFirst start (begun nfa behind bytes)).ids (length bytes)
+      s.state (omega arith) item in
+      (r.0, rw (← known_is) r.1, rw r.2.1 (first_append s.state.states r.2.0 x e))
+
+-- of two runs, of which the first is the same as the second or before it, the second is not before the first
+pub not_before : {cs ds : List ℕ} → (cs ≡ ds) ⊎ Before cs ds → Before ds cs → ⊥
+not_before {cs} {ds} least before = grind (arith, Before-asym cs ds, Before-asym cs cs)
+
+-- no run to a state of a list is before the least run to its first state
+pub none_before : {graph : ℕ × ℕ → List (ℕ × ℕ)} {cap : ℕ → Bool} {start i x : ℕ} {xs cs : List ℕ}
+    → ListsReached graph cap start i xs → slice_get xs 0 ≡ Some x → IsLeastRun graph (0, start) cs (i, x)
+    → (ds : List ℕ) (t : ℕ) → cap t ≡ false → IsPath graph [] (0, start) ds (i, t) → Before ds cs → ⊥
+none_before {graph} {cap} {start} {i} {x} {xs} {cs} lists e is ds t c p before =
+    let at = Contains_In same_decides xs t ((lists.reached t).1 (c, (ds, p))) in go at.0 at.1
+  where
+    go : (j : ℕ) → slice_get xs j ≡ Some t → ⊥
+    go zero f = let same : x ≡ t = some_injective x t (sym e ∙ f) in not_before (is.least ds (rw same p)) before
+    go (suc j) f =
+        let r = lists.by_least 0 (suc j) x t (omega arith) e f in
+        let one : cs ≡ r.0 = same_least cs r.0 (is.least r.0 r.2.run) (r.2.least cs is.run) in
+        not_before (r.3.least ds p) (Before-trans ds cs r.1 before (rw one r.4))

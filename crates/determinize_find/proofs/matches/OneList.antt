@@ -93,7 +93,7 @@ next_lies nfa asked before m l starts (Some n, x, taken) = by_test (touches befo
       later = not_touching asked.start before n starts y.low y.order e;
     })
 
-apart : (nfa : Nfa) (asked : Asked) (before : Option ℕ) (ms : List Match) → asked.end ≤ length asked.haystack
+pub apart : (nfa : Nfa) (asked : Asked) (before : Option ℕ) (ms : List Match) → asked.end ≤ length asked.haystack
     → ((last : ℕ) → before ≡ Some last → last ≡ asked.start)
     → AreMatches nfa asked before ms → AreApart asked.start before asked.end ms
 apart nfa asked before [] l starts h = tt

@@ -1,24 +1,23 @@
--- Runs over a text and over its beginning up to a position.
--- Main statements: known_is, cut_path, true_path, passes.
--- Used by: the laws of idle scans, and FirstMatch.
--- Idea: up to the position both texts have the same units around each position, and at it the assertions that are known
--- are among those that are true (SameChoices).
-use Rattle.determinize_find.proofs.Common.{after_at, ap, arith, Assertion, before_at, Bool, by_cases, by_test}
-use Rattle.determinize_find.proofs.Common.{capture_same, cases_lt, choice_cases, choices, choices_under, cond, Contains}
-use Rattle.determinize_find.proofs.Common.{edges, eq-eqb, false, free_more, In_cases, is_capture, IsPath, known}
-use Rattle.determinize_find.proofs.Common.{known_choices, length, length-take-le, List, ne_eqb, Nfa, none-some}
-use Rattle.determinize_find.proofs.Common.{one_choice, or_some, path_agree, refl, same_choices, slice_get}
-use Rattle.determinize_find.proofs.Common.{slice_get-take, slice_get_past, Some, suc, sym, Text, true, true_at}
-use Rattle.determinize_find.proofs.Common.{under_later, upto, zero, [], ℕ, ◌<◌, ◌==◌, ◌∷◌, ◌≡◌, ◌≤◌}
+-- Runs over texts that begin with the same bytes, by the assertions that are known where these bytes end.
+-- Main statements: known_is, true_path, passes, same_path.
+-- Used by: Recorded, and the laws of idle, busy and certain scans.
+-- Idea: before that position the texts have the same units, and at it the assertions that are known are among those
+-- that are true (SameChoices).
+use Rattle.determinize_find.proofs.Common.{after_at, ap, arith, Assertion, before_at, between, Bool, by_cases}
+use Rattle.determinize_find.proofs.Common.{by_test, cases_lt, choice_cases, choice_later, choices, choices_under}
+use Rattle.determinize_find.proofs.Common.{cond, eq-eqb, false, free_more, inl, inr, is_capture, IsPath, known}
+use Rattle.determinize_find.proofs.Common.{known_choices, length, List, ne_eqb, Nfa, None, one_choice, Option}
+use Rattle.determinize_find.proofs.Common.{path_agree, refl, same_choices, slice_get, slice_get-get_or, Some}
+use Rattle.determinize_find.proofs.Common.{some_injective, suc, sym, Text, true, true_at, under_later, zero, [], ℕ}
+use Rattle.determinize_find.proofs.Common.{◌++◌, ◌<◌, ◌==◌, ◌∙◌, ◌∷◌, ◌≡◌, ◌≤◌, ◌⊎◌}
 use mathlib.Core.Path.{fun_ext}
 use Rattle.determinize_below.proofs.nfas.Edges.{next_of}
 use Rattle.determinize_start.proofs.tables.TrueTables.{known_truth}
 
--- the edges under one of two sets
-under_one : (nfa : Nfa) (b : Bool) (h g : Assertion → Bool) (s : ℕ)
-    → cond b (edges nfa h s) (edges nfa g s) ≡ edges nfa (cond b h g) s
-under_one nfa true h g s = refl
-under_one nfa false h g s = refl
+pub slice_get-append : (xs ys : List ℕ) (i : ℕ) → i < length xs → slice_get (xs ++ ys) i ≡ slice_get xs i
+slice_get-append [] ys i l = absurd (omega arith)
+slice_get-append (x ∷ xs) ys zero l = refl
+slice_get-append (x ∷ xs) ys (suc i) l = slice_get-append xs ys i (omega arith)
 
 -- the assertions that are known at a position, and those that are true at the others
 abbrev pub known_there : Nfa → Text → ℕ → ℕ → Assertion → Bool
@@ -26,101 +25,114 @@ known_there nfa text m i = cond (i == m) (known nfa (before_at text i)) (true_at
 
 pub known_is : (nfa : Nfa) (text : Text) (m : ℕ)
     → known_choices nfa text m ≡ choices_under nfa text (known_there nfa text m)
-known_is nfa text m = fun_ext (λ p. rw (under_one nfa (p.0 == m) (known nfa (before_at text p.0)) (true_at nfa text p.0)
-    p.1))
+known_is nfa text m = fun_ext (λ p. by_test (p.0 == m) (λ e. rw e refl) (λ e. rw e refl))
 
--- a run that ends at a position or before is one where all is the same before the position, and more may hold at it
-module _ (nfa : Nfa) (m : ℕ) (text other : Text) (h g : ℕ → Assertion → Bool)
-    (byte : (i : ℕ) → i < m → slice_get text.bytes i ≡ slice_get other.bytes i)
-    (same : (i : ℕ) → i < m → h i ≡ g i) (more : (look : Assertion) → h m look ≡ true → g m look ≡ true) where
-  path_upto : (cs : List ℕ) (held : List (ℕ × ℕ)) (r q : ℕ × ℕ) → q.0 ≤ m
-      → IsPath (choices_under nfa text h) held r cs q → IsPath (choices_under nfa other g) held r cs q
-  path_upto cs held r q l p =
-      (path_agree (choices_under nfa text h) (choices_under nfa other g) (λ t. t.0 ≤ m) step cs held r q l p).1
+module _ (nfa : Nfa) (behind : Option ℕ) (bytes : List ℕ) where
+  abbrev end : ℕ
+  end = length bytes
+
+  -- the bytes, with nothing ahead of them
+  abbrev pub begun : Text
+  begun = between behind bytes None
+
+  abbrev pub there : ℕ → Assertion → Bool
+  there = known_there nfa begun end
+
+  -- the choices of runs over them
+  abbrev pub graph : ℕ × ℕ → List (ℕ × ℕ)
+  graph = choices_under nfa begun there
+
+  module _ (more : List ℕ) (ahead : Option ℕ) where
+    abbrev text : Text
+    text = between behind (bytes ++ more) ahead
+
+    before_same : (i : ℕ) → i ≤ end → before_at text i ≡ before_at begun i
+    before_same zero l = refl
+    before_same (suc i) l = slice_get-append bytes more i (omega arith)
+
+    true_same : (i : ℕ) → i < end → true_at nfa text i ≡ true_at nfa begun i
+    true_same i l =
+        let low : i ≤ end = omega arith in
+        rw (before_same i low, slice_get-append bytes more i l, slice_get-get_or bytes i 0 l)
+
+    known_true : (i : ℕ) (look : Assertion) → i ≡ end → there i look ≡ true → true_at nfa text i look ≡ true
+    known_true i look at y =
+        let low : i ≤ end = omega arith in
+        known_truth nfa (before_at text i) (after_at text i) look
+        (rw (before_same i low) (rw (eq-eqb i end at) at y))
+
+    same_before : (p : ℕ × ℕ) → p.0 < end → graph p ≡ choices nfa text p
+    same_before p l = same_choices nfa begun text there (true_at nfa text) p (sym (slice_get-append bytes more p.0 l))
+        (rw (ne_eqb p.0 end (λ e. omega arith), true_same p.0 l))
+
+    -- a run by what is known there is a run over each text
+    pub true_path : (cs : List ℕ) (r : ℕ × ℕ) (s : ℕ) → IsPath graph [] r cs (end, s)
+        → IsPath (choices nfa text) [] r cs (end, s)
+    true_path cs r s p =
+        (path_agree graph (choices nfa text) (λ t. t.0 ≤ end) step cs [] r (end, s) (omega arith) p).1
+      where
+        step : (p t : ℕ × ℕ) (c : ℕ) → slice_get (graph p) c ≡ Some t → t.0 ≤ end
+            → (p.0 ≤ end) × (slice_get (choices nfa text p) c ≡ Some t)
+        step p t c e l =
+            let low : p.0 ≤ t.0 = under_later nfa begun there p t c e in (
+              omega arith,
+              by_cases (cases_lt p.0 end)
+                  (λ k. rw (same_before p k) at e)
+                  (λ k. free_more nfa begun text there (true_at nfa text) p t c (omega arith)
+                  (λ look y. known_true p.0 look (omega arith) y) e),
+            )
+
+    -- some state there other than a capture, and a run to it by what is known there
+    abbrev pub Passes : List (ℕ × ℕ) → ℕ × ℕ → Type 0
+    Passes held r = (cs : List ℕ) × (s : ℕ) × (is_capture nfa s ≡ false) × IsPath graph held r cs (end, s)
+
+    -- before the position, and from a capture there, a choice is one by what is known, and does not go past it
+    goes_on : (r t : ℕ × ℕ) (c : ℕ) → r.0 ≤ end → slice_get (choices nfa text r) c ≡ Some t
+        → ((end ≡ r.0) × (is_capture nfa r.1 ≡ false)) ⊎ ((slice_get (graph r) c ≡ Some t) × (t.0 ≤ end))
+    goes_on r t c l e = by_cases (cases_lt r.0 end)
+        (λ k. inr (
+          rw (same_before r k) e,
+          choice_cases nfa text r t c e (λ z f. omega arith) (λ z f. omega arith),
+        ))
+        (λ k. by_test (is_capture nfa r.1)
+        (λ y. let one : slice_get ((r.0, next_of nfa r.1) ∷ []) c ≡ Some t
+        = rw (one_choice nfa text (true_at nfa text) r y) at e in
+        inr (rw (one_choice nfa begun there r y) one, stays c one))
+        (λ y. inl (omega arith, y)))
+      where
+        stays : (c : ℕ) → slice_get ((r.0, next_of nfa r.1) ∷ []) c ≡ Some t → t.0 ≤ end
+        stays zero e = let same = ap (λ w. w.0) (some_injective _ t e) in omega arith
+        stays (suc c) e = absurd (let w : None ≡ Some t = e in cc)
+
+    -- a run that ends there or later in such a state passes it
+    pub passes : (cs : List ℕ) (held : List (ℕ × ℕ)) (r q : ℕ × ℕ) → r.0 ≤ end → end ≤ q.0
+        → is_capture nfa q.1 ≡ false → IsPath (choices nfa text) held r cs q → Passes held r
+    passes [] held r q l n k p =
+        let same = ap (λ w. w.0) p.1 in let here : end ≡ r.0 = omega arith in
+        ([], r.1, rw p.1 at k, (p.0, λ i. (here i, r.1)))
+    passes (c ∷ cs) held r q l n k p = by_cases (goes_on r p.1.0 c l p.1.1)
+        (λ (here, plain). ([], r.1, plain, (p.0, λ i. (here i, r.1))))
+        (λ (e, low). let d = passes cs (r ∷ held) p.1.0 q low n k p.1.2 in
+        (c ∷ d.0, d.1, d.2, (p.0, (p.1.0, e, d.3))))
+
+  -- a run that ends before is one over each of these texts
+  pub same_path : (more others : List ℕ) (ahead beyond : Option ℕ) (cs : List ℕ) (r q : ℕ × ℕ) → q.0 < end
+      → IsPath (choices nfa (between behind (bytes ++ more) ahead)) [] r cs q
+      → IsPath (choices nfa (between behind (bytes ++ others) beyond)) [] r cs q
+  same_path more others ahead beyond cs r q l p =
+      (path_agree (choices nfa one) (choices nfa other) (λ t. t.0 < end) step cs [] r q l p).1
     where
-      step : (p t : ℕ × ℕ) (c : ℕ) → slice_get (choices_under nfa text h p) c ≡ Some t → t.0 ≤ m
-          → (p.0 ≤ m) × (slice_get (choices_under nfa other g p) c ≡ Some t)
+      one : Text
+      one = between behind (bytes ++ more) ahead
+
+      other : Text
+      other = between behind (bytes ++ others) beyond
+
+      step : (p t : ℕ × ℕ) (c : ℕ) → slice_get (choices nfa one p) c ≡ Some t → t.0 < end
+          → (p.0 < end) × (slice_get (choices nfa other p) c ≡ Some t)
       step p t c e l =
-          let later = under_later nfa text h p t c e in (
-            omega arith,
-            by_cases (cases_lt p.0 m)
-                (λ k. rw (same_choices nfa text other h g p (byte p.0 k) (same p.0 k)) at e)
-                (λ k. let z : p.0 ≡ m = omega arith in
-                free_more nfa text other h g p t c (omega arith) (rw z more) e),
-          )
-
-module _ (nfa : Nfa) (text : Text) (m : ℕ) (inside : m ≤ length text.bytes) where
-  abbrev cut : Text
-  cut = upto text m
-
-  abbrev there : ℕ → Assertion → Bool
-  there = known_there nfa cut m
-
-  byte_cut : (i : ℕ) → i < m → slice_get text.bytes i ≡ slice_get cut.bytes i
-  byte_cut i l = sym (slice_get-take m text.bytes i l)
-
-  before_cut : (i : ℕ) → i ≤ m → before_at text i ≡ before_at cut i
-  before_cut zero l = refl
-  before_cut (suc i) l = byte_cut i l
-
-  after_cut : (i : ℕ) → i ≤ m → after_at text i ≡ after_at cut i
-  after_cut i l =
-      let size = length-take-le m text.bytes inside in
-      by_cases (cases_lt i m)
-      (λ j. rw (or_some text.bytes i text.ahead (omega arith), byte_cut i j, or_some cut.bytes i cut.ahead (omega arith)))
-      (λ j. let z : i ≡ m = omega arith in rw (z, slice_get_past cut.bytes m (omega arith)))
-
-  true_cut : (i : ℕ) → i ≤ m → true_at nfa text i ≡ true_at nfa cut i
-  true_cut i l = rw (before_cut i l, after_cut i l)
-
-  -- a run that ends there or before is one over the beginning
-  pub cut_path : (cs : List ℕ) (held : List (ℕ × ℕ)) (r q : ℕ × ℕ) → q.0 ≤ m → IsPath (choices nfa text) held r cs q
-      → IsPath (choices nfa cut) held r cs q
-  cut_path = path_upto nfa m text cut (true_at nfa text) (true_at nfa cut) byte_cut (λ i l. true_cut i (omega arith))
-      (λ look y. rw (true_cut m (omega arith)) at y)
-
-  known_before : (i : ℕ) → i < m → there i ≡ true_at nfa text i
-  known_before i l = rw (ne_eqb i m (λ e. omega arith), true_cut i (omega arith))
-
-  known_true : (look : Assertion) → there m look ≡ true → true_at nfa text m look ≡ true
-  known_true look y = known_truth nfa (before_at text m) (after_at text m) look
-      (rw (before_cut m (omega arith)) (rw (eq-eqb m m refl) at y))
-
-  same_before : (p : ℕ × ℕ) → p.0 < m → choices_under nfa cut there p ≡ choices nfa text p
-  same_before p l =
-      same_choices nfa cut text there (true_at nfa text) p (sym (byte_cut p.0 l)) (known_before p.0 l)
-
-  -- a run by what is known there is a run over the text
-  pub true_path : (cs : List ℕ) (held : List (ℕ × ℕ)) (r q : ℕ × ℕ) → q.0 ≤ m
-      → IsPath (choices_under nfa cut there) held r cs q → IsPath (choices nfa text) held r cs q
-  true_path = path_upto nfa m cut text there (true_at nfa text) (λ i l. sym (byte_cut i l)) known_before known_true
-
-  -- some state other than a capture, in which a run by what is known there is at the position
-  abbrev pub Passes : List (ℕ × ℕ) → ℕ × ℕ → Type 0
-  Passes held r = (ds : List ℕ) × (s : ℕ) × (is_capture nfa s ≡ false)
-      × IsPath (choices_under nfa cut there) held r ds (m, s)
-
-  after_one : (held : List (ℕ × ℕ)) (r t : ℕ × ℕ) (c : ℕ) → ¬ (Contains held r)
-      → slice_get (choices_under nfa cut there r) c ≡ Some t → Passes (r ∷ held) t → Passes held r
-  after_one held r t c out e d = (c ∷ d.0, d.1, d.2, (out, (t, e, d.3)))
-
-  -- a capture is followed by a state at the same position
-  in_place : (r t : ℕ × ℕ) (c : ℕ) → is_capture nfa r.1 ≡ true → slice_get (choices nfa text r) c ≡ Some t → t.0 ≡ r.0
-  in_place r t c y e = In_cases t (r.0, next_of nfa r.1) [] (c, rw (one_choice nfa text (true_at nfa text) r y) at e)
-      (λ z. ap (λ w. w.0) z)
-      (λ z. absurd (none-some t z.1))
-
-  -- a run that ends there or later in such a state has one as its beginning
-  pub passes : (cs : List ℕ) (held : List (ℕ × ℕ)) (r q : ℕ × ℕ) → r.0 ≤ m → m ≤ q.0
-      → is_capture nfa q.1 ≡ false → IsPath (choices nfa text) held r cs q → Passes held r
-  passes [] held r q l n k p =
-      let same : m ≡ r.0 = omega (arith, ap (λ w. w.0) p.1) in
-      ([], r.1, (rw p.1 at k), (p.0, λ i. (same i, r.1)))
-  passes (c ∷ cs) held r q l n k (out, (t, e, p)) = by_cases (cases_lt r.0 m)
-      (λ j. after_one held r t c out (rw (same_before r j) e)
-      (passes cs (r ∷ held) t q (choice_cases nfa text r t c e (λ z f. omega arith) (λ z f. omega arith)) n k p))
-      (λ j. by_test (is_capture nfa r.1)
-      (λ y. let place = in_place r t c y e in
-      after_one held r t c out (rw (capture_same nfa text cut (true_at nfa text) there r y) at e)
-      (passes cs (r ∷ held) t q (omega arith) n k p))
-      (λ y. let same : m ≡ r.0 = omega arith in ([], r.1, y, (out, λ i. (same i, r.1)))))
+          let low : p.0 ≤ t.0 = choice_later nfa one p t c e in
+          let before : p.0 < end = omega arith in
+          let byte = slice_get-append bytes more p.0 before ∙ sym (slice_get-append bytes others p.0 before) in
+          let true = true_same more ahead p.0 before ∙ sym (true_same others beyond p.0 before) in
+          (before, rw (same_choices nfa one other (true_at nfa one) (true_at nfa other) p byte true) at e)

@@ -1,6 +1,6 @@
 -- Runs from a later position, over the rest of a text.
 -- Main statements: later_run, run_within.
--- Used by: OneList, SearchInTurn, CoveredStarts.
+-- Used by: OneList, SearchInTurn, CoveredStarts, Rests.
 -- Idea: such a run keeps its choices (Shifts), and no run from the first position of a text leaves the text.
 use Rattle.determinize_find.proofs.Common.{AcceptsFrom, arith, each_run_moves, each_run_reads_forward, length}
 use Rattle.determinize_find.proofs.Common.{length-drop, List, Nfa, no_run_leaves_the_text, since, Text, ℕ, ◌+◌, ◌-◌}

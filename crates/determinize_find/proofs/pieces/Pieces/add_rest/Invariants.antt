@@ -1,10 +1,4 @@
-use Rattle.std.proofs.Common.{◌≡◌, ◌++◌, List, length, map}
-use Rattle.determinize_below.specs.declared.search.Match.{Match}
-use Rattle.determinize_find.specs.LeftmostIn.{moved}
-use Rattle.determinize_find.specs.Matches.{from}
-use Rattle.determinize_find.specs.Private.Left.{left}
-use Rattle.determinize_find.specs.Private.Windows.{end_before}
-use Rattle.determinize_find.specs.Streams.{whole}
+use Rattle.determinize_find.proofs.Common.{end_before, from, left, length, List, map, Match, moved, whole, ◌++◌, ◌≡◌}
 use Rattle.determinize_find.proofs.matches.NextMatch.{IsAfter}
 use Rattle.determinize_find.proofs.pieces.Pieces.add_rest.Given as goal
 

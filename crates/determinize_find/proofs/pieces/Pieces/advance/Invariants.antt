@@ -1,7 +1,5 @@
-use Rattle.std.proofs.Common.{◌≡◌, ◌<◌, ◌≤◌, ◌⊎◌, length}
-use Rattle.std.specs.Option.{IfNone, IfSome}
-use Rattle.std.specs.Prelude.{option_to_list}
-use Rattle.determinize_find.specs.Streams.{IsFoundInBlock, IsFrontFed, IsKept, IsSearching, KeepsFew, left_in}
+use Rattle.determinize_find.proofs.Common.{IfNone, IfSome, IsFoundInBlock, IsFrontFed, IsKept, IsSearching, KeepsFew}
+use Rattle.determinize_find.proofs.Common.{left_in, length, option_to_list, ◌<◌, ◌≡◌, ◌≤◌, ◌⊎◌}
 use Rattle.determinize_find.proofs.pieces.Pieces.advance.Given as goal
 
 abbrev pub invariant-loop-next : goal.invariant-loop-next

@@ -1,7 +1,3 @@
-use Rattle.std.proofs.Common.{◌∙◌, subst, sym}
-use Rattle.determinize_find.specs.Private.Windows.{HasMoved}
-use Rattle.determinize_find.specs.Regexes.{RegexValue}
-use Rattle.determinize_find.specs.Streams.{IsKeptScan, Streamed}
 use Rattle.determinize_find.proofs.streams.Moves.{moved_none, moved_on}
 use Rattle.determinize_find.proofs.pieces.Pieces.certain.Goals.{else-is_none, then-is_none+in_ok-settle}
 use Rattle.determinize_find.proofs.pieces.Pieces.certain.Goals as goal
@@ -14,20 +10,13 @@ returns-in_err-next-clause-moved g c _ = moved_none c.in_ok-scan.ensures.taken
 
 pub returns-in_err-settle-clause-moved : goal.returns-in_err-settle-clause-moved
 returns-in_err-settle-clause-moved g c searching =
-    moved_on (moved_none c.in_ok-scan.ensures.taken)
-    (subst (λ (v : RegexValue). IsKeptScan v.nfa c.take_scan.new.self c.in_ok-scan.scan
-    → HasMoved v.nfa c.take_scan.new.self c.settle.new.self)
-    (c.in_ok-next.ensures.same ∙ c.in_ok-scan.ensures.same) c.in_err-settle.ensures.moved
-    (c.in_ok-scan.ensures.scan searching))
+    moved_on (moved_none c.in_ok-scan.ensures.taken) ((rw (c.in_ok-next.ensures.same, c.in_ok-scan.ensures.same) at
+    c.in_err-settle.ensures.moved) (c.in_ok-scan.ensures.scan searching))
 
 pub returns-clause-moved : goal.returns-clause-moved
 returns-clause-moved g c searching = elim c.if-is_none.branch [
-  | then-is_none+in_ok-settle w ↦ subst (λ (s : Streamed). HasMoved c.args.regex.now.nfa c.args.self.now s)
-      (sym w.self-is) (moved_on (moved_none c.in_ok-scan.ensures.taken)
-      (subst (λ (v : RegexValue). IsKeptScan v.nfa c.take_scan.new.self c.in_ok-scan.scan
-      → HasMoved v.nfa c.take_scan.new.self w.settle.new.self)
-      (c.in_ok-next.ensures.same ∙ c.in_ok-scan.ensures.same) w.in_ok-settle.ensures.moved
-      (c.in_ok-scan.ensures.scan searching)))
-  | else-is_none w ↦ subst (λ (s : Streamed). HasMoved c.args.regex.now.nfa c.args.self.now s) (sym w.self-is)
-      (moved_none c.in_ok-scan.ensures.taken)
+  | then-is_none+in_ok-settle w ↦
+      let settle = rw (c.in_ok-next.ensures.same, c.in_ok-scan.ensures.same) at w.in_ok-settle.ensures.moved in
+      rw w.self-is (moved_on (moved_none c.in_ok-scan.ensures.taken) (settle (c.in_ok-scan.ensures.scan searching)))
+  | else-is_none w ↦ rw w.self-is (moved_none c.in_ok-scan.ensures.taken)
 ]

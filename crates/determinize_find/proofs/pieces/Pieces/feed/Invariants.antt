@@ -1,6 +1,4 @@
-use Rattle.std.proofs.Common.{◌≡◌}
-use Rattle.std.specs.Slice.Iter.{chunks_rest, chunks_size}
-use Rattle.determinize_find.specs.Streams.{IsSearching}
+use Rattle.determinize_find.proofs.Common.{chunks_rest, chunks_size, IsSearching, ◌≡◌}
 use Rattle.determinize_find.proofs.streams.Kept.{HasRead}
 use Rattle.determinize_find.proofs.pieces.Pieces.feed.Given as goal
 

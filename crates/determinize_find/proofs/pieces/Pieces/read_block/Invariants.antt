@@ -1,5 +1,4 @@
-use Rattle.std.proofs.Common.{◌≡◌, []}
-use Rattle.determinize_find.specs.Streams.{IsFed, IsSearching, left_in}
+use Rattle.determinize_find.proofs.Common.{IsFed, IsSearching, left_in, [], ◌≡◌}
 use Rattle.determinize_find.proofs.pieces.Pieces.read_block.Given as goal
 
 abbrev pub invariant-loop-next : goal.invariant-loop-next

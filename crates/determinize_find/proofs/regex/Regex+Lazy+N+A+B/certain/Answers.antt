@@ -27,8 +27,7 @@ returns-in_default-2-clause-unsettled g c scan =
 certain : (g : Over) (c : In-Some-2 g) (h : HasCertain c.args.self.now.nfa c.args.haystack.now c.args.start
     c.args.scan.now c.in-Some.half) → IsCertain c.args.self.now.nfa c.args.haystack.now c.args.start
     record { pattern = c.in-Some.half.pattern; start = c.in-Some-2.begin; end = c.args.start + c.in-Some.half.offset }
-certain g c h = certain_is h c.in_ok-begin.ensures.reverse.0 c.in_ok-begin.ensures.reverse.1 c.in-Some-2.begin
-    (rw c.in-Some-2.is at c.in_ok-begin.ensures.start)
+certain g c h = certain_is h c.in-Some-2.begin (rw c.in-Some-2.is at c.in_ok-begin.ensures.start)
 
 pub returns-then-begin-haystack-clause-unsettled : goal.returns-then-begin-haystack-clause-unsettled
 returns-then-begin-haystack-clause-unsettled g c scan =
