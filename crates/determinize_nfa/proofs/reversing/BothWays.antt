@@ -1,22 +1,24 @@
 -- The runs of a reversed NFA are the runs of the NFA, in the other direction.
 -- Main statements: made_reverse, the `IsReverseOf` of what was recorded.
--- Used by: MadeNfa.
+-- Used by: `reversed`.
 -- Idea: each transition that a run takes is one or two steps of the other NFA at the mirrored position (Mirrors), and a
 -- walk gives a loop-free run (LoopFree).
 use Rattle.determinize_nfa.proofs.Common.{AcceptsFrom, Arc, Assertion, Free, In, In_head, In_map_from, In_none}
 use Rattle.determinize_nfa.proofs.Common.{IsReverseOf, List, Match, Nfa, Node, None, Range, Some, Test, Text, Turned}
 use Rattle.determinize_nfa.proofs.Common.{Union, [], after_at, ap, arcs_of, arith, before_at, by_cases, cases_lt}
-use Rattle.determinize_nfa.proofs.Common.{choices, inl, inr, length, map, next_of, not, path_stays, pattern_in}
-use Rattle.determinize_nfa.proofs.Common.{pattern_of, refl, reversed, same_pairs, slice_get, sources, state_at}
-use Rattle.determinize_nfa.proofs.Common.{states_of, suc, sym, turned, upto, ℕ, ◌+◌, ◌-◌, ◌<◌, ◌∙◌, ◌≡◌, ◌≤◌, ◌⊎◌}
+use Rattle.determinize_nfa.proofs.Common.{choices, gathered, inl, inr, length, map, next_of, not, path_stays}
+use Rattle.determinize_nfa.proofs.Common.{pattern_in, pattern_of, refl, reversed, same_pairs, slice_get, sources}
+use Rattle.determinize_nfa.proofs.Common.{state_at, states_of, suc, sym, turned, upto, ℕ, ◌+◌, ◌-◌, ◌<◌, ◌∙◌, ◌≡◌, ◌≤◌}
+use Rattle.determinize_nfa.proofs.Common.{◌⊎◌}
 use Rattle.determinize_below.proofs.looks.ReversedLooks.{reversed_holds}
 use Rattle.determinize_below.proofs.nfas.SoundNfa.{match_in}
 use Rattle.determinize_below.specs.Semantics.{Accepts}
 use Rattle.determinize_nfa.proofs.kinds.ArcsOfStates.{Takes}
 use Rattle.determinize_nfa.proofs.kinds.TestedLists.{In_one}
 use Rattle.determinize_nfa.proofs.reversing.Recorded.{IsAt, IsRecorded, alone, turned_to}
-use Rattle.determinize_nfa.proofs.reversing.StatesById.{IsLaid, alone_is, arc_within, gathered_is, laid_out}
-use Rattle.determinize_nfa.proofs.reversing.StatesById.{pattern_within, sources_within}
+use Rattle.determinize_nfa.proofs.reversing.StatesById.{IsLaid, arc_within, arcs-alone, arcs-gathered, ascends-alone}
+use Rattle.determinize_nfa.proofs.reversing.StatesById.{edges-gathered, laid_out, next-turned, pattern-alone}
+use Rattle.determinize_nfa.proofs.reversing.StatesById.{pattern-gathered, pattern_within, sources_within}
 use Rattle.determinize_nfa.proofs.runs.Choices.{arc_choice, choice_arc, choice_later, choice_leads, free_choice}
 use Rattle.determinize_nfa.proofs.runs.Choices.{true_at}
 use Rattle.determinize_nfa.proofs.runs.Mirrors.{each_reading_is_mirrored}
@@ -89,7 +91,7 @@ module _ (nfa backward : Nfa) (met : List ℕ) (h : Turned) (made : IsMadeOf nfa
   to_source r t y k =
       let l : t < length h.into = sources_within h t y k in
       let c : length h.into ≡ n = recorded.sound.count in
-      free_choice backward back r t y (rw (laid.gathers t (omega arith), (gathered_is (sources h t)).edges) k)
+      free_choice backward back r t y (rw (laid.gathers t (omega arith), edges-gathered _ (sources h t)) k)
 
   by_one : (p q : ℕ × ℕ) → In q (steps p) → Leads steps p q
   by_one p q k = leads_by steps p q q k (leads_here steps q)
@@ -98,21 +100,19 @@ module _ (nfa backward : Nfa) (met : List ℕ) (h : Turned) (made : IsMadeOf nfa
   forth : (r q i k s : ℕ) (a : Arc) → q + i ≡ j → r + k ≡ j → In s met → In a (arcs_of (state_at nfa s))
       → TakesOn i k a → Leads steps (r, next_of a) (q, s)
   forth r q i k s a e f m d t =
-      let there = (recorded.nodes s m).arcs a d in by_kind a there.1 there.2 (turns r q i k s a e f t)
+      let w = (recorded.nodes s m).arcs a d in
+      let v : TakesBack r q (turned_to s a) = turns r q i k s a e f t in
+      by_cases w.2
+      (λ z. rw (rw z.0 at v) (by_one (r, next_of a) (r, s) (to_source r (next_of a) s (rw z.1 at w.1))))
+      (λ z. leads_by steps _ _ _ (to_source r (next_of a) w.0 w.1) (by_one _ _ (by_state w.0 z.0 z.1 z.2 v)))
     where
-      by_state : (y x : ℕ) (b : Arc) → y ≡ n + 2 + x → slice_get h.rest x ≡ Some (alone b) → TakesBack r q b
-          → In (q, next_of b) (steps (r, y))
-      by_state y x b z w v =
+      by_state : (y x : ℕ) → y ≡ n + 2 + x → slice_get h.rest x ≡ Some (alone (turned_to s a))
+          → TakesBack r q (turned_to s a) → In (q, s) (steps (r, y))
+      by_state y x z w v =
+          let b = turned_to s a in
           let is : state_at backward y ≡ alone b = rw z (laid.others x (alone b) w) in
-          arc_choice backward back r q y b (rw is (alone_is b).ascends) (rw (is, (alone_is b).arcs) (In_head b [])) v
-
-      by_kind : {y : ℕ} (a : Arc) → In y (sources h (next_of a)) → IsAt n h.rest y s a → TakesBack r q (turned_to s a)
-          → Leads steps (r, next_of a) (q, s)
-      by_kind {y} (Range v) i d t = leads_by steps _ _ _ (to_source r v.next y i)
-          (by_one _ _ (by_state y d.0 (turned_to s (Range v)) d.1 d.2 t))
-      by_kind {y} (Test look next) i d t = leads_by steps _ _ _ (to_source r next y i)
-          (by_one _ _ (by_state y d.0 (turned_to s (Test look next)) d.1 d.2 t))
-      by_kind {y} (Free next) i d t = rw t (by_one (r, next) (r, s) (to_source r next s (rw d at i)))
+          rw (next-turned s a) at (arc_choice backward back r q y b (rw is (ascends-alone b))
+          (rw (is, arcs-alone b) (In_head b [])) v)
 
   -- where a run of the NFA from position k has come to, the reversed NFA can go on to where the run begins
   module _ (k : ℕ) (low : k ≤ j) where
@@ -182,32 +182,29 @@ module _ (nfa backward : Nfa) (met : List ℕ) (h : Turned) (made : IsMadeOf nfa
   from_state : (r x c : ℕ) (q : ℕ × ℕ) → r ≤ j → x < n → Accepting (j - r) x → slice_get (steps (r, x)) c ≡ Some q
       → HasReadAt q
   from_state r x c q l m acc k =
-      let d = free_step r x c q (sources h x) _ (laid.gathers x m) (gathered_is (sources h x)).arcs k in
+      let d = free_step r x c q (sources h x) _ (laid.gathers x m) (arcs-gathered (sources h x)) k in
       rw d.0 (l, inr (inr (x, d.1, acc)))
 
   -- from a state that has one transition, which is that of another in the other direction
   from_alone : (r x i c s : ℕ) (a : Arc) (q : ℕ × ℕ) → r ≤ j → x ≡ n + 2 + i
-      → slice_get h.rest i ≡ Some (alone (turned_to s a))
-      → next_of (turned_to s a) ≡ s → In a (arcs_of (state_at nfa s)) → Accepting (j - r) (next_of a)
-      → slice_get (steps (r, x)) c ≡ Some q → HasReadAt q
-  from_alone r x i c s a q l z w same d acc k =
+      → slice_get h.rest i ≡ Some (alone (turned_to s a)) → In a (arcs_of (state_at nfa s))
+      → Accepting (j - r) (next_of a) → slice_get (steps (r, x)) c ≡ Some q → HasReadAt q
+  from_alone r x i c s a q l z w d acc k =
       let b = turned_to s a in
       let is : state_at backward x ≡ alone b = rw z (laid.others i (alone b) w) in
       let e = choice_arc backward back (true_at backward back) (r, x) q c k in
-      let only : e.0 ≡ b = In_one e.0 b (rw (is, (alone_is b).arcs) at e.1) in
+      let only : e.0 ≡ b = In_one e.0 b (rw (is, arcs-alone b) at e.1) in
       let takes : TakesBack r q.0 b = rw only at e.3 in
-      let to : s ≡ q.1 = sym same ∙ sym (ap next_of only) ∙ e.2 in
+      let to : s ≡ q.1 = sym (next-turned s a) ∙ sym (ap next_of only) ∙ e.2 in
       let m : q.0 ≤ j = later r q.0 b l takes in
       let u = turns_back r q.0 (j - q.0) (j - r) s a (omega arith) (omega arith) takes in
       (m, inr (inl (rw to at (arc_before (j - q.0) (j - r) s a d u acc))))
 
   from_source : (r x c s : ℕ) (a : Arc) (q : ℕ × ℕ) → r ≤ j → IsAt n h.rest x s a → In a (arcs_of (state_at nfa s))
       → Accepting (j - r) (next_of a) → slice_get (steps (r, x)) c ≡ Some q → HasReadAt q
-  from_source r x c s (Range v) q l i d acc k = from_alone r x i.0 c s (Range v) q l i.1 i.2 refl d acc k
-  from_source r x c s (Test look t) q l i d acc k = from_alone r x i.0 c s (Test look t) q l i.1 i.2 refl d acc k
-  from_source r x c s (Free t) q l i d acc k =
-      let b = arc_before (j - r) (j - r) s (Free t) d refl acc in
-      from_state r s c q l b.0 b.1 (rw i at k)
+  from_source r x c s a q l i d acc k = by_cases i
+      (λ z. let b = arc_before (j - r) (j - r) s a d (rw z.0 refl) acc in from_state r s c q l b.0 b.1 (rw z.1 at k))
+      (λ z. from_alone r x z.0 c s a q l z.1 z.2 d acc k)
 
   read_on : (p q : ℕ × ℕ) (c : ℕ) → HasReadAt p → slice_get (steps p) c ≡ Some q → HasReadAt q
   read_on p q c d k = by_cases d.1
@@ -233,14 +230,11 @@ module _ (nfa backward : Nfa) (met : List ℕ) (h : Turned) (made : IsMadeOf nfa
 
   no_pattern_at : {P : Type 0} (x s other : ℕ) (a : Arc) → In a (arcs_of (state_at nfa s)) → IsAt n h.rest x s a
       → state_at backward x ≡ Match other → P
-  no_pattern_at x s other (Range v) d i m =
-      let b = turned_to s (Range v) in
-      no_pattern x other (alone b) (rw i.1 (laid.others i.0 (alone b) i.2)) (alone_is b).pattern m
-  no_pattern_at x s other (Test look t) d i m =
-      let b = turned_to s (Test look t) in
-      no_pattern x other (alone b) (rw i.1 (laid.others i.0 (alone b) i.2)) (alone_is b).pattern m
-  no_pattern_at x s other (Free t) d i m =
-      no_pattern x other _ (laid.gathers x (rw i (arc_within nfa s (Free t) d))) (gathered_is (sources h x)).pattern m
+  no_pattern_at x s other a d i m = by_cases i
+      (λ z. no_pattern x other (gathered (sources h x)) (laid.gathers x (rw z.1 (arc_within nfa s a d)))
+      (pattern-gathered (sources h x)) m)
+      (λ z. let b = alone (turned_to s a) in
+      no_pattern x other b (rw z.1 (laid.others z.0 b z.2)) (pattern-alone (turned_to s a)) m)
 
   pub run_reversed : (k : ℕ) → k ≤ j → (cs : List ℕ) (other : ℕ)
       → Accepts backward back backward.start_anchored cs (j - k) other
@@ -251,7 +245,7 @@ module _ (nfa backward : Nfa) (met : List ℕ) (h : Turned) (made : IsMadeOf nfa
       by_cases d.1
       (λ f. no_pattern acc.0 other (Union h.ends) (rw f.1 laid.starts) refl acc.2)
       (λ f. by_cases f
-      (λ g. no_pattern acc.0 other _ (laid.gathers acc.0 g.0) (gathered_is (sources h acc.0)).pattern acc.2)
+      (λ g. no_pattern acc.0 other _ (laid.gathers acc.0 g.0) (pattern-gathered (sources h acc.0)) acc.2)
       (λ g. by_cases (recorded.sound.into g.0 acc.0 g.1)
       (λ w. let z : j - (j - k) ≡ k = omega arith in
       let a : Accepting k nfa.start_anchored = rw (z, w.1) at g.2 in

@@ -1,20 +1,44 @@
 -- How many states a reversed NFA has.
--- Main statements: total_turned, room, room_arc, length-states.
--- Used by: the clauses `size` of `reversed` and `err` of the functions of `Turned`.
+-- Main statements: count-arc, length-states, most, room_arc, room, over the record IsOver.
+-- Used by: Validation, and `add_node`, `add_nodes` and `reversed` of the module `reversal`.
 -- Idea: each reached state adds the number that `reads_in` counts, and each state is reached once.
 use Rattle.determinize_nfa.proofs.Common.{Arc, BuildError, Dense, Fail, Free, ID_LIMIT, IsDistinct, IsTooLarge, List}
-use Rattle.determinize_nfa.proofs.Common.{Look, Match, Nfa, Node, Range, Sparse, Test, Transition, Turned, Union, []}
-use Rattle.determinize_nfa.proofs.Common.{added, ap, arcs_of, arith, by_cases, eq-eqb, false, false≢true, gathered}
-use Rattle.determinize_nfa.proofs.Common.{get_or, get_or-set_other, inl, inr, length, length-append, length-map, map}
-use Rattle.determinize_nfa.proofs.Common.{most_states, nat_eq, none_turned, range_to, refl, reversed, runs, set}
-use Rattle.determinize_nfa.proofs.Common.{state_at, states_of, suc, sym, total, turned_over, with_arc, with_arcs}
-use Rattle.determinize_nfa.proofs.Common.{with_end, with_node, with_nodes, zero, ℕ, ◌+◌, ◌<◌, ◌∙◌, ◌∷◌, ◌≡◌, ◌≤◌}
+use Rattle.determinize_nfa.proofs.Common.{Look, Match, Nfa, Node, Range, Some, Sparse, Test, Transition, Turned, Union}
+use Rattle.determinize_nfa.proofs.Common.{[], added, ap, arcs_of, arith, by_cases, eq-eqb, false, false≢true, gathered}
+use Rattle.determinize_nfa.proofs.Common.{get_or, get_or-set_other, inl, inr, length, length-append, length-map}
+use Rattle.determinize_nfa.proofs.Common.{length-replicate, length-set, map, most_states, nat_eq, none_turned, range_to}
+use Rattle.determinize_nfa.proofs.Common.{refl, replicate, reversed, runs, set, slice_get, sources, state_at, states_of}
+use Rattle.determinize_nfa.proofs.Common.{suc, sym, total, turned_over, with_arc, with_arcs, with_end, with_node}
+use Rattle.determinize_nfa.proofs.Common.{with_nodes, zero, ℕ, ◌++◌, ◌+◌, ◌<◌, ◌∙◌, ◌∷◌, ◌≡◌, ◌≤◌}
 use Rattle.std.specs.List.{AllByRecursion, sum_by}
 use Rattle.std.proofs.lemmas.List.Sums.{sum_by-cons}
 use Rattle.determinize_nfa.proofs.kinds.TableRuns.{length-runs}
-use Rattle.determinize_nfa.proofs.reversing.Steps.{IsOver, count-arc, count-none}
 use Rattle.determinize_nfa.specs.Reversal.{reads_in}
 use Rattle.std.proofs.lemmas.Map.Keys.{IsDistinct-head, IsDistinct-tail}
+use Rattle.determinize_nfa.proofs.prefixes.Parts.{state_is}
+use Rattle.determinize_nfa.specs.Private.Turning.{IsTurnedOver}
+
+-- there is one list for each state
+pub count-arc : (s : ℕ) (arc : Arc) (h : Turned) → length (with_arc h s arc).into ≡ length h.into
+count-arc s (Range r) h = length-set h.into r.next (sources h r.next ++ (length h.into + 2 + length h.rest) ∷ [])
+count-arc s (Test look next) h = length-set h.into next (sources h next ++ (length h.into + 2 + length h.rest) ∷ [])
+count-arc s (Free next) h = length-set h.into next (sources h next ++ s ∷ [])
+
+pub count-arcs : (s : ℕ) (arcs : List Arc) (h : Turned) → length (with_arcs h s arcs).into ≡ length h.into
+count-arcs s [] h = refl
+count-arcs s (arc ∷ arcs) h = count-arcs s arcs (with_arc h s arc) ∙ count-arc s arc h
+
+count-end : (s : ℕ) (node : Node) (h : Turned) → length (with_end h s node).into ≡ length h.into
+count-end s (Match pattern) h = refl
+count-end s node h = refl
+
+count-node : (s : ℕ) (node : Node) (h : Turned) → length (with_node h s node).into ≡ length h.into
+count-node s node h = count-end s node (with_arcs h s (arcs_of node)) ∙ count-arcs s (arcs_of node) h
+
+pub count-none : (nfa : Nfa)
+    → length (added (none_turned (length nfa.states)) nfa.start_anchored (length nfa.states)).into ≡ length nfa.states
+count-none nfa = length-set (replicate (length nfa.states) []) nfa.start_anchored _
+    ∙ length-replicate (length nfa.states) []
 
 -- how many states a transition adds
 abbrev reads : Arc → ℕ
@@ -111,6 +135,11 @@ pub length-states : (h : Turned) → length (states_of h) ≡ total h
 length-states h =
     omega (arith, length-append (map gathered h.into) (Match 0 ∷ Union h.ends ∷ h.rest), length-map h.into gathered)
 
+pub most : (nfa : Nfa) (h : Turned) (over : IsTurnedOver nfa h) → length (states_of h) ≤ most_states nfa
+most nfa h over =
+    let e : total (turned_over nfa over.met) ≡ total h = ap total over.is in
+    omega (arith, length-states h, e, total_turned nfa over.met over.distinct)
+
 -- there is room for the next transition of a state
 pub room_arc : (s : ℕ) (node : Node) (a : Arc) (left arcs : List Arc) (old h : Turned)
     → with_arcs old s (arcs_of node) ≡ with_arcs h s left → left ≡ a ∷ arcs
@@ -119,7 +148,19 @@ room_arc s node a left arcs old h w e =
     let b : total (with_arcs old s (arcs_of node)) ≡ total (with_arcs (with_arc h s a) s arcs) = ap total (rw e at w) in
     omega (arith, b, total_arcs s arcs (with_arc h s a), total_end s node (with_arcs old s (arcs_of node)))
 
--- and for those of the states of the list
+-- the states of a list, one by one: those that are left
+pub record IsOver (nfa : Nfa) (whole h : Turned) (left : List ℕ) : Type 0 where
+  pub count : length h.into ≡ length nfa.states
+  pub rest : whole ≡ with_nodes nfa h left
+
+pub over_more : (nfa : Nfa) (whole h : Turned) (s : ℕ) (all left : List ℕ) (node : Node) → IsOver nfa whole h all
+    → all ≡ s ∷ left → slice_get nfa.states s ≡ Some node → IsOver nfa whole (with_node h s node) left
+over_more nfa whole h s all left node o e n = record {
+  count = count-node s node h ∙ o.count;
+  rest = rw (e, state_is nfa s node n) at o.rest;
+}
+
+-- and for the states that are left
 pub room : (nfa : Nfa) (met left : List ℕ) (h : Turned) → IsDistinct nat_eq met
     → IsOver nfa (turned_over nfa met) h left → total h ≤ most_states nfa
 room nfa met left h d o =

@@ -1,6 +1,6 @@
 -- What the recorded transitions say of the NFA: each is one of it, and those of the states so far are there.
 -- Main statements: all_recorded, over the records IsSound, HasNode and IsRecorded.
--- Used by: BothWays, Validation and MadeNfa.
+-- Used by: BothWays, Validation and `reversed`.
 -- Idea: what is recorded only grows, and an entry keeps its place, so a fact of one entry stays true; induction on the
 -- lists of the transitions and of the states.
 use Rattle.determinize_nfa.proofs.Common.{All_at, Arc, ByteRange, Fail, Free, In, In_append_cases, In_append_left}
@@ -8,10 +8,10 @@ use Rattle.determinize_nfa.proofs.Common.{In_append_right, In_cases, In_head, In
 use Rattle.determinize_nfa.proofs.Common.{List, Look, Match, Nfa, Node, None, Range, Some, Test, Turned, [], added, ap}
 use Rattle.determinize_nfa.proofs.Common.{arcs_of, arith, by_cases, cases_lt, each_passes, get_or, get_or-set_other}
 use Rattle.determinize_nfa.proofs.Common.{get_or_past, inl, inr, is_sparse_sound, length, length-replicate, length-set}
-use Rattle.determinize_nfa.proofs.Common.{next_of, none_turned, pattern_in, pattern_of, range_to, refl, replicate}
-use Rattle.determinize_nfa.proofs.Common.{reversed, slice_get, slice_get-get_or, sources, state_at, suc, sym, true}
-use Rattle.determinize_nfa.proofs.Common.{with_arc, with_arcs, with_end, with_node, with_nodes, with_state, zero, ℕ}
-use Rattle.determinize_nfa.proofs.Common.{◌++◌, ◌+◌, ◌<◌, ◌∙◌, ◌∷◌, ◌≡◌, ◌⊎◌}
+use Rattle.determinize_nfa.proofs.Common.{next_of, none_turned, pattern_in, pattern_of, refl, replicate, reversed}
+use Rattle.determinize_nfa.proofs.Common.{slice_get, slice_get-get_or, sources, state_at, suc, sym, true, with_arc}
+use Rattle.determinize_nfa.proofs.Common.{with_arcs, with_end, with_node, with_nodes, with_state, zero, ℕ, ◌++◌, ◌+◌}
+use Rattle.determinize_nfa.proofs.Common.{◌<◌, ◌∙◌, ◌∷◌, ◌≡◌, ◌⊎◌}
 use Rattle.std.specs.Prelude.{slice_set}
 use Rattle.determinize_below.proofs.nfas.Edges.{state_past}
 use Rattle.determinize_below.specs.Semantics.{Capture}
@@ -35,8 +35,8 @@ turned_to s (Free next) = Free s
 
 -- the id of the recorded transition of s: s itself, or that of a state with the turned transition alone
 abbrev pub IsAt : ℕ → List Node → ℕ → ℕ → Arc → Type 0
-IsAt n rest y s (Free next) = y ≡ s
-IsAt n rest y s a = (i : ℕ) × (y ≡ n + 2 + i) × (slice_get rest i ≡ Some (alone (turned_to s a)))
+IsAt n rest y s a = ((a ≡ Free (next_of a)) × (y ≡ s))
+    ⊎ ((i : ℕ) × (y ≡ n + 2 + i) × (slice_get rest i ≡ Some (alone (turned_to s a))))
 
 -- the id is that of a recorded transition to t, or of the match state if t is the anchored start
 abbrev pub IsSource : Nfa → List Node → ℕ → ℕ → Type 0
@@ -110,9 +110,7 @@ slice_get-last (z ∷ xs) x = slice_get-last xs x
 
 at_stays : (n : ℕ) (old new : List Node) (y s : ℕ) (a : Arc)
     → ((i : ℕ) (x : Node) → slice_get old i ≡ Some x → slice_get new i ≡ Some x) → IsAt n old y s a → IsAt n new y s a
-at_stays n old new y s (Range r) g d = (d.0, d.1, g d.0 (alone (turned_to s (Range r))) d.2)
-at_stays n old new y s (Test look next) g d = (d.0, d.1, g d.0 (alone (turned_to s (Test look next))) d.2)
-at_stays n old new y s (Free next) g d = d
+at_stays n old new y s a g d = by_cases d inl (λ e. inr (e.0, e.1, g e.0 (alone (turned_to s a)) e.2))
 
 module _ (nfa : Nfa) where
   abbrev n : ℕ
@@ -132,21 +130,19 @@ module _ (nfa : Nfa) where
   arc_stays : {old new : Turned} (s : ℕ) (a : Arc) → IsMore nfa old new → HasArc nfa old s a → HasArc nfa new s a
   arc_stays s a m d = (d.0, m.into (next_of a) d.0 d.1, at_stays _ _ _ d.0 s a m.rest d.2)
 
-  -- one more id, of a transition of s that is recorded there, or of that to the anchored start
+  -- one more id, of a transition of s, or of that to the anchored start
+  abbrev pushed : Turned → ℕ → ℕ → List Node → Turned
+  pushed h t y rest = record { into = slice_set h.into t (sources h t ++ y ∷ []); rest = rest; ends = h.ends }
+
   pushed_more : (h : Turned) (s y : ℕ) (a : Arc) (rest : List Node) → IsSound nfa h → next_of a < n
       → ((i : ℕ) (x : Node) → slice_get h.rest i ≡ Some x → slice_get rest i ≡ Some x)
       → ((x : Node) → In x rest → In x h.rest ⊎ ((s < n) × (x ≡ alone (turned_to s a))))
-      → IsAt n rest y s a → IsSource nfa rest (next_of a) y → (new : Turned) → new ≡ record {
-        into = slice_set h.into (next_of a) (sources h (next_of a) ++ y ∷ []);
-        rest = rest;
-        ends = h.ends;
-      }
-      → IsMore nfa h new × HasArc nfa new s a
-  pushed_more h s y a rest sound l stays came is source new e =
+      → IsAt n rest y s a → IsSource nfa rest (next_of a) y
+      → IsMore nfa h (pushed h (next_of a) y rest) × HasArc nfa (pushed h (next_of a) y rest) s a
+  pushed_more h s y a rest sound l stays came is source =
       let c : length h.into ≡ n = sound.count in
       let t = next_of a in
-      let within : t < length h.into = omega arith in
-      rw e (
+      let within : t < length h.into = omega arith in (
         record {
           sound = record {
             count = length-set h.into t (sources h t ++ y ∷ []) ∙ c;
@@ -167,38 +163,33 @@ module _ (nfa : Nfa) where
   -- the match state, for the anchored start
   begin_more : (h : Turned) → IsSound nfa h → nfa.start_anchored < n → IsMore nfa h (added h nfa.start_anchored n)
       × HasArc nfa (added h nfa.start_anchored n) n (Free nfa.start_anchored)
-  begin_more h sound l = pushed_more h n n (Free nfa.start_anchored) h.rest sound l (λ i x e. e) (λ x k. inl k) refl
-      (inl (refl, refl)) _ refl
+  begin_more h sound l = pushed_more h n n (Free nfa.start_anchored) h.rest sound l (λ i x e. e) (λ x k. inl k)
+      (inl (refl, refl)) (inl (refl, refl))
 
   module _ (accepted : IsAccepted nfa) (s : ℕ) (low : s < n) where
-    -- one transition of the state s
+    target_below : (a : Arc) → In a (arcs_of (state_at nfa s)) → next_of a < n
+    target_below a k = arc_resolves n (state_at nfa s) a
+        (each_passes nfa accepted s (state_at nfa s) (slice_get-get_or nfa.states s Fail low)).resolves k
+
+    -- a state for a transition of the state s
+    state_more : (h : Turned) (a : Arc) → IsSound nfa h → In a (arcs_of (state_at nfa s))
+        → IsMore nfa h (with_state h (next_of a) (alone (turned_to s a)))
+        × HasArc nfa (with_state h (next_of a) (alone (turned_to s a))) s a
+    state_more h a sound k =
+        let x = alone (turned_to s a) in
+        let is : IsAt n (h.rest ++ x ∷ []) (length h.into + 2 + length h.rest) s a
+        = inr (length h.rest, ap (λ c. c + 2 + length h.rest) sound.count, slice_get-last h.rest x) in
+        pushed_more h s (length h.into + 2 + length h.rest) a (h.rest ++ x ∷ []) sound (target_below a k)
+        (slice_get-left h.rest (x ∷ []))
+        (λ y i. In_append_cases y h.rest (x ∷ []) i inl (λ d. inr (low, In_one y x d)))
+        is (inr (s, a, k, refl, is))
+
     arc_more : (h : Turned) (a : Arc) → IsSound nfa h → In a (arcs_of (state_at nfa s))
         → IsMore nfa h (with_arc h s a) × HasArc nfa (with_arc h s a) s a
-    arc_more h a sound k = by_kind a k
-      where
-        target_below : (a : Arc) → In a (arcs_of (state_at nfa s)) → next_of a < n
-        target_below a k = arc_resolves n (state_at nfa s) a
-            (each_passes nfa accepted s (state_at nfa s) (slice_get-get_or nfa.states s Fail low)).resolves k
-
-        last : (x : Node) → (i : ℕ) × (length h.into + 2 + length h.rest ≡ n + 2 + i)
-            × (slice_get (h.rest ++ x ∷ []) i ≡ Some x)
-        last x = (length h.rest, ap (λ c. c + 2 + length h.rest) sound.count, slice_get-last h.rest x)
-
-        by_state : (a : Arc) → In a (arcs_of (state_at nfa s))
-            → IsAt n (h.rest ++ alone (turned_to s a) ∷ []) (length h.into + 2 + length h.rest) s a
-            → IsMore nfa h (with_state h (next_of a) (alone (turned_to s a)))
-            × HasArc nfa (with_state h (next_of a) (alone (turned_to s a))) s a
-        by_state a k is = pushed_more h s _ a _ sound (target_below a k)
-            (slice_get-left h.rest (alone (turned_to s a) ∷ []))
-            (λ x i. In_append_cases x h.rest (alone (turned_to s a) ∷ []) i inl (λ d. inr (low, In_one x _ d)))
-            is (inr (s, a, k, refl, is)) _ refl
-
-        by_kind : (a : Arc) → In a (arcs_of (state_at nfa s))
-            → IsMore nfa h (with_arc h s a) × HasArc nfa (with_arc h s a) s a
-        by_kind (Range r) k = by_state (Range r) k (last (range_to s r))
-        by_kind (Test look next) k = by_state (Test look next) k (last (Look (reversed look) s))
-        by_kind (Free next) k = pushed_more h s s (Free next) h.rest sound (target_below (Free next) k) (λ i x e. e)
-            (λ x i. inl i) refl (inr (s, Free next, k, refl, refl)) _ refl
+    arc_more h (Range r) sound k = state_more h (Range r) sound k
+    arc_more h (Test look next) sound k = state_more h (Test look next) sound k
+    arc_more h (Free next) sound k = pushed_more h s s (Free next) h.rest sound (target_below (Free next) k)
+        (λ i x e. e) (λ x i. inl i) (inl (refl, refl)) (inr (s, Free next, k, refl, inl (refl, refl)))
 
     arcs_more : (h : Turned) (arcs : List Arc) → IsSound nfa h
         → ((a : Arc) → In a arcs → In a (arcs_of (state_at nfa s)))
@@ -285,6 +276,8 @@ module _ (nfa : Nfa) where
             (λ l. (each_passes nfa accepted s (state_at nfa s) (slice_get-get_or nfa.states s Fail l)).ascends)
             (λ l. rw (state_past nfa s l) refl);
         sound = all.0.sound;
-        begins = all.0.into nfa.start_anchored n (rw begin.1.2 at begin.1.1);
+        begins = all.0.into nfa.start_anchored n (by_cases begin.1.2
+            (λ z. rw z.1 at begin.1.1)
+            (λ z. absurd (let e : None ≡ Some (alone (turned_to n (Free nfa.start_anchored))) = z.2 in cc)));
         nodes = all.1;
       })

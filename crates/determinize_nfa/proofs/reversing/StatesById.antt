@@ -1,39 +1,39 @@
 -- The states of a reversed NFA by their ids: gathering states, the match, the start, and then those that read.
--- Main statements: laid_out, gathered_is, alone_is, arc_within, pattern_within.
--- Used by: BothWays, OnePattern and Validation.
+-- Main statements: laid_out, arcs-gathered, arcs-alone, arc_within, pattern_within.
+-- Used by: BothWays and Validation.
 -- Idea: a state that gathers has the same transitions whichever kind it is, and ids are places in a list of four parts.
 use Rattle.determinize_nfa.proofs.Common.{Arc, Assertion, Bool, Fail, Free, In, In_none, List, Match, Nfa, Node, None}
-use Rattle.determinize_nfa.proofs.Common.{Range, Some, Test, Turned, Union, [], arcs_of, arith, by_cases, cases_lt}
-use Rattle.determinize_nfa.proofs.Common.{edges_of, gathered, get_or, get_or_from_slice_get, get_or_past}
-use Rattle.determinize_nfa.proofs.Common.{is_sparse_sound, length, length-map, map, pattern_in, pattern_of, refl}
-use Rattle.determinize_nfa.proofs.Common.{slice_get, sources, state_at, states_of, suc, true, ℕ, ◌+◌, ◌<◌, ◌∙◌, ◌∷◌}
-use Rattle.determinize_nfa.proofs.Common.{◌≡◌}
+use Rattle.determinize_nfa.proofs.Common.{Some, Turned, Union, [], arcs_of, arith, by_cases, cases_lt, edges_of}
+use Rattle.determinize_nfa.proofs.Common.{gathered, get_or, get_or_from_slice_get, get_or_past, is_sparse_sound, length}
+use Rattle.determinize_nfa.proofs.Common.{length-map, map, next_of, pattern_in, pattern_of, slice_get, sources}
+use Rattle.determinize_nfa.proofs.Common.{state_at, states_of, suc, true, ℕ, ◌+◌, ◌<◌, ◌∙◌, ◌∷◌, ◌≡◌}
 use Rattle.std.proofs.Math.ListN.{get_or-map}
 use Rattle.determinize_below.proofs.nfas.Edges.{state_past}
-use Rattle.determinize_nfa.proofs.reversing.Recorded.{alone}
+use Rattle.determinize_nfa.proofs.reversing.Recorded.{alone, turned_to}
 use Rattle.std.proofs.lemmas.List.{get_or-append-add, get_or_append_left}
 
 -- a gathering state has its list of transitions, all without input, and no pattern
-pub record IsGathering (xs : List ℕ) (node : Node) : Type 0 where
-  pub arcs : arcs_of node ≡ map Free xs
-  pub edges : (holds : Assertion → Bool) → edges_of holds node ≡ xs
-  pub pattern : pattern_in node ≡ None
+pub arcs-gathered : (xs : List ℕ) → arcs_of (gathered xs) ≡ map Free xs
+arcs-gathered xs = grind arith
 
-pub gathered_is : (xs : List ℕ) → IsGathering xs (gathered xs)
-gathered_is [] = record { arcs = refl; edges = λ holds. refl; pattern = refl }
-gathered_is (x ∷ []) = record { arcs = refl; edges = λ holds. refl; pattern = refl }
-gathered_is (x ∷ y ∷ zs) = record { arcs = refl; edges = λ holds. refl; pattern = refl }
+pub edges-gathered : (holds : Assertion → Bool) (xs : List ℕ) → edges_of holds (gathered xs) ≡ xs
+edges-gathered holds xs = grind arith
 
--- a state with one transition
-pub record IsAlone (a : Arc) (node : Node) : Type 0 where
-  pub arcs : arcs_of node ≡ a ∷ []
-  pub ascends : is_sparse_sound node ≡ true
-  pub pattern : pattern_in node ≡ None
+pub pattern-gathered : (xs : List ℕ) → pattern_in (gathered xs) ≡ None
+pattern-gathered xs = grind arith
 
-pub alone_is : (a : Arc) → IsAlone a (alone a)
-alone_is (Range r) = record { arcs = refl; ascends = refl; pattern = refl }
-alone_is (Test look next) = record { arcs = refl; ascends = refl; pattern = refl }
-alone_is (Free next) = record { arcs = refl; ascends = refl; pattern = refl }
+-- a state with one transition has no pattern, and the turned transition leads to s
+pub arcs-alone : (a : Arc) → arcs_of (alone a) ≡ a ∷ []
+arcs-alone a = grind arith
+
+pub ascends-alone : (a : Arc) → is_sparse_sound (alone a) ≡ true
+ascends-alone a = grind arith
+
+pub pattern-alone : (a : Arc) → pattern_in (alone a) ≡ None
+pattern-alone a = grind arith
+
+pub next-turned : (s : ℕ) (a : Arc) → next_of (turned_to s a) ≡ s
+next-turned s a = grind arith
 
 -- which state is where
 pub record IsLaid (backward : Nfa) (h : Turned) (n : ℕ) : Type 0 where

@@ -1,6 +1,6 @@
 -- The states of a reversed NFA pass validation, if there are not too many, and one of them is a match.
 -- Main statements: only_size, one_match.
--- Used by: MadeNfa.
+-- Used by: `reversed`.
 -- Idea: all ids are below the count, no state is sparse or dense, and only one has a pattern.
 use Rattle.determinize_nfa.proofs.Common.{Arc, BuildError, Free, ID_LIMIT, In, In_cases, In_head, In_map_from, In_tail}
 use Rattle.determinize_nfa.proofs.Common.{IsTooLarge, List, Match, Nfa, Node, None, Range, Some, Test, TooManyStates}
@@ -11,7 +11,7 @@ use Rattle.determinize_nfa.proofs.Common.{some_injective, sources, states_of, su
 use Rattle.determinize_nfa.proofs.Common.{◌∷◌, ◌≡◌}
 use Rattle.determinize_below.specs.Nfa.{failure_of, is_match_of, is_repeated, states_failure}
 use Rattle.determinize_nfa.proofs.reversing.Counts.{length-states}
-use Rattle.determinize_nfa.proofs.reversing.Recorded.{IsAt, IsSound, alone, turned_to}
+use Rattle.determinize_nfa.proofs.reversing.Recorded.{IsSound, alone, turned_to}
 use Rattle.determinize_nfa.proofs.reversing.StatesById.{arc_within, pattern_within}
 use Rattle.std.proofs.lemmas.Bool.{and_from}
 use Rattle.std.proofs.lemmas.List.Elements.{filter-append}
@@ -83,15 +83,12 @@ module _ (nfa : Nfa) (h : Turned) (sound : IsSound nfa h) where
   count_is : count ≡ length nfa.states + 2 + length h.rest
   count_is = length-states h ∙ ap (λ n. n + 2 + length h.rest) sound.count
 
-  at_below : (y s : ℕ) (a : Arc) → s < length nfa.states → IsAt (length nfa.states) h.rest y s a → y < count
-  at_below y s (Free next) l d = omega (arith, count_is, d)
-  at_below y s (Range r) l d = omega (arith, count_is, d.1, slice_get_within h.rest d.0 _ d.2)
-  at_below y s (Test look next) l d = omega (arith, count_is, d.1, slice_get_within h.rest d.0 _ d.2)
-
   source_below : (t y : ℕ) → In y (sources h t) → y < count
   source_below t y k = by_cases (sound.into t y k)
       (λ d. omega (arith, count_is, d.0))
-      (λ d. at_below y d.0 d.1 (arc_within nfa d.0 d.1 d.2) d.4)
+      (λ d. by_cases d.4
+      (λ e. omega (arith, count_is, e.1, arc_within nfa d.0 d.1 d.2))
+      (λ e. omega (arith, count_is, e.1, slice_get_within h.rest e.0 _ e.2)))
 
   rest_plain : (x : Node) → In x h.rest → IsPlain count x
   rest_plain x k =

@@ -1,8 +1,10 @@
-use Rattle.determinize_nfa.proofs.Common.{IfErr-weaker, IfOk-weaker, Nfa, ap, arith, if_err_and, length, looks_of, map}
-use Rattle.determinize_nfa.proofs.Common.{most_states, node_of, not, refl, suc, sym, ◌+◌, ◌<◌, ◌∙◌, ◌≡◌}
+use Rattle.determinize_nfa.proofs.Common.{IfErr-weaker, IfOk-weaker, Nfa, ap, arith, by_cases, if_err_and, inl, length}
+use Rattle.determinize_nfa.proofs.Common.{looks_of, map, most_states, node_of, not, refl, suc, sym, ◌+◌, ◌<◌, ◌∙◌, ◌≡◌}
 use Rattle.determinize_nfa.proofs.Limits.{too_many}
-use Rattle.determinize_nfa.proofs.reversing.MadeNfa.{made_error, made_match, made_of_all, most}
-use Rattle.determinize_nfa.proofs.reversing.BothWays.{IsMadeOf}
+use Rattle.determinize_nfa.proofs.reversing.BothWays.{IsMadeOf, made_reverse}
+use Rattle.determinize_nfa.proofs.reversing.Counts.{larger, most}
+use Rattle.determinize_nfa.proofs.reversing.Recorded.{all_recorded}
+use Rattle.determinize_nfa.proofs.reversing.Validation.{one_match, only_size}
 use Rattle.determinize_nfa.proofs.reversal.reversed.Goals as goal
 
 pub returns-in_err-begin-clause-err : goal.returns-in_err-begin-clause-err
@@ -28,7 +30,8 @@ pub returns : goal.returns
 returns g c =
     let over = c.in_ok-turned.ensures.ok in
     let turned = c.in_ok-turned.turned in
-    let accepted = c.len-count.ensures.accepted in
+    let recorded = all_recorded c.args.nfa.now c.len-count.ensures.accepted turned over in
+    let few = most c.args.nfa.now turned over in
     let start : c.in_ok-start.start ≡ suc (length c.args.nfa.now.states)
     = omega (arith, c.in_ok-start.ensures.ok.1, c.len-count.ensures.count) in
     let cases = c.in_ok-matcher.ensures.cases in
@@ -49,14 +52,15 @@ returns g c =
     }) in
     record {
       reverse = IfOk-weaker c.from_parts.result _ _
-          (λ b p. made_of_all c.args.nfa.now accepted turned over b (made b p)) c.from_parts.ensures.ok;
+          (λ b p. made_reverse c.args.nfa.now b over.met turned (made b p) recorded) c.from_parts.ensures.ok;
       starts = IfOk-weaker c.from_parts.result _ _ (λ b p. rw p refl) c.from_parts.ensures.ok;
       pattern = IfOk-weaker c.from_parts.result _ _
-          (λ b p. made_match c.args.nfa.now accepted turned over b (made b p)) c.from_parts.ensures.ok;
-      size = IfOk-weaker c.from_parts.result _ _
-          (λ b p. rw (made b p).states (most c.args.nfa.now accepted turned over)) c.from_parts.ensures.ok;
+          (λ b p. rw (made b p).states (one_match c.args.nfa.now turned recorded.sound)) c.from_parts.ensures.ok;
+      size = IfOk-weaker c.from_parts.result _ _ (λ b p. rw (made b p).states few) c.from_parts.ensures.ok;
       err = IfErr-weaker c.from_parts.result _ _
-          (λ e d. made_error c.args.nfa.now accepted turned over c.in_ok-start.start e start
-          (rw c.in_ok-states.ensures at d))
+          (λ e d. by_cases d
+          (λ k. larger _ _ e few (only_size c.args.nfa.now turned recorded.sound c.in_ok-start.start e start
+          (rw c.in_ok-states.ensures at k)))
+          inl)
           c.from_parts.ensures.err;
     }

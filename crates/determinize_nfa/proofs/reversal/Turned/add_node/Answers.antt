@@ -2,7 +2,7 @@ use Rattle.determinize_nfa.proofs.Common.{All-rest, Turned, ap, arith, if_err_an
 use Rattle.determinize_nfa.proofs.Common.{total, with_arc, with_node, ◌<◌, ◌∙◌}
 use Rattle.determinize_nfa.proofs.kinds.ArcsOfStates.{arcs_resolve}
 use Rattle.determinize_nfa.proofs.reversing.Counts.{larger, room_arc}
-use Rattle.determinize_nfa.proofs.reversing.Steps.{count-arc}
+use Rattle.determinize_nfa.proofs.reversing.Counts.{count-arc}
 use Rattle.determinize_nfa.proofs.reversal.Turned.add_node.Goals as goal
 
 pub loop-arc-init : goal.loop-arc-init

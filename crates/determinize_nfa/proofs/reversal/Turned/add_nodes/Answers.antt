@@ -1,5 +1,5 @@
 use Rattle.determinize_nfa.proofs.Common.{each_passes, if_err_and, most_states, node_of, refl}
-use Rattle.determinize_nfa.proofs.reversing.Steps.{count-none, over_more}
+use Rattle.determinize_nfa.proofs.reversing.Counts.{count-none, over_more}
 use Rattle.determinize_below.proofs.Moved.{next_of}
 use Rattle.std.proofs.Math.ListN.{drop_of_length-le}
 use Rattle.determinize_nfa.proofs.reversing.Counts.{larger, room}

@@ -1,5 +1,5 @@
 use Rattle.determinize_nfa.proofs.Common.{drop, turned_over}
-use Rattle.determinize_nfa.proofs.reversing.Steps.{IsOver}
+use Rattle.determinize_nfa.proofs.reversing.Counts.{IsOver}
 use Rattle.determinize_nfa.proofs.reversal.Turned.add_nodes.Given as goal
 
 abbrev pub invariant-loop-id : goal.invariant-loop-id
