@@ -10,7 +10,6 @@ use Rattle.determinize_nfa.proofs.Common.{flat_map, get_or, is_first, is_sparse_
 use Rattle.determinize_nfa.proofs.Common.{map, matches, nat_eq, nat_lt, nat_tests, next_of, not, refl, resolves, runs}
 use Rattle.determinize_nfa.proofs.Common.{slice_get-get_or, some_injective, suc, sym, target_of, targets_in, true, ℕ}
 use Rattle.determinize_nfa.proofs.Common.{◌&&◌, ◌<◌, ◌∷◌, ◌≡◌, ◌≤◌}
-use Rattle.std.proofs.Math.Bool.{or-false}
 use Rattle.std.proofs.lemmas.List.Folds.{list_all-map}
 use Rattle.determinize_below.specs.Semantics.{Capture}
 use Rattle.determinize_below.specs.Transition.{ascends_from, sparse_target}
@@ -40,14 +39,10 @@ table_leads t (id ∷ ids) a b = grind (
 )
 
 pub leads_is : (t : ℕ) (node : Node) → leads_to t node ≡ list_any (λ a. nat_eq t (next_of a)) (arcs_of node)
-leads_is t (ByteRange r) = sym (or-false (nat_eq t r.next))
 leads_is t (Sparse rs) = any_map Range t rs
 leads_is t (Dense ids) = rw (table_leads t ids 0 0) (any_map Range t (runs 0 0 ids))
-leads_is t (Look look next) = sym (or-false (nat_eq t next))
 leads_is t (Union ids) = any_map Free t ids
-leads_is t (BinaryUnion a b) = rw (or-false (nat_eq t b)) refl
-leads_is t (Capture next) = sym (or-false (nat_eq t next))
-leads_is t s = refl
+leads_is t s = grind arith
 
 pub arc_leads : (a : Arc) (node : Node) → In a (arcs_of node) → leads_to (next_of a) node ≡ true
 arc_leads a node k = rw (leads_is (next_of a) node)
@@ -65,15 +60,11 @@ all_runs p (id ∷ ids) a b h = grind (arith, h, all_runs p ids a (suc b), all_r
 
 resolves_all : (count : ℕ) (node : Node) → resolves count node ≡ true
     → list_all (λ a. nat_lt (next_of a) count) (arcs_of node) ≡ true
-resolves_all count (ByteRange r) h = rw h refl
 resolves_all count (Sparse rs) h = rw (list_all-map (λ (a : Arc). nat_lt (next_of a) count) Range rs) h
 resolves_all count (Dense ids) h = rw (list_all-map (λ (a : Arc). nat_lt (next_of a) count) Range (runs 0 0 ids))
     (all_runs (λ id. nat_lt id count) ids 0 0 h)
-resolves_all count (Look look next) h = rw h refl
 resolves_all count (Union ids) h = rw (list_all-map (λ (a : Arc). nat_lt (next_of a) count) Free ids) h
-resolves_all count (BinaryUnion a b) h = grind arith
-resolves_all count (Capture next) h = rw h refl
-resolves_all count s h = refl
+resolves_all count s h = grind arith
 
 pub arc_resolves : (count : ℕ) (node : Node) (a : Arc) → resolves count node ≡ true → In a (arcs_of node)
     → next_of a < count
@@ -102,9 +93,8 @@ frees_free holds (id ∷ ids) = ap (λ (xs : List ℕ). id ∷ xs) (frees_free h
 pub edges_are : (holds : Assertion → Bool) (node : Node) → edges_of holds node ≡ flat_map (free_of holds) (arcs_of node)
 edges_are holds (Sparse rs) = ranges_free holds rs
 edges_are holds (Dense ids) = ranges_free holds (runs 0 0 ids)
-edges_are holds (Look look next) = sym (append-nil (cond (holds look) (next ∷ []) []))
 edges_are holds (Union ids) = frees_free holds ids
-edges_are holds s = refl
+edges_are holds s = grind (arith, append-nil)
 
 -- a transition of a state leads without input where these assertions hold
 pub edge_in : (holds : Assertion → Bool) (node : Node) (a : Arc) (t : ℕ) → In a (arcs_of node)

@@ -4,12 +4,12 @@
 -- Used by: PreferredRun and the laws of idle scans.
 -- Idea: only the skip has a transition to the start, and it reads a byte, so of the pairs that a run has visited only
 -- those of the prefix lie in the way (VisitedNodes).
-use Rattle.determinize_nfa.proofs.Common.{All, Assertion, BinaryUnion, Bool, ByteRange, HasPrefix, In, In_cases, IsPath}
-use Rattle.determinize_nfa.proofs.Common.{List, Nfa, None, Range, Some, Text, [], ap, arith, by_cases, eq-eqb, eqb-true}
-use Rattle.determinize_nfa.proofs.Common.{get_or, inl, inr, leads_to, length, matches, nat_eq, next_of, or_left}
-use Rattle.determinize_nfa.proofs.Common.{path_stays, pattern_of, refl, same_pairs, slice_get, slice_get-get_or}
-use Rattle.determinize_nfa.proofs.Common.{slice_get_within, some_injective, state_at, suc, sym, true, zero, ℕ, ◌+◌, ◌<◌}
-use Rattle.determinize_nfa.proofs.Common.{◌∙◌, ◌∷◌, ◌≡◌, ◌≤◌, ◌⊎◌}
+use Rattle.determinize_nfa.proofs.Common.{All, Assertion, BinaryUnion, Bool, ByteRange, HasPrefix, In, In_cases}
+use Rattle.determinize_nfa.proofs.Common.{In_none, IsPath, List, Nfa, None, Range, Some, Text, [], ap, arith, by_cases}
+use Rattle.determinize_nfa.proofs.Common.{eq-eqb, eqb-true, get_or, inl, inr, leads_to, length, matches, nat_eq}
+use Rattle.determinize_nfa.proofs.Common.{next_of, or_left, path_stays, pattern_of, refl, same_pairs, slice_get}
+use Rattle.determinize_nfa.proofs.Common.{slice_get-get_or, slice_get_within, some_injective, state_at, suc, sym, true}
+use Rattle.determinize_nfa.proofs.Common.{zero, ℕ, ◌+◌, ◌<◌, ◌∙◌, ◌∷◌, ◌≡◌, ◌≤◌, ◌⊎◌}
 use Rattle.std.specs.Prelude.{Contains}
 use Rattle.std.proofs.lemmas.Bool.{or_cases}
 use Rattle.ordered_reach.proofs.lists.Elements.{Contains_In}
@@ -108,12 +108,12 @@ module _ (nfa : Nfa) (text : Text) (h : ℕ → Assertion → Bool) (has : HasPr
     met (suc k) = (k, x) ∷ (k, u) ∷ met k
 
     met_before : (k : ℕ) (p : ℕ × ℕ) → In p (met k) → p.0 < k
-    met_before zero p m = absurd (let z : Some p ≡ None = sym m.1 in cc)
+    met_before zero p m = In_none p m
     met_before (suc k) p m = In_cases p (k, x) ((k, u) ∷ met k) m
         (λ e. let z : p.0 ≡ k = ap (λ y. y.0) e in omega arith)
         (λ l. In_cases p (k, u) (met k) l
         (λ e. let z : p.0 ≡ k = ap (λ y. y.0) e in omega arith)
-        (λ n. let z : p.0 < k = met_before k p n in omega arith))
+        (λ n. omega (arith, met_before k p n)))
 
     -- where a run from the anchored start at a position may come to
     abbrev IsAfter : ℕ → ℕ × ℕ → Type 0
@@ -121,33 +121,25 @@ module _ (nfa : Nfa) (text : Text) (h : ℕ → Assertion → Bool) (has : HasPr
 
     after_closed : (k : ℕ) (p q : ℕ × ℕ) (c : ℕ) → IsAfter k p → slice_get (graph p) c ≡ Some q → IsAfter k q
     after_closed k p q c i e =
-        let l : p.0 ≤ q.0 = under_later nfa text h p q c e in
-        let m : k ≤ p.0 = i.0 in (
-          omega arith,
+        let l : p.0 ≤ q.0 = under_later nfa text h p q c e in (
+          omega (arith, i.0),
           λ z. let w : q.0 ≡ suc p.0 = into_u p q c e (ap (λ y. y.1) z) in
-              let v : q.0 ≡ k = ap (λ y. y.0) z in omega arith,
+              let v : q.0 ≡ k = ap (λ y. y.0) z in omega (arith, i.0),
         )
 
     after_apart : (k : ℕ) (p : ℕ × ℕ) → IsAfter k p → In p ((k, u) ∷ met k) → ⊥
-    after_apart k p i l = In_cases p (k, u) (met k) l
-        (λ e. i.1 e)
-        (λ m. let z : p.0 < k = met_before k p m in let w : k ≤ p.0 = i.0 in omega arith)
+    after_apart k p i l = In_cases p (k, u) (met k) l i.1 (λ m. omega (arith, met_before k p m, i.0))
 
-    after_start : (k : ℕ) → IsAfter k (k, a)
-    after_start k = (omega arith, λ e. u_not_a (ap (λ y. y.1) e))
-
-    -- runs from the anchored start, with what was met on the way to it and without
-    forget : (k : ℕ) (cs : List ℕ) (q : ℕ × ℕ) → IsPath graph ((k, u) ∷ met k) (k, a) cs q
-        → IsPath graph [] (k, a) cs q
-    forget k cs q p =
-        path_forget same_pairs graph (IsAfter k) (after_closed k) ((k, u) ∷ met k) (after_apart k) cs []
-        (k, a) q (after_start k) p
-
-    remember : (k : ℕ) (cs : List ℕ) (q : ℕ × ℕ) → IsPath graph [] (k, a) cs q
-        → IsPath graph ((k, u) ∷ met k) (k, a) cs q
-    remember k cs q p =
-        path_remember same_pairs graph (IsAfter k) (after_closed k) ((k, u) ∷ met k) (after_apart k) cs []
-        (k, a) q (after_start k) p
+    -- a run from the anchored start is one with what was met on the way to it
+    forget : (k : ℕ) (cs : List ℕ) (q : ℕ × ℕ)
+        → (IsPath graph ((k, u) ∷ met k) (k, a) cs q → IsPath graph [] (k, a) cs q)
+        × (IsPath graph [] (k, a) cs q → IsPath graph ((k, u) ∷ met k) (k, a) cs q)
+    forget k cs q =
+        let begin : IsAfter k (k, a) = (omega arith, λ e. u_not_a (ap (λ y. y.1) e)) in (
+          path_forget same_pairs graph (IsAfter k) (after_closed k) ((k, u) ∷ met k) (after_apart k) cs [] (k, a) q begin,
+          path_remember same_pairs graph (IsAfter k) (after_closed k) ((k, u) ∷ met k) (after_apart k) cs [] (k, a) q
+              begin,
+        )
 
     -- some bytes are passed over, and then there is a run from the anchored start
     pub record IsSkip (k : ℕ) (cs : List ℕ) (q : ℕ × ℕ) : Type 0 where
@@ -174,7 +166,7 @@ module _ (nfa : Nfa) (text : Text) (h : ℕ → Assertion → Bool) (has : HasPr
           choices_then = cs;
           is = refl;
           within = omega arith;
-          run = rw z (forget k cs q (rw e p.1.2));
+          run = rw z ((forget k cs q).0 (rw e p.1.2));
         })
     parted (suc zero ∷ []) k q l p =
         let e : (k, x) ≡ p.1.0 = some_injective (k, x) p.1.0 (rw (choices_u k) at p.1.1) in
@@ -220,12 +212,12 @@ module _ (nfa : Nfa) (text : Text) (h : ℕ → Assertion → Bool) (has : HasPr
         (by_cases s.ends (λ e. inl (ap (λ w. w.1) e.1)) (λ e. inr (ap (λ w. w.1) e.1))) m))
 
     not_met : (k s : ℕ) → ¬ (Contains (met k) (k, s))
-    not_met k s w = let z : k < k = met_before k (k, s) (Contains_In same_pairs (met k) (k, s) w) in omega arith
+    not_met k s w = absurd (omega (arith, met_before k (k, s) (Contains_In same_pairs (met k) (k, s) w)))
 
     not_met_x : (k : ℕ) → ¬ (Contains ((k, u) ∷ met k) (k, x))
     not_met_x k w = In_cases (k, x) (k, u) (met k) (Contains_In same_pairs ((k, u) ∷ met k) (k, x) w)
         (λ e. u_not_x (sym (ap (λ y. y.1) e)))
-        (λ l. let z : k < k = met_before k (k, x) l in omega arith)
+        (λ l. absurd (omega (arith, met_before k (k, x) l)))
 
     -- after some bytes a run is where the rest of it begins
     pub pass_run : (d k : ℕ) (cs : List ℕ) (q : ℕ × ℕ) → k + d ≤ length text.bytes
@@ -254,7 +246,7 @@ module _ (nfa : Nfa) (text : Text) (h : ℕ → Assertion → Bool) (has : HasPr
         → IsPath graph (met k) (k, u) (skip d cs) q
     unshape d k cs q l p = pass_run d k (0 ∷ cs) q l (
       not_met (k + d) u,
-      ((k + d, a), ap (λ w. slice_get w 0) (choices_u (k + d)), remember (k + d) cs q p),
+      ((k + d, a), ap (λ w. slice_get w 0) (choices_u (k + d)), (forget (k + d) cs q).1 p),
     )
 
     -- and there is one to the start at each position

@@ -8,8 +8,8 @@ use Rattle.determinize_nfa.proofs.Common.{Arc, Assertion, Bool, Free, In, In_app
 use Rattle.determinize_nfa.proofs.Common.{In_append_right, In_cases, In_head, In_map, In_map_from, In_none, List, Nfa}
 use Rattle.determinize_nfa.proofs.Common.{None, Option, Range, Some, Test, Text, [], after_at, ap, arcs_of, arith}
 use Rattle.determinize_nfa.proofs.Common.{before_at, byte_edges, choices, edges, is_sparse_sound, leads_to, map}
-use Rattle.determinize_nfa.proofs.Common.{next_of, placed, refl, slice_get, state_at, suc, target_of, true, true_edges}
-use Rattle.determinize_nfa.proofs.Common.{truth, ℕ, ◌≡◌, ◌≤◌}
+use Rattle.determinize_nfa.proofs.Common.{next_of, placed, slice_get, state_at, suc, target_of, true, true_edges, truth}
+use Rattle.determinize_nfa.proofs.Common.{ℕ, ◌≡◌, ◌≤◌}
 use Rattle.std.specs.Option.{option_to_list}
 use Rattle.ordered_reach.specs.Runs.{run_edges}
 use Rattle.determinize_nfa.proofs.kinds.ArcsOfStates.{IsTaken, Takes, arc_leads, arc_reads, byte_taken, edge_in}
@@ -47,17 +47,13 @@ pub choice_cases : {P : Type 0} (nfa : Nfa) (text : Text) (p q : ℕ × ℕ) (c 
     → (q.0 ≡ p.0 → In q.1 (true_edges nfa text p.0 p.1) → P) → P
 choice_cases nfa text = under_cases nfa text (true_at nfa text)
 
-In_some : {A : Type 0} (o : Option A) (x : A) → o ≡ Some x → In x (option_to_list o)
-In_some o x e = rw e (0, refl)
-
 -- a transition over the next byte is a choice
 pub byte_choice : (nfa : Nfa) (text : Text) (i s t : ℕ)
     → target_of (slice_get text.bytes i) (state_at nfa s) ≡ Some t → In (suc i, t) (choices nfa text (i, s))
 byte_choice nfa text i s t e =
     In_append_left (suc i, t) (map (placed (suc i)) (byte_edges nfa text i s))
     (map (placed i) (true_edges nfa text i s))
-    (In_map (placed (suc i)) t (byte_edges nfa text i s)
-    (In_some (target_of (slice_get text.bytes i) (state_at nfa s)) t e))
+    (In_map (placed (suc i)) t (byte_edges nfa text i s) (rw e (In_head t [])))
 
 -- and so is one without input
 pub free_choice : (nfa : Nfa) (text : Text) (i s t : ℕ) → In t (true_edges nfa text i s)

@@ -2,10 +2,9 @@
 -- Main statements: each_run_moves, each_run_reads_forward.
 -- Used by: `laws::shift_law`, and anchored searches from a later index.
 -- Idea: positions of the rest are positions of the text, so much later, and see the same units (PathMaps).
-use Rattle.determinize_nfa.proofs.Common.{AcceptsFrom, IsPath, List, Nfa, Text, [], after_at, ap, arith, before_at}
-use Rattle.determinize_nfa.proofs.Common.{byte_edges, choices, drop, edges, map, map-append, option_or, placed, refl}
-use Rattle.determinize_nfa.proofs.Common.{same_pairs, slice_get, suc, sym, target, true_edges, truth, zero, ℕ, ◌++◌}
-use Rattle.determinize_nfa.proofs.Common.{◌+◌, ◌∙◌, ◌∷◌, ◌≡◌, ◌≤◌}
+use Rattle.determinize_nfa.proofs.Common.{AcceptsFrom, IsPath, List, Nfa, Text, [], ap, arith, before_at, choices, drop}
+use Rattle.determinize_nfa.proofs.Common.{map, map-append, placed, refl, same_pairs, slice_get, suc, zero, ℕ, ◌+◌, ◌∷◌}
+use Rattle.determinize_nfa.proofs.Common.{◌≡◌, ◌≤◌}
 use Rattle.determinize_nfa.specs.Laws.{EachRunMoves, EachRunReadsForward}
 use Rattle.determinize_nfa.specs.Runs.{since}
 use Rattle.determinize_nfa.proofs.runs.Choices.{choice_later}
@@ -19,9 +18,6 @@ slice_get-drop (suc k) (x ∷ xs) i = let z : suc k + i ≡ suc (k + i) = omega 
 before-since : (text : Text) (k i : ℕ) → before_at (since text k) i ≡ before_at text (k + i)
 before-since text k zero = let z : k + 0 ≡ k = omega arith in rw z refl
 before-since text k (suc i) = let z : k + suc i ≡ suc (k + i) = omega arith in rw z (slice_get-drop k text.bytes i)
-
-after-since : (text : Text) (k i : ℕ) → after_at (since text k) i ≡ after_at text (k + i)
-after-since text k i = ap (λ o. option_or o text.ahead) (slice_get-drop k text.bytes i)
 
 -- a pair of a position and a state, so much later
 abbrev pub shifted : ℕ → ℕ × ℕ → ℕ × ℕ
@@ -39,25 +35,17 @@ map-placed k i [] = refl
 map-placed k i (x ∷ xs) = ap (λ l. (k + i, x) ∷ l) (map-placed k i xs)
 
 module _ (nfa : Nfa) (text : Text) (k : ℕ) where
-  bytes-since : (i s : ℕ) → byte_edges nfa (since text k) i s ≡ byte_edges nfa text (k + i) s
-  bytes-since i s = ap (λ o. target nfa o s) (slice_get-drop k text.bytes i)
-
-  edges-since : (i s : ℕ) → true_edges nfa (since text k) i s ≡ true_edges nfa text (k + i) s
-  edges-since i s = ap (λ o. edges nfa (truth nfa o (after_at (since text k) i)) s) (before-since text k i)
-      ∙ ap (λ o. edges nfa (truth nfa (before_at text (k + i)) o) s) (after-since text k i)
-
   choices-since : (p : ℕ × ℕ) → choices nfa text (shifted k p) ≡ map (shifted k) (choices nfa (since text k) p)
   choices-since p =
       let z : k + suc p.0 ≡ suc (k + p.0) = omega arith in
-      let b : List ℕ = byte_edges nfa (since text k) p.0 p.1 in
-      let e : List ℕ = true_edges nfa (since text k) p.0 p.1 in
-      sym (map-append (shifted k) (map (placed (suc p.0)) b) (map (placed p.0) e)
-      ∙ ap (λ l. l ++ map (shifted k) (map (placed p.0) e)) (map-placed k (suc p.0) b)
-      ∙ ap (λ l. map (placed (k + suc p.0)) b ++ l) (map-placed k p.0 e)
-      ∙ ap (λ j. map (placed j) b ++ map (placed (k + p.0)) e) z
-      ∙ ap (λ l. map (placed (suc (k + p.0))) l ++ map (placed (k + p.0)) e) (bytes-since p.0 p.1)
-      ∙ ap (λ l. map (placed (suc (k + p.0))) (byte_edges nfa text (k + p.0) p.1) ++ map (placed (k + p.0)) l)
-      (edges-since p.0 p.1))
+      rw (
+        map-append (shifted k),
+        map-placed k (suc p.0),
+        map-placed k p.0,
+        slice_get-drop k text.bytes p.0,
+        before-since text k p.0,
+        z,
+      ) refl
 
   moved : (j start : ℕ) (cs : List ℕ) (i pattern : ℕ) → AcceptsFrom nfa text (k + j) start cs (k + i) pattern
       → AcceptsFrom nfa (since text k) j start cs i pattern

@@ -1,5 +1,5 @@
-use Rattle.determinize_nfa.proofs.Common.{None, Some, all_visited, ap, arith, each_passes, length, node_of, rules}
-use Rattle.determinize_nfa.proofs.Common.{slice_get, sym, targets_in, ◌<◌, ◌∙◌, ◌≡◌}
+use Rattle.determinize_nfa.proofs.Common.{None, ap, arith, each_passes, length, node_of, rules, slice_get, sym, ◌<◌}
+use Rattle.determinize_nfa.proofs.Common.{◌∙◌, ◌≡◌}
 use Rattle.determinize_below.specs.Members.{Members}
 use Rattle.determinize_nfa.proofs.reversing.FoundStates.{found_all, found_index, found_more, found_start}
 use Rattle.determinize_nfa.proofs.reached.reached.Goals as goal
@@ -14,8 +14,7 @@ loop-id-init g c =
 
 pub state-requires : goal.state-requires
 state-requires g c =
-    let is : slice_get c.loop-id.found.ids c.loop-id.index ≡ Some c.in-Some.id = sym c.nth.ensures ∙ c.in-Some.is in
-    (found_index c.args.nfa.now c.loop-id.found.ids c.loop-id.index c.in-Some.id c.loop-id.invariant.found is).1
+    (found_index c.args.nfa.now _ _ _ c.loop-id.invariant.found (sym c.nth.ensures ∙ c.in-Some.is)).1
 
 pub visit_targets-requires : goal.visit_targets-requires
 visit_targets-requires g c =
@@ -25,30 +24,21 @@ visit_targets-requires g c =
 
 pub overflow_add-index : goal.overflow_add-index
 overflow_add-index g c =
-    let is : slice_get c.loop-id.found.ids c.loop-id.index ≡ Some c.in-Some.id = sym c.nth.ensures ∙ c.in-Some.is in
-    let low = (found_index c.args.nfa.now c.loop-id.found.ids c.loop-id.index c.in-Some.id c.loop-id.invariant.found
-    is).0 in
-    omega (arith, low, c.begun.ensures.limit)
+    let low = found_index c.args.nfa.now _ _ _ c.loop-id.invariant.found (sym c.nth.ensures ∙ c.in-Some.is) in
+    omega (arith, low.0, c.begun.ensures.limit)
 
 pub loop-id-smaller : goal.loop-id-smaller
 loop-id-smaller g c =
-    let is : slice_get c.loop-id.found.ids c.loop-id.index ≡ Some c.in-Some.id = sym c.nth.ensures ∙ c.in-Some.is in
-    let low = (found_index c.args.nfa.now c.loop-id.found.ids c.loop-id.index c.in-Some.id c.loop-id.invariant.found
-    is).0 in
-    omega (arith, low)
+    let low = found_index c.args.nfa.now _ _ _ c.loop-id.invariant.found (sym c.nth.ensures ∙ c.in-Some.is) in
+    omega (arith, low.0)
 
 pub loop-id-preserved : goal.loop-id-preserved
-loop-id-preserved g c =
-    let is : slice_get c.loop-id.found.ids c.loop-id.index ≡ Some c.in-Some.id = sym c.nth.ensures ∙ c.in-Some.is in
-    let ids : c.visit_targets.new.found.ids
-    ≡ all_visited c.loop-id.found.ids (targets_in (node_of c.state.result.now))
-    = ap (λ (m : Members). m.ids) c.visit_targets.ensures in
-    record {
-      capacity = ap (λ (m : Members). m.capacity) c.visit_targets.ensures ∙ c.loop-id.invariant.capacity;
-      found = rw ids
-          (found_more c.args.nfa.now c.state.ensures.accepted c.loop-id.found.ids c.loop-id.index c.in-Some.id
-          (node_of c.state.result.now) c.loop-id.invariant.found is c.state.ensures.state);
-    }
+loop-id-preserved g c = record {
+  capacity = ap (λ (m : Members). m.capacity) c.visit_targets.ensures ∙ c.loop-id.invariant.capacity;
+  found = rw c.visit_targets.ensures
+      (found_more c.args.nfa.now c.state.ensures.accepted _ _ _ (node_of c.state.result.now) c.loop-id.invariant.found
+      (sym c.nth.ensures ∙ c.in-Some.is) c.state.ensures.state);
+}
 
 pub returns-clause-closed : goal.returns-clause-closed
 returns-clause-closed g c =

@@ -1,8 +1,7 @@
-use Rattle.determinize_nfa.proofs.Common.{All-rest, Turned, ap, arith, if_err_and, length, next_of, node_of, rules}
-use Rattle.determinize_nfa.proofs.Common.{total, with_arc, with_node, ◌<◌, ◌∙◌}
+use Rattle.determinize_nfa.proofs.Common.{All-rest, Turned, ap, arith, if_err_and, length, next_of, node_of, rules, ◌<◌}
+use Rattle.determinize_nfa.proofs.Common.{◌∙◌}
 use Rattle.determinize_nfa.proofs.kinds.ArcsOfStates.{arcs_resolve}
-use Rattle.determinize_nfa.proofs.reversing.Counts.{larger, room_arc}
-use Rattle.determinize_nfa.proofs.reversing.Counts.{count-arc}
+use Rattle.determinize_nfa.proofs.reversing.Counts.{count-arc, larger, room_arc}
 use Rattle.determinize_nfa.proofs.reversal.Turned.add_node.Goals as goal
 
 pub loop-arc-init : goal.loop-arc-init
@@ -24,10 +23,7 @@ loop-arc-preserved g c = record {
 
 pub returns-in_err-add_arc-clause-err : goal.returns-in_err-add_arc-clause-err
 returns-in_err-add_arc-clause-err g c =
-    let room = room_arc c.args.id (node_of c.args.state.now) c.in-Some.arc c.loop-arc.arc-iterator c.next.new.self
-    c.args.self.now c.loop-arc.self c.loop-arc.invariant.rest c.in-Some.ensures.steps in
+    let room = room_arc c.args.id (node_of c.args.state.now) c.in-Some.arc _ _ c.args.self.now c.loop-arc.self
+    c.loop-arc.invariant.rest c.in-Some.ensures.steps in
     if_err_and c.from_residual.result _ _
-    (λ e h. rw h (larger (total (with_arc c.loop-arc.self c.args.id c.in-Some.arc))
-    (total (with_node c.args.self.now c.args.id (node_of c.args.state.now))) c.in_err-add_arc.field-0.0 room
-    c.in_err-add_arc.ensures.err))
-    c.from_residual.ensures.1
+    (λ e h. rw h (larger _ _ c.in_err-add_arc.field-0.0 room c.in_err-add_arc.ensures.err)) c.from_residual.ensures.1
