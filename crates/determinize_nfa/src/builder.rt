@@ -243,6 +243,7 @@ impl<A: Allocator + Copy> Builder<A> {
     /// Returns the NFA of the states that were added and of the usual prefix, `(?s-u:.)*?`, which
     /// is its unanchored start. The prefix has two states, to which no state that was added may
     /// have a transition.
+    #[tactic(auto, using(crate::proofs::building::Building::unfit_memory))]
     pub fn build_with_prefix(&self, start_anchored: StateID) -> Result<NFA<A>, BuildError>
         ensures prefix { IfOk result (λ nfa. HasPrefix nfa) }
         ensures separate { IfOk result (λ nfa. HasPrefixApart nfa) }

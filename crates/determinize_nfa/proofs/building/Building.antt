@@ -1,13 +1,14 @@
 -- What a builder adds, and that the prefix which it puts before a start is the usual one.
--- Main statements: index_within, node_is, same_node, has_prefix_apart, is_ahead, none_ahead, unfit_too_many.
+-- Main statements: index_within, node_is, same_node, has_prefix_apart, is_ahead, none_ahead, unfit_too_many,
+-- unfit_memory.
 -- Used by: `patch`, `close`, `build_with_prefix` and `push_state` of the module `builder`.
 -- Idea: no state before the prefix has a transition to it, so only the skip has one to its start.
 use Rattle.determinize_nfa.proofs.Common.{BinaryUnion, Bool, BuildError, BuilderValue, ByteRange, Fail, HasPrefix}
-use Rattle.determinize_nfa.proofs.Common.{HasPrefixApart, ID_LIMIT, IsApart, IsUnfit, List, MAX_ID, Node, None, Some}
-use Rattle.determinize_nfa.proofs.Common.{TooManyStates, [], ap, arith, built, by_cases, cases_lt, false, false≢true}
-use Rattle.determinize_nfa.proofs.Common.{get_or, get_or-map, inl, inr, leads_to, length, length-append, length-map}
-use Rattle.determinize_nfa.proofs.Common.{map, map-append, nat_lt, nat_tests, prefixed, refl, suc, sym, true, zero, ℕ}
-use Rattle.determinize_nfa.proofs.Common.{◌++◌, ◌+◌, ◌-◌, ◌<◌, ◌∙◌, ◌∷◌, ◌≡◌, ◌≤◌}
+use Rattle.determinize_nfa.proofs.Common.{HasPrefixApart, ID_LIMIT, IsApart, IsUnfit, List, MAX_ID, Node, None}
+use Rattle.determinize_nfa.proofs.Common.{OutOfMemory, Some, TooManyStates, [], ap, arith, built, by_cases, cases_lt}
+use Rattle.determinize_nfa.proofs.Common.{false, false≢true, get_or, get_or-map, if_err_and, inl, inr, leads_to, length}
+use Rattle.determinize_nfa.proofs.Common.{length-append, length-map, map, map-append, nat_lt, nat_tests, prefixed, refl}
+use Rattle.determinize_nfa.proofs.Common.{suc, sym, true, zero, ℕ, ◌++◌, ◌+◌, ◌-◌, ◌<◌, ◌∙◌, ◌∷◌, ◌≡◌, ◌≤◌}
 use Rattle.std.proofs.lemmas.Bool.{lt-ltb, or_cases}
 use Rattle.ordered_reach.proofs.Cases.{or_false_left, or_false_right}
 use Rattle.std.specs.List.{position, position_or_len}
@@ -16,6 +17,8 @@ use Rattle.std.proofs.lemmas.List.Quantifiers.{position-Some}
 use Rattle.std.proofs.lemmas.List.Sums.{fails_before_first}
 use Rattle.determinize_below.specs.declared.nfa.BuildError.TheVariants.{UnresolvedId}
 use Rattle.determinize_nfa.specs.Builder.{has_transition_to}
+use Rattle.std.proofs.Common.{Result}
+use Rattle.std.specs.Prelude.{IfErr, IsErrAnd}
 
 -- the states that a builder is seen as, of which the program looks at one
 module _ {V : Type 0} (f : V → Node) (xs : List V) {patterns terminator : ℕ} {b : BuilderValue}
@@ -121,3 +124,7 @@ unfit_too_many b start n within above e h =
     let many : nat_lt ID_LIMIT (length (prefixed b start).states) ≡ true
     = lt-ltb ID_LIMIT (length (prefixed b start).states) (simp length-append (omega arith)) in
     inl (rw many (ap Some (sym h)))
+
+pub unfit_memory : {T : Type 0} (r : Result T BuildError) (b : BuilderValue) (start : ℕ)
+    → IsErrAnd r (λ e. e ≡ OutOfMemory) → IfErr r (IsUnfit b start)
+unfit_memory r b start h = if_err_and r _ _ (λ e z. inr (inr z)) h

@@ -1,13 +1,14 @@
 -- The transitions of a state in one list are those that the definitions by kinds give it.
--- Main statements: arc_leads, leads_arc, arc_resolves, edge_in, edge_taken, byte_taken, arc_reads.
+-- Main statements: arc_leads, leads_arc, arc_below, edge_in, edge_taken, byte_taken, arc_reads.
 -- Used by: Choices, FoundStates, Recorded, and the loops over the transitions of a state.
 -- Idea: a case for each kind, here only; of a table the runs are as TableRuns says.
 use Rattle.determinize_nfa.proofs.Common.{All, Arc, Assertion, BinaryUnion, Bool, ByteRange, Dense, Free, In, In_cases}
-use Rattle.determinize_nfa.proofs.Common.{In_flat_map_from, In_head, In_map, In_map_from, In_none, In_tail, List, Look}
-use Rattle.determinize_nfa.proofs.Common.{Node, None, Option, Range, Some, Sparse, Test, Transition, Union, [], ap}
-use Rattle.determinize_nfa.proofs.Common.{append-nil, arcs_of, arith, by_test, cond, edges_of, eq-eqb, eqb-true, false}
-use Rattle.determinize_nfa.proofs.Common.{flat_map, get_or, is_first, is_sparse_sound, leads_to, list_all, list_any}
-use Rattle.determinize_nfa.proofs.Common.{map, matches, nat_eq, nat_lt, nat_tests, next_of, not, refl, resolves, runs}
+use Rattle.determinize_nfa.proofs.Common.{In_flat_map_from, In_head, In_map, In_map_from, In_none, In_tail, IsAccepted}
+use Rattle.determinize_nfa.proofs.Common.{List, Look, Nfa, Node, None, Option, Range, Some, Sparse, Test, Transition}
+use Rattle.determinize_nfa.proofs.Common.{Union, [], ap, append-nil, arcs_of, arith, by_test, cond, each_passes}
+use Rattle.determinize_nfa.proofs.Common.{edges_of, eq-eqb, eqb-true, false, flat_map, get_or, is_first}
+use Rattle.determinize_nfa.proofs.Common.{is_sparse_sound, leads_to, length, list_all, list_any, map, matches, nat_eq}
+use Rattle.determinize_nfa.proofs.Common.{nat_lt, nat_tests, next_of, not, refl, resolves, runs, slice_get}
 use Rattle.determinize_nfa.proofs.Common.{slice_get-get_or, some_injective, suc, sym, target_of, targets_in, true, ℕ}
 use Rattle.determinize_nfa.proofs.Common.{◌&&◌, ◌<◌, ◌∷◌, ◌≡◌, ◌≤◌}
 use Rattle.std.proofs.lemmas.List.Folds.{list_all-map}
@@ -66,11 +67,16 @@ resolves_all count (Dense ids) h = rw (list_all-map (λ (a : Arc). nat_lt (next_
 resolves_all count (Union ids) h = rw (list_all-map (λ (a : Arc). nat_lt (next_of a) count) Free ids) h
 resolves_all count s h = grind arith
 
-pub arc_resolves : (count : ℕ) (node : Node) (a : Arc) → resolves count node ≡ true → In a (arcs_of node)
+arc_resolves : (count : ℕ) (node : Node) (a : Arc) → resolves count node ≡ true → In a (arcs_of node)
     → next_of a < count
 arc_resolves count node a h k =
     let z : nat_lt (next_of a) count ≡ true
     = all_by (λ x. nat_lt (next_of x) count) a (arcs_of node) k (resolves_all count node h) in grind arith
+
+pub arc_below : (nfa : Nfa) → IsAccepted nfa → (s : ℕ) (node : Node) (a : Arc) → slice_get nfa.states s ≡ Some node
+    → In a (arcs_of node) → next_of a < length nfa.states
+arc_below nfa accepted s node a e k =
+    arc_resolves (length nfa.states) node a (each_passes nfa accepted s node e).resolves k
 
 pub arcs_resolve : (count : ℕ) (node : Node) → resolves count node ≡ true → All (λ a. next_of a < count) (arcs_of node)
 arcs_resolve count node h i d l =
@@ -137,10 +143,7 @@ sparse_at (t ∷ ts) low r b a k m = In_cases r t ts k
     (λ e. let y : matches t b ≡ true = rw e at m in rw (y, e) refl)
     (λ i. let rest : ascends_from (suc t.end) ts ≡ true = grind (arith, a) in
     let s : suc t.end ≤ r.start = ascends_low ts (suc t.end) r rest i in
-    let y : matches t b ≡ false = past t r b s m in rw y (sparse_at ts (suc t.end) r b rest i m))
-  where
-    past : (t r : Transition) (b : ℕ) → suc t.end ≤ r.start → matches r b ≡ true → matches t b ≡ false
-    past t r b s m = grind (arith, nat_tests)
+    let y : matches t b ≡ false = grind (arith, nat_tests, s, m) in rw y (sparse_at ts (suc t.end) r b rest i m))
 
 -- and a target is that of some transition
 sparse_from : (ts : List Transition) (b t : ℕ) → sparse_target ts b ≡ Some t

@@ -3,17 +3,16 @@
 -- Used by: ArcsOfStates, and the folder reversing.
 -- Idea: induction on the list.
 use Rattle.determinize_nfa.proofs.Common.{Bool, In, In_cases, In_head, In_none, In_tail, List, [], and_parts, by_test}
-use Rattle.determinize_nfa.proofs.Common.{eqb-true, false≢true, list_all, list_any, nat_eq, or_left, or_right, true, ℕ}
-use Rattle.determinize_nfa.proofs.Common.{◌∷◌, ◌≡◌}
+use Rattle.determinize_nfa.proofs.Common.{eqb-true, false≢true, get_or_from_slice_get, list_all, list_any, nat_eq}
+use Rattle.determinize_nfa.proofs.Common.{slice_get_within, true, ℕ, ◌∷◌, ◌≡◌}
+use Rattle.std.proofs.lemmas.List.Folds.{list_any_at}
 
 pub In_one : {A : Type 0} (x y : A) → In x (y ∷ []) → x ≡ y
 In_one x y k = In_cases x y [] k (λ e. e) (λ i. In_none x i)
 
 pub any_by : {A : Type 0} (p : A → Bool) (x : A) (xs : List A) → In x xs → p x ≡ true → list_any p xs ≡ true
-any_by p x [] k e = In_none x k
-any_by p x (y ∷ ys) k e = In_cases x y ys k
-    (λ z. or_left (p y) (list_any p ys) (rw z at e))
-    (λ i. or_right (p y) (list_any p ys) (any_by p x ys i e))
+any_by p x xs k e =
+    list_any_at p xs k.0 x (slice_get_within xs k.0 x k.1) (rw (get_or_from_slice_get xs k.0 x x k.1) e)
 
 pub any_from : {A P : Type 0} (p : A → Bool) (xs : List A) → list_any p xs ≡ true
     → ((x : A) → In x xs → p x ≡ true → P) → P

@@ -6,16 +6,16 @@
 use Rattle.determinize_nfa.proofs.Common.{All, All_at, In, In_append_cases, In_append_left, In_append_right, In_cases}
 use Rattle.determinize_nfa.proofs.Common.{In_head, In_map_from, In_none, In_tail, IsAccepted, IsClosed, IsDistinct}
 use Rattle.determinize_nfa.proofs.Common.{List, Nfa, Node, None, Some, [], all_visited, ap, append-nil, append_assoc}
-use Rattle.determinize_nfa.proofs.Common.{arcs_of, arith, by_cases, by_test, cases_lt, each_passes, get_or}
-use Rattle.determinize_nfa.proofs.Common.{get_or_from_slice_get, leads_to, length, nat_eq, next_of, refl, slice_get}
-use Rattle.determinize_nfa.proofs.Common.{slice_get-get_or, slice_get_within, state_at, sym, take, targets_in, true, ℕ}
-use Rattle.determinize_nfa.proofs.Common.{◌++◌, ◌+◌, ◌<◌, ◌∙◌, ◌∷◌, ◌≡◌, ◌≤◌}
+use Rattle.determinize_nfa.proofs.Common.{arcs_of, arith, by_cases, by_test, cases_lt, get_or, get_or_from_slice_get}
+use Rattle.determinize_nfa.proofs.Common.{leads_to, length, nat_eq, next_of, refl, slice_get, slice_get-get_or}
+use Rattle.determinize_nfa.proofs.Common.{slice_get_within, state_at, sym, take, targets_in, true, ℕ, ◌++◌, ◌+◌, ◌<◌}
+use Rattle.determinize_nfa.proofs.Common.{◌∙◌, ◌∷◌, ◌≡◌, ◌≤◌}
 use Rattle.std.proofs.lemmas.List.Elements.{All-nil, All-push}
 use Rattle.std.proofs.lemmas.Map.Steps.{length-le_from_distinct_below}
 use Rattle.determinize_below.specs.Members.{has_id}
 use Rattle.determinize_below.proofs.sets.SparseSets.{distinct_none, distinct_push}
 use Rattle.determinize_nfa.specs.Private.Closed.{visited}
-use Rattle.determinize_nfa.proofs.kinds.ArcsOfStates.{arc_resolves, leads_arc}
+use Rattle.determinize_nfa.proofs.kinds.ArcsOfStates.{arc_below, leads_arc}
 use Rattle.determinize_nfa.proofs.kinds.TestedLists.{In_one, any_In}
 use Rattle.determinize_nfa.proofs.prefixes.Parts.{state_is}
 use Rattle.std.proofs.lemmas.List.{take-append-le, take_all, take_more}
@@ -112,8 +112,7 @@ found_more nfa accepted ids k s node f e n =
     }
   where
     target_below : (x : ℕ) → In x (targets_in node) → x < length nfa.states
-    target_below x i = In_map_from next_of x (arcs_of node) i
-        (λ a j z. rw z (arc_resolves (length nfa.states) node a (each_passes nfa accepted s node n).resolves j))
+    target_below x i = In_map_from next_of x (arcs_of node) i (λ a j z. rw z (arc_below nfa accepted s node a n j))
 
 -- with no state left, the states are closed
 pub found_all : (nfa : Nfa) (ids : List ℕ) (k : ℕ) → IsFound nfa ids k → slice_get ids k ≡ None → IsClosed nfa ids

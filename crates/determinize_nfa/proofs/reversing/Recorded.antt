@@ -15,7 +15,7 @@ use Rattle.determinize_nfa.proofs.Common.{◌<◌, ◌∙◌, ◌∷◌, ◌≡�
 use Rattle.std.specs.Prelude.{slice_set}
 use Rattle.determinize_below.proofs.nfas.Edges.{state_past}
 use Rattle.determinize_below.specs.Semantics.{Capture}
-use Rattle.determinize_nfa.proofs.kinds.ArcsOfStates.{arc_resolves}
+use Rattle.determinize_nfa.proofs.kinds.ArcsOfStates.{arc_below}
 use Rattle.determinize_nfa.proofs.kinds.TestedLists.{In_one}
 use Rattle.determinize_nfa.specs.Private.Turning.{IsTurnedOver}
 use Rattle.std.proofs.lemmas.Bool.{cases_eq}
@@ -168,8 +168,7 @@ module _ (nfa : Nfa) where
 
   module _ (accepted : IsAccepted nfa) (s : ℕ) (low : s < n) where
     target_below : (a : Arc) → In a (arcs_of (state_at nfa s)) → next_of a < n
-    target_below a k = arc_resolves n (state_at nfa s) a
-        (each_passes nfa accepted s (state_at nfa s) (slice_get-get_or nfa.states s Fail low)).resolves k
+    target_below a = arc_below nfa accepted s (state_at nfa s) a (slice_get-get_or nfa.states s Fail low)
 
     -- a state for a transition of the state s
     state_more : (h : Turned) (a : Arc) → IsSound nfa h → In a (arcs_of (state_at nfa s))

@@ -2,17 +2,16 @@
 -- Main statements: only_size, one_match.
 -- Used by: `reversed`.
 -- Idea: all ids are below the count, no state is sparse or dense, and only one has a pattern.
-use Rattle.determinize_nfa.proofs.Common.{Arc, BuildError, Free, ID_LIMIT, In, In_cases, In_head, In_map_from, In_tail}
-use Rattle.determinize_nfa.proofs.Common.{IsTooLarge, List, Match, Nfa, Node, None, Range, Some, Test, TooManyStates}
-use Rattle.determinize_nfa.proofs.Common.{Turned, Union, [], ap, arith, by_cases, by_test, failure, false, filter}
-use Rattle.determinize_nfa.proofs.Common.{gathered, get_or_from_slice_get, inr, is_match_node, length, list_all}
-use Rattle.determinize_nfa.proofs.Common.{list_any, map, nat_lt, nat_tests, pattern_in, refl, slice_get_within}
-use Rattle.determinize_nfa.proofs.Common.{some_injective, sources, states_of, suc, sym, true, ℕ, ◌++◌, ◌+◌, ◌<◌, ◌∙◌}
-use Rattle.determinize_nfa.proofs.Common.{◌∷◌, ◌≡◌}
+use Rattle.determinize_nfa.proofs.Common.{Arc, BuildError, ID_LIMIT, In, In_cases, In_head, In_map_from, In_tail}
+use Rattle.determinize_nfa.proofs.Common.{IsTooLarge, List, Match, Nfa, Node, None, Some, TooManyStates, Turned, Union}
+use Rattle.determinize_nfa.proofs.Common.{[], ap, arith, by_cases, by_test, failure, false, filter, gathered}
+use Rattle.determinize_nfa.proofs.Common.{get_or_from_slice_get, inr, is_match_node, length, list_all, list_any, map}
+use Rattle.determinize_nfa.proofs.Common.{nat_lt, nat_tests, pattern_in, refl, slice_get_within, some_injective}
+use Rattle.determinize_nfa.proofs.Common.{sources, states_of, suc, sym, true, ℕ, ◌++◌, ◌+◌, ◌<◌, ◌∙◌, ◌∷◌, ◌≡◌}
 use Rattle.determinize_below.specs.Nfa.{failure_of, is_match_of, is_repeated, states_failure}
 use Rattle.determinize_nfa.proofs.reversing.Counts.{length-states}
 use Rattle.determinize_nfa.proofs.reversing.Recorded.{IsSound, alone, turned_to}
-use Rattle.determinize_nfa.proofs.reversing.StatesById.{arc_within, pattern_within}
+use Rattle.determinize_nfa.proofs.reversing.StatesById.{arc_within, pattern-alone, pattern-gathered, pattern_within}
 use Rattle.std.proofs.lemmas.Bool.{and_from}
 use Rattle.std.proofs.lemmas.List.Elements.{filter-append}
 use Rattle.std.proofs.lemmas.List.Folds.{list_any-append}
@@ -27,9 +26,7 @@ below a b l = grind (arith, nat_tests)
 
 -- the state for a transition
 alone_plain : (count s : ℕ) (a : Arc) → s < count → IsPlain count (alone (turned_to s a))
-alone_plain count s (Range r) l = record { passes = λ i. rw (below s count l) refl; pattern = refl }
-alone_plain count s (Test look next) l = record { passes = λ i. rw (below s count l) refl; pattern = refl }
-alone_plain count s (Free next) l = record { passes = λ i. rw (below s count l) refl; pattern = refl }
+alone_plain count s a l = record { passes = λ i. grind (arith, nat_tests, l); pattern = pattern-alone (turned_to s a) }
 
 -- a state with transitions to ids
 all_pass : (count : ℕ) (ids : List ℕ) → ((y : ℕ) → In y ids → y < count) → list_all (λ id. nat_lt id count) ids ≡ true
@@ -38,15 +35,15 @@ all_pass count (y ∷ ys) f = and_from (nat_lt y count) (list_all (λ id. nat_lt
     (below y count (f y (In_head y ys))) (all_pass count ys (λ z i. f z (In_tail z y ys i)))
 
 gathered_plain : (count : ℕ) (ids : List ℕ) → ((y : ℕ) → In y ids → y < count) → IsPlain count (gathered ids)
-gathered_plain count [] f = record { passes = λ i. refl; pattern = refl }
-gathered_plain count (y ∷ []) f = record { passes = λ i. rw (below y count (f y (In_head y []))) refl; pattern = refl }
-gathered_plain count (y ∷ z ∷ zs) f = record { passes = λ i. rw (all_pass count (y ∷ z ∷ zs) f) refl; pattern = refl }
+gathered_plain count ids f = record {
+  passes = λ i. grind (arith, nat_tests, all_pass count ids f);
+  pattern = pattern-gathered ids;
+}
 
 -- validation of such states
 not_match : (q : ℕ) (earlier : List Node) (node : Node) → pattern_in node ≡ None
     → (is_repeated earlier node ≡ false) × (is_match_of q node ≡ false)
-not_match q earlier (Match pattern) e = absurd (let k : Some pattern ≡ None = e in cc)
-not_match q earlier s e = (refl, refl)
+not_match q earlier node e = (grind (arith, e), grind (arith, e))
 
 -- plain states before others
 plain_before : (count : ℕ) (others : List Node)

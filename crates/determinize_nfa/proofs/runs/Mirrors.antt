@@ -28,28 +28,24 @@ pub or_some : (xs : List ℕ) (i : ℕ) (o : Option ℕ) → i < length xs → o
 or_some xs i o l = rw (slice_get-get_or xs i 0 l) refl
 
 module _ (text : Text) (j : ℕ) (within : j ≤ length text.bytes) where
+  count : length (take j text.bytes) ≡ j
+  count = length-take-le j text.bytes within
+
   byte_back : (r i : ℕ) → r + suc i ≡ j → slice_get (turned (upto text j)).bytes r ≡ slice_get text.bytes i
   byte_back r i e =
-      let l : length (take j text.bytes) ≡ j = length-take-le j text.bytes within in
-      slice_get-reverse (take j text.bytes) r i (omega arith) ∙ slice_get-take j text.bytes i (omega arith)
+      slice_get-reverse (take j text.bytes) r i (omega (arith, count)) ∙ slice_get-take j text.bytes i (omega arith)
 
   last_back : slice_get (turned (upto text j)).bytes j ≡ None
   last_back =
-      let l : length (take j text.bytes) ≡ j = length-take-le j text.bytes within in
-      let m : length (reverse (take j text.bytes)) ≡ length (take j text.bytes) = length-reverse (take j text.bytes) in
-      slice_get_past (reverse (take j text.bytes)) j (omega arith)
+      slice_get_past (reverse (take j text.bytes)) j (omega (arith, count, length-reverse (take j text.bytes)))
 
   before_back : (r i : ℕ) → r + i ≡ j → before_at (turned (upto text j)) r ≡ after_at text i
-  before_back zero i e = let z : j ≡ i = omega arith in ap (λ w. after_at text w) z
+  before_back zero i e = let z : j ≡ i = omega arith in ap (after_at text) z
   before_back (suc r) i e = byte_back r i (omega arith) ∙ sym (or_some text.bytes i text.ahead (omega arith))
 
   after_back : (r i : ℕ) → r + i ≡ j → after_at (turned (upto text j)) r ≡ before_at text i
-  after_back r zero e =
-      let z : r ≡ j = omega arith in
-      ap (λ o. option_or o text.behind) (ap (λ w. slice_get (turned (upto text j)).bytes w) z ∙ last_back)
-  after_back r (suc i) e =
-      let b : slice_get (turned (upto text j)).bytes r ≡ slice_get text.bytes i = byte_back r i e in
-      ap (λ o. option_or o text.behind) b ∙ or_some text.bytes i text.behind (omega arith)
+  after_back r zero e = let z : r ≡ j = omega arith in rw (z, last_back) refl
+  after_back r (suc i) e = rw (byte_back r i e) (or_some text.bytes i text.behind (omega arith))
 
 pub each_reading_is_mirrored : EachReadingIsMirrored
 each_reading_is_mirrored text j within = record {

@@ -3,9 +3,9 @@
 -- Used by: runs over a text up to a position (Cuts).
 -- Idea: the choices at a pair depend on the next byte and on the assertions there, and no state has transitions of both
 -- kinds.
-use Rattle.determinize_nfa.proofs.Common.{Assertion, Bool, In, In_none, List, Look, Nfa, Node, None, Option, Some, Text}
-use Rattle.determinize_nfa.proofs.Common.{[], ap, arith, by_cases, by_test, edges, edges_of, map, placed, slice_get}
-use Rattle.determinize_nfa.proofs.Common.{state_at, suc, sym, target, true, ℕ, ◌++◌, ◌∙◌, ◌∷◌, ◌≡◌}
+use Rattle.determinize_nfa.proofs.Common.{Assertion, Bool, In, In_none, List, Nfa, Node, Option, Some, Text, [], arith}
+use Rattle.determinize_nfa.proofs.Common.{by_cases, edges, edges_of, map, placed, refl, slice_get, state_at, suc, sym}
+use Rattle.determinize_nfa.proofs.Common.{target, true, ℕ, ◌++◌, ◌∙◌, ◌∷◌, ◌≡◌}
 use Rattle.determinize_below.specs.Edges.{is_capture}
 use Rattle.determinize_below.proofs.nfas.Edges.{edges-capture, edges-or-target, next_of, target-capture}
 use Rattle.determinize_nfa.proofs.runs.Choices.{choices_under, under_cases}
@@ -15,10 +15,7 @@ edges_at : (holds others : Assertion → Bool) (node : Node) (i c : ℕ) (q : �
     → ((look : Assertion) → holds look ≡ true → others look ≡ true)
     → slice_get (map (placed i) (edges_of holds node)) c ≡ Some q
     → slice_get (map (placed i) (edges_of others node)) c ≡ Some q
-edges_at holds others (Look look next) i c q m e = by_test (holds look)
-    (λ y. rw (m look y) (rw y at e))
-    (λ y. absurd (let z : None ≡ Some q = rw y at e in cc))
-edges_at holds others node i c q m e = e
+edges_at holds others node i c q m e = grind (arith, m, e)
 
 -- the choices at a pair, by its two kinds of transitions
 abbrev joined : ℕ × ℕ → List ℕ → List ℕ → List (ℕ × ℕ)
@@ -28,16 +25,13 @@ joined p bytes free = map (placed (suc p.0)) bytes ++ map (placed p.0) free
 pub one_choice : (nfa : Nfa) (text : Text) (h : ℕ → Assertion → Bool) (p : ℕ × ℕ) → is_capture nfa p.1 ≡ true
     → choices_under nfa text h p ≡ (p.0, next_of nfa p.1) ∷ []
 one_choice nfa text h p e =
-    ap (λ l. joined p l (edges nfa (h p.0) p.1)) (target-capture nfa (slice_get text.bytes p.0) p.1 e)
-    ∙ ap (λ l. joined p [] l) (edges-capture nfa (h p.0) p.1 e)
+    rw (target-capture nfa (slice_get text.bytes p.0) p.1 e, edges-capture nfa (h p.0) p.1 e) refl
 
 module _ (nfa : Nfa) (text other : Text) (h g : ℕ → Assertion → Bool) where
   -- where the next bytes and the assertions are the same
   pub same_choices : (p : ℕ × ℕ) → slice_get text.bytes p.0 ≡ slice_get other.bytes p.0 → h p.0 ≡ g p.0
       → choices_under nfa text h p ≡ choices_under nfa other g p
-  same_choices p b e =
-      ap (λ o. joined p (target nfa o p.1) (edges nfa (h p.0) p.1)) b
-      ∙ ap (λ (w : Assertion → Bool). joined p (target nfa (slice_get other.bytes p.0) p.1) (edges nfa w p.1)) e
+  same_choices p b e = rw (b, e) refl
 
   -- a choice without input is one where more assertions hold
   pub free_more : (p q : ℕ × ℕ) (c : ℕ) → q.0 ≡ p.0

@@ -33,14 +33,6 @@ returns-in-Some-clause-err g c = is_ahead c.args.self.now c.args.start_anchored 
     c.self.inside.states.items c.in-Some.index
     (rw c.as_slice.ensures.value at (sym c.first_to.ensures ∙ c.in-Some.is))))
 
-pub returns-in_err-states-clause-err : goal.returns-in_err-states-clause-err
-returns-in_err-states-clause-err g c = if_err_and c.from_residual-in_err-states.result _ _
-    (λ e h. inr (inr h)) c.from_residual-in_err-states.ensures.1
-
-pub returns-in_err-matcher-clause-err : goal.returns-in_err-matcher-clause-err
-returns-in_err-matcher-clause-err g c = if_err_and c.from_residual-in_err-matcher.result _ _
-    (λ e h. inr (inr h)) c.from_residual-in_err-matcher.ensures.1
-
 ids : (g : _) (c : goal.After-from_parts g) → (c.in_ok-union.union ≡ length c.args.self.now.states)
     × (c.in_ok-skip.skip ≡ suc (length c.args.self.now.states))
 ids g c = rw (← c.self.view_is, length-map c.self.inside.states.items node_of)
