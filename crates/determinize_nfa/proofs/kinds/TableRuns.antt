@@ -3,9 +3,9 @@
 -- Used by: ArcsOfStates and Counts.
 -- Idea: induction on the rest of the table; the first run has begun at an earlier byte, with the same target since.
 use Rattle.determinize_nfa.proofs.Common.{In, In_cases, In_head, In_none, In_tail, List, None, Some, Transition, []}
-use Rattle.determinize_nfa.proofs.Common.{arith, by_cases, by_test, cases_lt, eqb-true, false, false≢true, get_or}
-use Rattle.determinize_nfa.proofs.Common.{is_first, length, matches, nat_eq, nat_tests, refl, runs, some_injective, suc}
-use Rattle.determinize_nfa.proofs.Common.{sym, true, ℕ, ◌+◌, ◌-◌, ◌<◌, ◌∙◌, ◌∷◌, ◌≡◌, ◌≤◌}
+use Rattle.determinize_nfa.proofs.Common.{arith, by_cases, by_test, cases_lt, false, get_or, is_first, length, matches}
+use Rattle.determinize_nfa.proofs.Common.{nat_eq, nat_tests, refl, runs, some_injective, suc, sym, true, ℕ, ◌+◌, ◌-◌}
+use Rattle.determinize_nfa.proofs.Common.{◌<◌, ◌∙◌, ◌∷◌, ◌≡◌, ◌≤◌}
 use Rattle.determinize_below.specs.Transition.{dense_target}
 use Rattle.determinize_nfa.specs.Reversal.{runs_in}
 
@@ -13,13 +13,8 @@ use Rattle.determinize_nfa.specs.Reversal.{runs_in}
 abbrev range : ℕ → ℕ → ℕ → Transition
 range a b id = record { start = a; end = b; next = id }
 
-first_is : (id : ℕ) (ids : List ℕ) → is_first id ids ≡ true → get_or ids 0 0 ≡ id
-first_is id [] e = absurd (false≢true e)
-first_is id (x ∷ xs) e = sym (eqb-true id x e)
-
-first_some : (id : ℕ) (ids : List ℕ) → is_first id ids ≡ true → 0 < length ids
-first_some id [] e = absurd (false≢true e)
-first_some id (x ∷ xs) e = omega arith
+first_is : (id : ℕ) (ids : List ℕ) → is_first id ids ≡ true → (get_or ids 0 0 ≡ id) × (0 < length ids)
+first_is id ids e = (grind (arith, nat_tests, e), grind (arith, e))
 
 -- the rest of a table from byte b on, and a run that began at byte a
 record IsAt (target : ℕ → ℕ) (ids : List ℕ) (a b : ℕ) : Type 0 where
@@ -43,7 +38,7 @@ module _ (target : ℕ → ℕ) where
       → IsAt target ids a (suc b)
   onward id ids a b z at =
       let e : suc b + 0 ≡ suc b = omega arith in
-      let next : target (suc b) ≡ id = rw e at (sym (after id ids a b 0 at) ∙ first_is id ids z) in record {
+      let next : target (suc b) ≡ id = rw e at (sym (after id ids a b 0 at) ∙ (first_is id ids z).0) in record {
         rest = λ k. after id ids a b k at;
         run = λ c l h. in_run id ids a b c at l (omega (arith, h)) ∙ sym next;
       }
@@ -73,7 +68,7 @@ module _ (target : ℕ → ℕ) where
       absurd (let w : true ≡ false = rw t at n in cc)
   run_with (id ∷ ids) a b c at f l n = by_test (is_first id ids)
       (λ z. rw z (run_with ids a (suc b) c (onward id ids a b z at)
-      (λ e. absurd (omega (arith, first_some id ids z, e))) l n))
+      (λ e. absurd (omega (arith, (first_is id ids z).1, e))) l n))
       (λ z. by_cases (cases_lt b c)
       (λ k. let d = run_with ids (suc b) (suc b) c (anew id ids a b at) (λ e. refl) k n in
       by_test (nat_eq id 0)

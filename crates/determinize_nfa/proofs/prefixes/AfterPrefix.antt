@@ -4,14 +4,13 @@
 -- Used by: PreferredRun and the laws of idle scans.
 -- Idea: only the skip has a transition to the start, and it reads a byte, so of the pairs that a run has visited only
 -- those of the prefix lie in the way (VisitedNodes).
-use Rattle.determinize_nfa.proofs.Common.{All, Assertion, BinaryUnion, Bool, ByteRange, HasPrefix, In, In_cases}
-use Rattle.determinize_nfa.proofs.Common.{In_none, IsPath, List, Nfa, None, Range, Some, Text, [], ap, arith, by_cases}
-use Rattle.determinize_nfa.proofs.Common.{eq-eqb, eqb-true, get_or, inl, inr, leads_to, length, matches, nat_eq}
-use Rattle.determinize_nfa.proofs.Common.{next_of, or_left, path_stays, pattern_of, refl, same_pairs, slice_get}
-use Rattle.determinize_nfa.proofs.Common.{slice_get-get_or, slice_get_within, some_injective, state_at, suc, sym, true}
-use Rattle.determinize_nfa.proofs.Common.{zero, ℕ, ◌+◌, ◌<◌, ◌∙◌, ◌∷◌, ◌≡◌, ◌≤◌, ◌⊎◌}
+use Rattle.determinize_nfa.proofs.Common.{All, Assertion, Bool, HasPrefix, In, In_cases, In_none, IsPath, List, Nfa}
+use Rattle.determinize_nfa.proofs.Common.{None, Range, Some, Text, [], ap, arith, by_cases, eq-eqb, get_or, inl, inr}
+use Rattle.determinize_nfa.proofs.Common.{leads_to, length, matches, nat_eq, nat_tests, next_of, or_left, path_stays}
+use Rattle.determinize_nfa.proofs.Common.{pattern_of, refl, same_pairs, slice_get, slice_get-get_or, slice_get_within}
+use Rattle.determinize_nfa.proofs.Common.{some_injective, state_at, suc, sym, true, zero, ℕ, ◌+◌, ◌<◌, ◌∙◌, ◌∷◌, ◌≡◌}
+use Rattle.determinize_nfa.proofs.Common.{◌≤◌, ◌⊎◌}
 use Rattle.std.specs.Prelude.{Contains}
-use Rattle.std.proofs.lemmas.Bool.{or_cases}
 use Rattle.ordered_reach.proofs.lists.Elements.{Contains_In}
 use Rattle.determinize_nfa.proofs.runs.Choices.{choice_arc, choices_under, under_later, under_leads}
 use Rattle.ordered_reach.proofs.graph.VisitedNodes.{path_forget, path_remember}
@@ -35,18 +34,14 @@ module _ (nfa : Nfa) (text : Text) (h : ℕ → Assertion → Bool) (has : HasPr
   choices_u k = rw has.first refl
 
   pub u_not_x : u ≡ x → ⊥
-  u_not_x e =
-      let z : BinaryUnion a x ≡ ByteRange record { start = 0; end = 255; next = u }
-      = sym has.first ∙ ap (state_at nfa) e ∙ has.any in cc
+  u_not_x e = grind (arith, has.first, has.any, e)
 
   pub u_not_a : a ≡ u → ⊥
   u_not_a e = u_not_x (has.alone u (rw has.first (or_left (nat_eq u a) (nat_eq u x) (eq-eqb u a (sym e)))))
 
   -- the states of the prefix have no pattern
   no_pattern : (s y : ℕ) → (s ≡ u) ⊎ (s ≡ x) → pattern_of nfa s ≡ Some y → ⊥
-  no_pattern s y d m = by_cases d
-      (λ e. let v : None ≡ Some y = rw (e, has.first) at m in cc)
-      (λ e. let v : None ≡ Some y = rw (e, has.any) at m in cc)
+  no_pattern s y d m = grind (arith, has.first, has.any, d, m)
 
   -- outside the prefix
   abbrev pub IsOut : ℕ × ℕ → Type 0
@@ -71,11 +66,7 @@ module _ (nfa : Nfa) (text : Text) (h : ℕ → Assertion → Bool) (has : HasPr
       closed : (p q : ℕ × ℕ) (c : ℕ) → (p.1 ≡ u) ⊎ (p.1 ≡ x) → slice_get (graph p) c ≡ Some q
           → (q.1 ≡ u) ⊎ (q.1 ≡ x)
       closed p q c i e =
-          let l = under_leads nfa text h p q c e in by_cases i
-          (λ z. inr (by_cases (or_cases (nat_eq q.1 a) (nat_eq q.1 x) (rw (z, has.first) at l))
-          (λ k. eqb-true q.1 a k ∙ same)
-          (eqb-true q.1 x)))
-          (λ z. inl (eqb-true q.1 u (rw (z, has.any) at l)))
+          grind (arith, nat_tests, under_leads nfa text h p q c e, has.first, has.any, same, i)
 
   -- from the state that passes over a byte a choice leads to the unanchored start, over a byte
   from_x : (k c : ℕ) (t : ℕ × ℕ) → slice_get (graph (k, x)) c ≡ Some t
@@ -97,10 +88,9 @@ module _ (nfa : Nfa) (text : Text) (h : ℕ → Assertion → Bool) (has : HasPr
     choices_x : (k : ℕ) → k < length text.bytes → graph (k, x) ≡ (suc k, u) ∷ []
     choices_x k l =
         let e = slice_get-get_or text.bytes k 0 l in
-        rw (has.any, e, passes (get_or text.bytes k 0) (small k 0 l)) refl
-      where
-        passes : (b : ℕ) → b < 256 → matches record { start = 0; end = 255; next = u } b ≡ true
-        passes b l = grind arith
+        let b : get_or text.bytes k 0 < 256 = small k 0 l in
+        let m : matches record { start = 0; end = 255; next = u } (get_or text.bytes k 0) ≡ true = grind (arith, b) in
+        rw (has.any, e, m) refl
 
     -- what a run has met when it comes to the unanchored start at a position
     abbrev pub met : ℕ → List (ℕ × ℕ)

@@ -258,10 +258,8 @@ module _ (nfa : Nfa) where
   }
     where
       empty : (t : ℕ) → sources (none_turned n) t ≡ []
-      empty t = by_cases (cases_lt t n)
-          (λ l. get_or-replicate n t [] [] l)
-          (λ l. let c : length (replicate {A = List ℕ} n []) ≡ n = length-replicate n [] in
-          get_or_past (replicate n []) t [] (omega arith))
+      empty t = grind (arith, get_or-replicate {A = List ℕ} n t [] [], get_or_past (replicate {A = List ℕ} n []) t [],
+          length-replicate {A = List ℕ} n [])
 
   -- the transition to the anchored start, and all states
   pub all_recorded : IsAccepted nfa → (h : Turned) (over : IsTurnedOver nfa h) → IsRecorded nfa over.met h

@@ -68,15 +68,11 @@ pub sources_within : (h : Turned) (t y : ℕ) → In y (sources h t) → t < len
 sources_within h t y k = by_cases (cases_lt t (length h.into)) (λ l. l)
     (λ l. In_none y (rw (get_or_past h.into t [] l) at k))
 
+-- an id with a pattern, or with a transition, is that of a state
 module _ (nfa : Nfa) (s : ℕ) where
-  is_state : {P : Type 0} → (state_at nfa s ≡ Fail → P) → (s < length nfa.states → P) → P
-  is_state f g = by_cases (cases_lt s (length nfa.states)) g (λ l. f (state_past nfa s l))
-
-  -- an id with a pattern, or with a transition, is that of a state
   pub pattern_within : (pattern : ℕ) → pattern_of nfa s ≡ Some pattern → s < length nfa.states
-  pattern_within pattern e = is_state
-      (λ z. absurd (let k : None ≡ Some pattern = rw z at e in cc))
-      (λ l. l)
+  pattern_within pattern e = grind (arith, state_past nfa s)
 
   pub arc_within : (a : Arc) → In a (arcs_of (state_at nfa s)) → s < length nfa.states
-  arc_within a k = is_state (λ z. In_none a (rw z at k)) (λ l. l)
+  arc_within a k = by_cases (cases_lt s (length nfa.states)) (λ l. l)
+      (λ l. In_none a (rw (state_past nfa s l) at k))
