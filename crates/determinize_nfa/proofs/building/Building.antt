@@ -50,12 +50,9 @@ module _ {V : Type 0} (f : V → Node) (p : Node → Bool) where
 
   pub none_passes : (xs : List V) → position (λ x. p (f x)) xs ≡ None
       → (s : ℕ) → s < length (map f xs) → p (get_or (map f xs) s Fail) ≡ false
-  none_passes xs e s l = fails_before_first p (map f xs) s Fail (past (rw (position-map xs) at e))
-    where
-      past : position p (map f xs) ≡ None → s < position_or_len p (map f xs)
-      past e = by_cases (cases_lt (position_or_len p (map f xs)) (length (map f xs)))
-          (λ k. absurd (let z : Some (position_or_len p (map f xs)) ≡ None = rw (lt-ltb _ _ k) at e in cc))
-          (λ k. omega arith)
+  none_passes xs e s l =
+      let none : position p (map f xs) ≡ None = rw (position-map xs) at e in
+      fails_before_first p (map f xs) s Fail (grind (arith, nat_tests, none, l))
 
 -- the prefix of a start
 module _ (b : BuilderValue) (start : ℕ) where

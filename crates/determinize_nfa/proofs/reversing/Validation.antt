@@ -4,10 +4,11 @@
 -- Idea: all ids are below the count, no state is sparse or dense, and only one has a pattern.
 use Rattle.determinize_nfa.proofs.Common.{Arc, BuildError, ID_LIMIT, In, In_cases, In_head, In_map_from, In_tail}
 use Rattle.determinize_nfa.proofs.Common.{IsTooLarge, List, Match, Nfa, Node, None, Some, TooManyStates, Turned, Union}
-use Rattle.determinize_nfa.proofs.Common.{[], ap, arith, by_cases, by_test, failure, false, filter, gathered}
-use Rattle.determinize_nfa.proofs.Common.{get_or_from_slice_get, inr, is_match_node, length, list_all, list_any, map}
-use Rattle.determinize_nfa.proofs.Common.{nat_lt, nat_tests, pattern_in, refl, slice_get_within, some_injective}
-use Rattle.determinize_nfa.proofs.Common.{sources, states_of, suc, sym, true, ℕ, ◌++◌, ◌+◌, ◌<◌, ◌∙◌, ◌∷◌, ◌≡◌}
+use Rattle.determinize_nfa.proofs.Common.{[], ap, append-nil, arith, by_cases, by_test, failure, false, filter}
+use Rattle.determinize_nfa.proofs.Common.{gathered, get_or_from_slice_get, inr, is_match_node, length, list_all}
+use Rattle.determinize_nfa.proofs.Common.{list_any, map, nat_lt, nat_tests, pattern_in, refl, slice_get_within}
+use Rattle.determinize_nfa.proofs.Common.{some_injective, sources, states_of, suc, sym, true, ℕ, ◌++◌, ◌+◌, ◌<◌, ◌∙◌}
+use Rattle.determinize_nfa.proofs.Common.{◌∷◌, ◌≡◌}
 use Rattle.determinize_below.specs.Nfa.{failure_of, is_match_of, is_repeated, states_failure}
 use Rattle.determinize_nfa.proofs.reversing.Counts.{length-states}
 use Rattle.determinize_nfa.proofs.reversing.Recorded.{IsSound, alone, turned_to}
@@ -45,28 +46,18 @@ not_match : (q : ℕ) (earlier : List Node) (node : Node) → pattern_in node �
     → (is_repeated earlier node ≡ false) × (is_match_of q node ≡ false)
 not_match q earlier node e = (grind (arith, e), grind (arith, e))
 
--- plain states before others
-plain_before : (count : ℕ) (others : List Node)
-    → ((earlier : List Node) (i : ℕ) → list_any (is_match_of 0) earlier ≡ false
-    → states_failure count earlier i others ≡ None)
-    → (xs earlier : List Node) (i : ℕ) → ((x : Node) → In x xs → IsPlain count x)
-    → list_any (is_match_of 0) earlier ≡ false → states_failure count earlier i (xs ++ others) ≡ None
-plain_before count others f [] earlier i p n = f earlier i n
-plain_before count others f (x ∷ xs) earlier i p n =
-    let q : IsPlain count x = p x (In_head x xs) in
-    let m = not_match 0 earlier x q.pattern in
-    let l : list_any (is_match_of 0) (earlier ++ x ∷ []) ≡ false
-    = list_any-append (is_match_of 0) earlier (x ∷ []) ∙ rw (n, m.1) refl in
-    rw (m.0, q.passes i)
-    (plain_before count others f xs (earlier ++ x ∷ []) (i + 1) (λ y k. p y (In_tail y x xs k)) l)
-
-plain_only : (count : ℕ) (xs earlier : List Node) (i : ℕ) → ((x : Node) → In x xs → IsPlain count x)
-    → states_failure count earlier i xs ≡ None
-plain_only count [] earlier i p = refl
-plain_only count (x ∷ xs) earlier i p =
-    let q : IsPlain count x = p x (In_head x xs) in
-    rw ((not_match 0 earlier x q.pattern).0, q.passes i)
-    (plain_only count xs (earlier ++ x ∷ []) (i + 1) (λ y k. p y (In_tail y x xs k)))
+-- plain states before others, where the states before these have a property that plain states keep
+plain_before : (count : ℕ) (others : List Node) (Q : List Node → Type 0)
+    → ((earlier : List Node) (x : Node) → pattern_in x ≡ None → Q earlier → Q (earlier ++ x ∷ []))
+    → ((earlier : List Node) (i : ℕ) → Q earlier → states_failure count earlier i others ≡ None)
+    → (xs earlier : List Node) (i : ℕ) → ((x : Node) → In x xs → IsPlain count x) → Q earlier
+    → states_failure count earlier i (xs ++ others) ≡ None
+plain_before count others Q keep f [] earlier i p q = f earlier i q
+plain_before count others Q keep f (x ∷ xs) earlier i p q =
+    let plain : IsPlain count x = p x (In_head x xs) in
+    rw ((not_match 0 earlier x plain.pattern).0, plain.passes i)
+    (plain_before count others Q keep f xs (earlier ++ x ∷ []) (i + 1) (λ y k. p y (In_tail y x xs k))
+    (keep earlier x plain.pattern q))
 
 none_matches : (xs : List Node) → ((x : Node) → In x xs → pattern_in x ≡ None) → filter is_match_node xs ≡ []
 none_matches [] f = refl
@@ -103,9 +94,12 @@ module _ (nfa : Nfa) (h : Turned) (sound : IsSound nfa h) where
       record { passes = λ i. rw all refl; pattern = refl }
 
   passes : states_failure count [] 0 (states_of h) ≡ None
-  passes = plain_before count (Match 0 ∷ Union h.ends ∷ h.rest)
-      (λ earlier i n. rw n (plain_only count (Union h.ends ∷ h.rest) (earlier ++ Match 0 ∷ []) (i + 1)
-      (λ x k. In_cases x (Union h.ends) h.rest k (λ e. rw e ends_plain) (rest_plain x))))
+  passes = plain_before count (Match 0 ∷ Union h.ends ∷ h.rest) (λ xs. list_any (is_match_of 0) xs ≡ false)
+      (λ earlier x e n. list_any-append (is_match_of 0) earlier (x ∷ [])
+      ∙ rw (n, (not_match 0 earlier x e).1) refl)
+      (λ earlier i n. rw n (rw (append-nil h.rest) at (plain_before count [] (λ xs. Unit {0}) (λ earlier x e q. q)
+      (λ earlier i q. refl) (Union h.ends ∷ h.rest) (earlier ++ Match 0 ∷ []) (i + 1)
+      (λ x k. In_cases x (Union h.ends) h.rest k (λ e. rw e ends_plain) (rest_plain x)) tt)))
       (map gathered h.into) [] 0 into_plain refl
 
   -- the only error that validation finds
@@ -120,7 +114,8 @@ module _ (nfa : Nfa) (h : Turned) (sound : IsSound nfa h) where
 
   pub one_match : filter is_match_node (states_of h) ≡ Match 0 ∷ []
   one_match =
-      filter-append is_match_node (map gathered h.into) (Match 0 ∷ Union h.ends ∷ h.rest)
-      ∙ ap (λ xs. xs ++ filter is_match_node (Match 0 ∷ Union h.ends ∷ h.rest))
-      (none_matches (map gathered h.into) (λ x k. (into_plain x k).pattern))
-      ∙ ap (λ (xs : List Node). Match 0 ∷ xs) (none_matches h.rest (λ x k. (rest_plain x k).pattern))
+      rw (
+        filter-append is_match_node (map gathered h.into) (Match 0 ∷ Union h.ends ∷ h.rest),
+        none_matches (map gathered h.into) (λ x k. (into_plain x k).pattern),
+        none_matches h.rest (λ x k. (rest_plain x k).pattern),
+      ) refl

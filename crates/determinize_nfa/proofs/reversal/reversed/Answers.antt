@@ -1,5 +1,5 @@
 use Rattle.determinize_nfa.proofs.Common.{IfErr-weaker, IfOk-weaker, Nfa, ap, arith, by_cases, if_err_and, inl, length}
-use Rattle.determinize_nfa.proofs.Common.{looks_of, map, most_states, node_of, not, refl, suc, sym, ◌+◌, ◌<◌, ◌∙◌, ◌≡◌}
+use Rattle.determinize_nfa.proofs.Common.{looks_of, map, most_states, node_of, not, refl, suc, sym, ◌+◌, ◌∙◌, ◌≡◌}
 use Rattle.determinize_nfa.proofs.Limits.{too_many}
 use Rattle.determinize_nfa.proofs.reversing.BothWays.{IsMadeOf, made_reverse}
 use Rattle.determinize_nfa.proofs.reversing.Counts.{larger, most}
@@ -8,17 +8,15 @@ use Rattle.determinize_nfa.proofs.reversing.Validation.{one_match, only_size}
 use Rattle.determinize_nfa.proofs.reversal.reversed.Goals as goal
 
 pub returns-in_err-begin-clause-err : goal.returns-in_err-begin-clause-err
-returns-in_err-begin-clause-err g c =
-    let below : c.len-count.result < most_states c.args.nfa.now = omega (arith, c.len-count.ensures.count) in
-    if_err_and c.from_residual.result _ _
-    (too_many c.len-count.result (most_states c.args.nfa.now) below c.in_err-begin.ensures.ok)
+returns-in_err-begin-clause-err g c = if_err_and c.from_residual.result _ _
+    (too_many c.len-count.result (most_states c.args.nfa.now) (omega (arith, c.len-count.ensures.count))
+    c.in_err-begin.ensures.ok)
     c.from_residual.ensures.1
 
 pub returns-in_err-start-clause-err : goal.returns-in_err-start-clause-err
-returns-in_err-start-clause-err g c =
-    let below : c.len-count.result + 1 < most_states c.args.nfa.now = omega (arith, c.len-count.ensures.count) in
-    if_err_and c.from_residual-in_err-start.result _ _
-    (too_many (c.len-count.result + 1) (most_states c.args.nfa.now) below c.in_err-start.ensures.ok)
+returns-in_err-start-clause-err g c = if_err_and c.from_residual-in_err-start.result _ _
+    (too_many (c.len-count.result + 1) (most_states c.args.nfa.now) (omega (arith, c.len-count.ensures.count))
+    c.in_err-start.ensures.ok)
     c.from_residual-in_err-start.ensures.1
 
 pub returns-in_err-turned-clause-err : goal.returns-in_err-turned-clause-err

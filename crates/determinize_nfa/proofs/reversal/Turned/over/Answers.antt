@@ -1,4 +1,4 @@
-use Rattle.determinize_nfa.proofs.Common.{List, ap, if_err_and, sym, turned_over, ℕ, ◌∙◌}
+use Rattle.determinize_nfa.proofs.Common.{if_err_and}
 use Rattle.determinize_nfa.proofs.reversal.Turned.over.Goals as goal
 
 pub returns-clause-ok : goal.returns-clause-ok
@@ -7,8 +7,7 @@ returns-clause-ok g c = record {
   closed = c.in_ok-found.ensures.closed;
   below = c.in_ok-found.ensures.below;
   distinct = c.in_ok-found.ensures.distinct;
-  is = ap (λ (xs : List ℕ). turned_over c.args.nfa.now xs) (sym c.as_slice.ensures.ids)
-      ∙ c.in_ok-add_nodes.ensures.turned;
+  is = rw c.as_slice.ensures.ids at c.in_ok-add_nodes.ensures.turned;
   count = c.in_ok-add_nodes.ensures.count;
 }
 
