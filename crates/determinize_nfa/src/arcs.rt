@@ -100,6 +100,7 @@ fn arc_from<A: Allocator>(state: &State<A>, from: usize) -> Option<(Arc, usize)>
 }
 
 /// Returns the transition over the range with this index, and the next index.
+#[tactic(auto, using(crate::proofs::kinds::ArcsLeft::left_at))]
 fn range_from(ranges: &[Transition], from: usize) -> Option<(Arc, usize)>
     ensures { IsFirstOf (λ k. drop k (map variants.Range ranges.now)) from result }
 {
@@ -110,6 +111,7 @@ fn range_from(ranges: &[Transition], from: usize) -> Option<(Arc, usize)>
 }
 
 /// Returns the transition without input to the target with this index, and the next index.
+#[tactic(auto, using(crate::proofs::kinds::ArcsLeft::left_at))]
 fn free_from(targets: &[StateID], from: usize) -> Option<(Arc, usize)>
     ensures { IsFirstOf (λ k. drop k (map variants.Free targets.now)) from result }
 {

@@ -126,7 +126,8 @@ module _ (nfa : Nfa) (text : Text) (h : ℕ → Assertion → Bool) (has : HasPr
         × (IsPath graph [] (k, a) cs q → IsPath graph ((k, u) ∷ met k) (k, a) cs q)
     forget k cs q =
         let begin : IsAfter k (k, a) = (omega arith, λ e. u_not_a (ap (λ y. y.1) e)) in (
-          path_forget same_pairs graph (IsAfter k) (after_closed k) ((k, u) ∷ met k) (after_apart k) cs [] (k, a) q begin,
+          path_forget same_pairs graph (IsAfter k) (after_closed k) ((k, u) ∷ met k) (after_apart k) cs [] (k, a) q
+              begin,
           path_remember same_pairs graph (IsAfter k) (after_closed k) ((k, u) ∷ met k) (after_apart k) cs [] (k, a) q
               begin,
         )

@@ -258,8 +258,12 @@ module _ (nfa : Nfa) where
   }
     where
       empty : (t : ℕ) → sources (none_turned n) t ≡ []
-      empty t = grind (arith, get_or-replicate {A = List ℕ} n t [] [], get_or_past (replicate {A = List ℕ} n []) t [],
-          length-replicate {A = List ℕ} n [])
+      empty t = grind (
+        arith,
+        get_or-replicate {A = List ℕ} n t [] [],
+        get_or_past (replicate {A = List ℕ} n []) t [],
+        length-replicate {A = List ℕ} n [],
+      )
 
   -- the transition to the anchored start, and all states
   pub all_recorded : IsAccepted nfa → (h : Turned) (over : IsTurnedOver nfa h) → IsRecorded nfa over.met h

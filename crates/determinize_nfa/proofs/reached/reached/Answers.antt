@@ -44,6 +44,3 @@ pub returns-clause-closed : goal.returns-clause-closed
 returns-clause-closed g c =
     let none : slice_get c.loop-id.found.ids c.loop-id.index ≡ None = search rules in
     found_all c.args.nfa.now c.loop-id.found.ids c.loop-id.index c.loop-id.invariant.found none
-
-pub returns-clause-distinct : goal.returns-clause-distinct
-returns-clause-distinct g c = c.loop-id.invariant.found.distinct

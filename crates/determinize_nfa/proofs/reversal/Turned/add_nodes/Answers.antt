@@ -36,6 +36,3 @@ returns-in_err-add_node-clause-err g c =
 pub returns-clause-turned : goal.returns-clause-turned
 returns-clause-turned g c =
     rw (drop_of_length-le c.args.ids.now c.loop-id-test.false) at c.loop-id.invariant.rest
-
-pub returns-clause-count : goal.returns-clause-count
-returns-clause-count g c = c.loop-id.invariant.count
