@@ -2,10 +2,6 @@ use Rattle.determinize_nfa.proofs.Common.{append_assoc, arith, gathered, length,
 use Rattle.determinize_nfa.proofs.Common.{refl, ◌≡◌}
 use Rattle.determinize_nfa.proofs.reversal.gathered_all.Goals as goal
 
-pub loop-alternates-init : goal.loop-alternates-init
-loop-alternates-init g c =
-    rw (c.new-made.ensures.items, c.into_iter-alternates-iterator.ensures.into_iter_gives.0) refl
-
 pub loop-alternates-preserved : goal.loop-alternates-preserved
 loop-alternates-preserved g c =
     rw (c.in_ok-push_state.ensures.nodes, append_assoc, c.gathered.ensures)

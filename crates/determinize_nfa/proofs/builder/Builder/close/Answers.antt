@@ -3,18 +3,6 @@ use Rattle.determinize_nfa.proofs.Common.{map-set, node_of, refl, sym, ◌∙◌
 use Rattle.determinize_nfa.proofs.building.Building.{index_within, node_is, same_node}
 use Rattle.determinize_nfa.proofs.builder.Builder.close.Goals as goal
 
-pub index-requires : goal.index-requires
-index-requires g c = omega (
-  arith,
-  index_within node_of c.self.inside.states.items c.self.view_is c.as_usize-index.ensures.value c.requires,
-)
-
-pub index_mut-requires : goal.index_mut-requires
-index_mut-requires g c = omega (
-  arith,
-  index_within node_of c.self.inside.states.items c.self.view_is c.as_usize-index.ensures.value c.requires,
-)
-
 pub set_alternates-requires : goal.set_alternates-requires
 set_alternates-requires g c =
     let same = same_node _ _ c.self.view_is c.as_usize-index.ensures.value c.requires

@@ -6,18 +6,6 @@ use Rattle.determinize_nfa.proofs.building.Building.{index_within, node_is}
 use Rattle.determinize_nfa.specs.Builder.{redirected}
 use Rattle.determinize_nfa.proofs.builder.Builder.patch.Goals as goal
 
-pub index-requires : goal.index-requires
-index-requires g c = omega (
-  arith,
-  index_within node_of c.self.inside.states.items c.self.view_is c.as_usize-index.ensures.value c.requires,
-)
-
-pub index_mut-requires : goal.index_mut-requires
-index_mut-requires g c = omega (
-  arith,
-  index_within node_of c.self.inside.states.items c.self.view_is c.as_usize-index.ensures.value c.requires,
-)
-
 pub returns-then-not-has_target-clause-err : goal.returns-then-not-has_target-clause-err
 returns-then-not-has_target-clause-err g c = inl (
   rw (node_is _ _ c.self.view_is c.as_usize-index.ensures.value c.requires c.index.result.now c.index.ensures)
