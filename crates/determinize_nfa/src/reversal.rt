@@ -212,6 +212,7 @@ fn gathered_all<A: Allocator + Copy>(
 }
 
 /// Adds the match state, the start state, and the states that read a byte or test an assertion.
+#[tactic(auto, using(crate::proofs::building::Building::pushing))]
 fn end_states<A: Allocator>(
     made: &mut Vec<State<A>, A>,
     ends: Vec<StateID, A>,

@@ -1,5 +1,5 @@
 use Rattle.determinize_nfa.proofs.Common.{append_assoc, arith, gathered, length, length-map, map, node_of, none_left}
-use Rattle.determinize_nfa.proofs.Common.{refl, ◌≡◌}
+use Rattle.determinize_nfa.proofs.Common.{◌≡◌}
 use Rattle.determinize_nfa.proofs.reversal.gathered_all.Goals as goal
 
 pub loop-alternates-preserved : goal.loop-alternates-preserved

@@ -1,6 +1,6 @@
-use Rattle.determinize_nfa.proofs.Common.{NotPatchable, ap, arith, if_err_and, inl, inr, length-map, length-set}
+use Rattle.determinize_nfa.proofs.Common.{NotPatchable, ap, if_err_and, inl, inr}
 use Rattle.determinize_nfa.proofs.Common.{map-set, node_of, refl, sym, ◌∙◌}
-use Rattle.determinize_nfa.proofs.building.Building.{index_within, node_is, same_node}
+use Rattle.determinize_nfa.proofs.building.Building.{node_is, same_node}
 use Rattle.determinize_nfa.proofs.builder.Builder.close.Goals as goal
 
 pub set_alternates-requires : goal.set_alternates-requires
@@ -24,9 +24,6 @@ pub returns-clause-place : goal.returns-clause-place
 returns-clause-place g c =
     rw (node_is _ _ c.self.view_is c.as_usize-index.ensures.value c.requires c.index.result.now c.index.ensures)
     (sym c.is_empty_union.ensures ∙ c.if-not-is_empty_union.false)
-
-pub returns-clause-count : goal.returns-clause-count
-returns-clause-count g c = rw (← c.self.view_is) (simp (length-map, length-set))
 
 pub returns-clause-closed : goal.returns-clause-closed
 returns-clause-closed g c =

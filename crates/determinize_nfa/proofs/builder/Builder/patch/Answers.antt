@@ -1,8 +1,8 @@
-use Rattle.determinize_nfa.proofs.Common.{IfErr-weaker, NotPatchable, ap, arith, inl, inr, length-map, length-set}
+use Rattle.determinize_nfa.proofs.Common.{IfErr-weaker, NotPatchable, ap, inl, inr}
 use Rattle.determinize_nfa.proofs.Common.{map-set, node_of, on_ok_weaker, refl, sym, ◌∙◌, ◌≡◌}
 use Rattle.std.proofs.Math.Seq.{map-set_same}
 use Rattle.std.proofs.lemmas.Result.{on_err_weaker}
-use Rattle.determinize_nfa.proofs.building.Building.{index_within, node_is}
+use Rattle.determinize_nfa.proofs.building.Building.{node_is}
 use Rattle.determinize_nfa.specs.Builder.{redirected}
 use Rattle.determinize_nfa.proofs.builder.Builder.patch.Goals as goal
 
@@ -18,9 +18,6 @@ returns-clause-patchable g c = on_ok_weaker c.redirect.result
     (λ n. rw (node_is _ _ c.self.view_is c.as_usize-index.ensures.value c.requires c.index.result.now c.index.ensures)
     (sym c.has_target.ensures ∙ c.if-not-has_target.false))
     c.redirect.ensures.redirected
-
-pub returns-clause-count : goal.returns-clause-count
-returns-clause-count g c = rw (← c.self.view_is) (simp (length-map, length-set))
 
 pub returns-clause-err : goal.returns-clause-err
 returns-clause-err g c = IfErr-weaker c.redirect.result _ _

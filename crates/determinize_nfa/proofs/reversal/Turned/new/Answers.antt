@@ -1,4 +1,4 @@
-use Rattle.determinize_nfa.proofs.Common.{[], ap, arith, map-append, none_turned, ◌∷◌, ◌≡◌}
+use Rattle.determinize_nfa.proofs.Common.{[], map-append, ◌∷◌}
 use Rattle.std.proofs.lemmas.List.{replicate-append-replicate}
 use Rattle.determinize_nfa.proofs.reversal.Turned.new.Goals as goal
 
@@ -10,8 +10,3 @@ loop-preserved g c =
       c.loop.invariant,
       c.new.ensures.items,
     ) (replicate-append-replicate c.loop.counter 1 [])
-
-pub returns : goal.returns
-returns g c =
-    let count : c.loop.counter ≡ c.args.count = omega (arith, c.loop-test.false, c.loop.auto.counter-end) in
-    rw (c.loop.invariant, c.new-2.ensures.items, c.new-3.ensures.items) (ap none_turned count)
