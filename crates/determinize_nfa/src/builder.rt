@@ -183,7 +183,7 @@ impl<A: Allocator + Copy> Builder<A> {
     ///
     /// Returns `NotPatchable` for a sparse state, a match state and one without transitions. To
     /// patch a sparse state, give it an empty state as its target and patch that.
-    #[tactic(auto, using(crate::proofs::building::Building::index_within))]
+    #[tactic(auto, using(crate::proofs::building::Building::index_within, crate::proofs::building::Building::node_is, crate::proofs::building::Building::same_node))]
     pub fn patch(&mut self, from: StateID, to: StateID) -> Result<(), BuildError>
         requires { from < length self.old.states }
         ensures patched { OnOk result (self.new ≡ patched self.old from to) }
@@ -203,7 +203,7 @@ impl<A: Allocator + Copy> Builder<A> {
 
     /// Gives a union without alternates, as `add_union(&[])` adds it, these alternates, in order of
     /// preference. Returns `NotPatchable` for any other state.
-    #[tactic(auto, using(crate::proofs::building::Building::index_within))]
+    #[tactic(auto, using(crate::proofs::building::Building::index_within, crate::proofs::building::Building::node_is, crate::proofs::building::Building::same_node))]
     pub fn close(&mut self, union: StateID, alternates: &[StateID]) -> Result<(), BuildError>
         requires { union < length self.old.states }
         ensures closed { OnOk result (self.new ≡ closed self.old union alternates.now) }

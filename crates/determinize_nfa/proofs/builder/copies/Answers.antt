@@ -1,5 +1,4 @@
-use Rattle.determinize_nfa.proofs.Common.{append-nil, append_assoc}
-use Rattle.std.proofs.Math.ListN.{drop_of_length-le}
+use Rattle.determinize_nfa.proofs.Common.{append_assoc}
 use Rattle.determinize_below.proofs.Moved.{next_of}
 use Rattle.determinize_nfa.proofs.builder.copies.Goals as goal
 
@@ -8,6 +7,3 @@ loop-state-preserved g c =
     let next = next_of c.args.states.now c.loop-state.state-index c.state-item.result
     c.loop-state-test.true c.state-item.is in
     rw (c.in_ok-push_state.ensures.nodes, append_assoc, c.in_ok-copy.ensures) (rw next at c.loop-state.invariant)
-
-pub returns : goal.returns
-returns g c = rw (drop_of_length-le c.args.states.now c.loop-state-test.false, append-nil) at c.loop-state.invariant

@@ -1,13 +1,7 @@
-use Rattle.determinize_nfa.proofs.Common.{NotPatchable, ap, if_err_and, inl, inr}
+use Rattle.determinize_nfa.proofs.Common.{NotPatchable, ap, inl}
 use Rattle.determinize_nfa.proofs.Common.{map-set, node_of, refl, sym, ◌∙◌}
-use Rattle.determinize_nfa.proofs.building.Building.{node_is, same_node}
+use Rattle.determinize_nfa.proofs.building.Building.{node_is}
 use Rattle.determinize_nfa.proofs.builder.Builder.close.Goals as goal
-
-pub set_alternates-requires : goal.set_alternates-requires
-set_alternates-requires g c =
-    let same = same_node _ _ c.self.view_is c.as_usize-index.ensures.value c.requires
-    c.index_mut.result.now c.index.result.now c.index_mut.ensures.value c.index.ensures in
-    rw same (sym c.is_empty_union.ensures ∙ c.if-not-is_empty_union.false)
 
 pub returns-then-not-is_empty_union-clause-err : goal.returns-then-not-is_empty_union-clause-err
 returns-then-not-is_empty_union-clause-err g c = inl (
@@ -15,15 +9,6 @@ returns-then-not-is_empty_union-clause-err g c = inl (
       (sym c.is_empty_union.ensures ∙ c.if-not-is_empty_union.true),
   ap NotPatchable c.as_usize-index.ensures.value,
 )
-
-pub returns-in_err-alternates-clause-err : goal.returns-in_err-alternates-clause-err
-returns-in_err-alternates-clause-err g c = if_err_and c.from_residual.result _ _
-    (λ e h. inr h) c.from_residual.ensures.1
-
-pub returns-clause-place : goal.returns-clause-place
-returns-clause-place g c =
-    rw (node_is _ _ c.self.view_is c.as_usize-index.ensures.value c.requires c.index.result.now c.index.ensures)
-    (sym c.is_empty_union.ensures ∙ c.if-not-is_empty_union.false)
 
 pub returns-clause-closed : goal.returns-clause-closed
 returns-clause-closed g c =

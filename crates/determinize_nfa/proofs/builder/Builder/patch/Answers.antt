@@ -1,4 +1,4 @@
-use Rattle.determinize_nfa.proofs.Common.{IfErr-weaker, NotPatchable, ap, inl, inr}
+use Rattle.determinize_nfa.proofs.Common.{NotPatchable, ap, inl}
 use Rattle.determinize_nfa.proofs.Common.{map-set, node_of, on_ok_weaker, refl, sym, ◌∙◌, ◌≡◌}
 use Rattle.std.proofs.Math.Seq.{map-set_same}
 use Rattle.std.proofs.lemmas.Result.{on_err_weaker}
@@ -12,16 +12,6 @@ returns-then-not-has_target-clause-err g c = inl (
       (sym c.has_target.ensures ∙ c.if-not-has_target.true),
   ap NotPatchable c.as_usize-index.ensures.value,
 )
-
-pub returns-clause-patchable : goal.returns-clause-patchable
-returns-clause-patchable g c = on_ok_weaker c.redirect.result
-    (λ n. rw (node_is _ _ c.self.view_is c.as_usize-index.ensures.value c.requires c.index.result.now c.index.ensures)
-    (sym c.has_target.ensures ∙ c.if-not-has_target.false))
-    c.redirect.ensures.redirected
-
-pub returns-clause-err : goal.returns-clause-err
-returns-clause-err g c = IfErr-weaker c.redirect.result _ _
-    (λ e h. inr h) c.redirect.ensures.err
 
 pub returns-clause-patched : goal.returns-clause-patched
 returns-clause-patched g c =

@@ -1,7 +1,6 @@
 use Rattle.determinize_nfa.proofs.Common.{each_passes, if_err_and, most_states, node_of, refl}
 use Rattle.determinize_nfa.proofs.reversing.Counts.{count-none, over_more}
 use Rattle.determinize_below.proofs.Moved.{next_of}
-use Rattle.std.proofs.Math.ListN.{drop_of_length-le}
 use Rattle.determinize_nfa.proofs.reversing.Counts.{larger, room}
 use Rattle.determinize_nfa.proofs.reversal.Turned.add_nodes.Goals as goal
 
@@ -32,7 +31,3 @@ returns-in_err-add_node-clause-err g c =
     (λ e h. rw h (larger _ (most_states c.args.nfa.now) c.in_err-add_node.field-0.0
     (room c.args.nfa.now c.args.ids.now _ _ c.requires.distinct over) c.in_err-add_node.ensures.err))
     c.from_residual-in_err-add_node.ensures.1
-
-pub returns-clause-turned : goal.returns-clause-turned
-returns-clause-turned g c =
-    rw (drop_of_length-le c.args.ids.now c.loop-id-test.false) at c.loop-id.invariant.rest
