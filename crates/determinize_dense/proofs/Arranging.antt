@@ -19,11 +19,11 @@ module _ (v : DfaValue) {ranks : List ℕ} {p : Blocks} (are : AreRanks v.table 
 
   module _ {w : DfaValue} (m : IsMerged v p w) where
     pub arranged-least : IsLeast v.nfa v.table → IsLeast w.nfa w.table
-    arranged-least least = merged-least v w p (record {
+    arranged-least least = let same = same_row in merged-least v w p (record {
       blocks = is.blocks;
       count = is.count ∙ are.count;
-      patterns = λ r s h l e. rw (same_row r s h l e);
-      apart = λ r s h l other. least.apart r s h l (λ same. other (rw same));
+      patterns = grind (arith, same);
+      apart = grind (arith, least.apart);
     }) m
 
     -- only block 0 has row 0

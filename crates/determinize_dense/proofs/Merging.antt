@@ -61,9 +61,7 @@ module _ {v : DfaValue} (is : IsDfa v) {p : Blocks} (part : IsGrouping v.table p
   entry-merged : (b c : ℕ) → b < length p.members → c < v.table.class_count + 1
       → entry e b c ≡ block (entry d (member b) c)
   entry-merged b c h l =
-      let columns : ℕ = v.table.class_count + 1 in
-      rw (div-mul-add b columns c l, mod-mul-add b columns c l)
-      at (rows.entries (b * columns + c) (omega (arith, mul-add-lt b columns c (length p.members) h l)))
+      let columns : ℕ = v.table.class_count + 1 in grind (arith, div-mul-add b columns c l, mod-mul-add b columns c l, mul-add-lt b columns c (length p.members) h l, rows.entries (b * columns + c))
 
   -- the row over a unit of a block
   over-block : (b : ℕ) (u : Option ℕ) → b < length p.members → IsUnit u
@@ -108,8 +106,7 @@ module _ {v : DfaValue} (is : IsDfa v) {p : Blocks} (part : IsGrouping v.table p
 
   -- no match follows row 0
   none-after : (rest : List (Option ℕ)) → All IsUnit rest → patterns_at e (row_after e 0 rest) ≡ []
-  none-after rest all = rw (lists-after 0 rest part.blocks.some all, part.blocks.first)
-      (dead_zero v is (omega (arith, member-below 0 part.blocks.some)) rest all)
+  none-after rest all = grind (arith, lists-after 0 rest, dead_zero v is, member-below 0)
 
   over : (anchored : Bool) (q : Option ℕ) (us rest : List (Option ℕ)) → IsUnit q → All IsUnit us → All IsUnit rest
       → row_after e (start_row v.nfa e anchored q) us ≡ 0

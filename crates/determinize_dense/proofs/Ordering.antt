@@ -43,12 +43,10 @@ module _ {ranks numbers members : List ℕ} (is : IsOrdering ranks (4 * length r
       → (slice_index numbers r < length members) × (slice_index members (slice_index numbers r) ≡ r)
   placed r h = is.back r h (omega (arith, mul-add-lt (slice_index ranks r) (length ranks) r 4 (few r 0 h) h))
 
-  -- row 0 has the first turn
-  first-block : slice_index numbers 0 ≡ 0
-  first-block = grind (arith, placed 0 some, is.ascend 0 (slice_index numbers 0))
-
   pub ordering-blocks : AreBlocks record { numbers = numbers; members = members }
-  ordering-blocks = grind (arith, placed, first-block)
+  ordering-blocks =
+      let first_turn : slice_index numbers 0 ≡ 0 = grind (arith, placed 0 some, is.ascend 0 (slice_index numbers 0)) in
+      grind (arith, placed)
 
   pub ordering-by_rank : IsByRank ranks record { numbers = numbers; members = members }
   ordering-by_rank =

@@ -10,12 +10,6 @@ use Rattle.std.proofs.lemmas.Map.Steps.{length-le_from_distinct_below}
 use Rattle.std.proofs.lemmas.Map.Views.{Contains-from_any}
 use Rattle.std.specs.Prelude.{slice_index_or}
 
-abbrev pub Into : (ℕ → ℕ) → ℕ → ℕ → Type 0
-Into f n m = (i : ℕ) → i < n → f i < m
-
-abbrev pub IsOneToOne : (ℕ → ℕ) → ℕ → Type 0
-IsOneToOne f n = (i j : ℕ) → i < n → j < n → f i ≡ f j → i ≡ j
-
 module _ (n m : ℕ) (f : ℕ → ℕ) where
   abbrev values : List ℕ
   values = map f (range_with_len 0 n)
@@ -26,7 +20,7 @@ module _ (n m : ℕ) (f : ℕ → ℕ) where
   value : (i d : ℕ) → i < n → slice_index_or values i d ≡ f i
   value i d l = get_or-map-range_with_len f 0 n i i d l (omega arith)
 
-  pub pigeonhole : Into f n m → IsOneToOne f n → n ≤ m
+  pub pigeonhole : ((i : ℕ) → i < n → f i < m) → ((i j : ℕ) → i < n → j < n → f i ≡ f j → i ≡ j) → n ≤ m
   pigeonhole into one = rw size at (length-le_from_distinct_below values m
       (IsDistinct-from_AllPairs (λ a b. (eqb-true a b, eq-eqb a b)) values
       (λ i j d l k e. grind (arith, size, value, one i j)))

@@ -2,7 +2,7 @@
 -- Main statements: reached-step, reached-dead, reached-tested.
 -- Used by: Simulation, Building, and `entry`.
 -- Idea: a value is reached by units from a start, so the next one is reached by one unit more.
-use Rattle.determinize_dense.proofs.Common.{All-nil, All-push, Bool, dead, IsReachedValue, IsUnit, List, MatchKind}
+use Rattle.determinize_dense.proofs.Common.{All-nil, All-push, dead, IsReachedValue, IsUnit, List, MatchKind}
 use Rattle.determinize_dense.proofs.Common.{NeedsTested, Nfa, None, Option, refl, start_in, start_value, true, Value}
 use Rattle.determinize_dense.proofs.Common.{value_after, value_after-push, [], ℕ, ◌++◌, ◌∷◌, ◌≡◌}
 use Rattle.determinize_core.proofs.Common.{tables_of}
@@ -17,12 +17,7 @@ use Rattle.determinize_core.proofs.step.AlikeBytes.{each_need_is_tested}
 use Rattle.determinize_engine.proofs.LastUnits.{step_over}
 
 module _ (nfa : Nfa) (kind : MatchKind) where
-  -- a start value is reached
-  pub reached-start : (anchored : Bool) (p : Option ℕ) → IsUnit p
-      → IsReachedValue nfa kind (start_value nfa (start_in nfa anchored) p)
-  reached-start anchored p h = (anchored, p, [], h, All-nil IsUnit, refl)
-
-  -- and the value after a reached one
+  -- the value after a reached one is reached
   pub reached-step : (v : Value) (u : Option ℕ) → IsReachedValue nfa kind v → IsUnit u
       → IsReachedValue nfa kind (step nfa kind v u)
   reached-step v u r h =
@@ -42,7 +37,8 @@ module _ (nfa : Nfa) (kind : MatchKind) where
   reached-dead =
       let first : Value = start_value nfa (start_in nfa true) None in
       rw (step_over nfa kind (step nfa kind first None) None (end_none first)) at
-      (reached-step (step nfa kind first None) None (reached-step first None (reached-start true None tt) tt) tt)
+      (reached-step (step nfa kind first None) None
+      (reached-step first None (true, None, [], tt, All-nil IsUnit, refl) tt) tt)
 
   -- a reached value needs assertions of the NFA only
   after-tested : (v : Value) (us : List (Option ℕ)) → NeedsTested nfa v → NeedsTested nfa (value_after nfa kind v us)

@@ -8,13 +8,14 @@ use Rattle.determinize_dense.proofs.Common.{div-mul-add, false, first_of, get_or
 use Rattle.determinize_dense.proofs.Common.{IsBuilding, IsDfa, IsFilled, IsReachedRow, IsReachedValue, IsUnit, length}
 use Rattle.determinize_dense.proofs.Common.{length-map, List, map, MatchKind, mod-mul-add, mul-add-lt, NeedsTested, Nfa}
 use Rattle.determinize_dense.proofs.Common.{None, Option, patterns_at, refl, row_after, row_over, slice_get}
-use Rattle.determinize_dense.proofs.Common.{slice_get_within, slice_index, slot_number-below, slot_of, Some, start_in}
-use Rattle.determinize_dense.proofs.Common.{start_kind_of, start_row, start_value, step, sym, Table, true, unit_at}
+use Rattle.determinize_dense.proofs.Common.{slice_get_within, slice_index, slot_number-below, slot_of, Some}
+use Rattle.determinize_dense.proofs.Common.{start_kind_of, start_row, step, sym, Table, true, unit_at}
 use Rattle.determinize_dense.proofs.Common.{Value, value_after, [], ℕ, ◌*◌, ◌++◌, ◌+◌, ◌<◌, ◌∙◌, ◌∷◌, ◌≡◌}
 use Rattle.determinize_core.proofs.Common.{nat_lt, slice_get-get_or, slice_get-map}
 use Rattle.determinize_core.proofs.step.AlikeBytes.{each_class_steps}
 use Rattle.determinize_core.proofs.step.StepLaws.{dead_stays}
 use Rattle.determinize_engine.proofs.Places.{of_some}
+use Rattle.determinize_dense.proofs.Common.{value_from}
 use Rattle.determinize_dense.proofs.Reached.{reached-tested}
 
 -- the dead value stays along units
@@ -80,11 +81,13 @@ module _ (b : Building) (is : IsBuilding b) (whole : length b.next ≡ length b.
       row_after-steps us (row_over table r u) (step b.nfa b.kind v u) (row_over-step r v u at (All-head IsUnit u us h))
       (All-tail IsUnit u us h)
 
-  -- the row of a start
-  start-at : (anchored : Bool) (p : Option ℕ) → IsUnit p
-      → slice_get b.values (start_row b.nfa table anchored p) ≡ Some (start_value b.nfa (start_in b.nfa anchored) p)
-  start-at anchored p h =
-      let slot = slot_of anchored (start_kind_of b.nfa.terminator p) in are.rows slot (slot_number-below slot) p h refl
+  -- from the row of a start
+  row_after-start : (anchored : Bool) (p : Option ℕ) (us : List (Option ℕ)) → IsUnit p → All IsUnit us
+      → slice_get b.values (row_after table (start_row b.nfa table anchored p) us)
+      ≡ Some (value_from b.nfa b.kind anchored p us)
+  row_after-start anchored p us h all =
+      let slot = slot_of anchored (start_kind_of b.nfa.terminator p) in
+      row_after-steps us _ _ (are.rows slot (slot_number-below slot) p h refl) all
 
   lists-at : (r : ℕ) (v : Value) → slice_get b.values r ≡ Some v → patterns_at table r ≡ v.patterns
   lists-at r v at = get_or_from_slice_get (map (λ (x : Value). x.patterns) b.values) r v.patterns []
@@ -104,7 +107,7 @@ module _ (b : Building) (is : IsBuilding b) (whole : length b.next ≡ length b.
       let v : Value = get_or b.values r dead in
       let at : slice_get b.values r ≡ Some v = slice_get-get_or b.values r dead (omega (arith, count)) in
       let k : IsReachedValue b.nfa b.kind v = is.reached r v at in
-      let again = rw (← k.5) at (row_after-steps k.2 _ _ (start-at k.0 k.1 k.3) k.4) in
+      let again = rw (← k.5) at (row_after-start k.0 k.1 k.2 k.3 k.4) in
       (k.0, k.1, k.2, k.3, k.4, is.apart r (row_after table (start_row b.nfa table k.0 k.1) k.2) v at again)
 
   is_table : IsFilled table
@@ -125,11 +128,10 @@ module _ (b : Building) (is : IsBuilding b) (whole : length b.next ≡ length b.
     accepted = is.accepted;
     classes = λ p same. classes-as same is.classes;
     table = is_table;
-    tells = λ anchored p us h all. lists-at (row_after table (start_row b.nfa table anchored p) us) _
-        (row_after-steps us _ _ (start-at anchored p h) all);
+    tells = λ anchored p us h all. lists-at _ _ (row_after-start anchored p us h all);
     reached = row-reached;
     over = λ anchored p us rest h all _ end.
-        let at = rw end at (row_after-steps us _ _ (start-at anchored p h) all) in
+        let at = rw end at (row_after-start anchored p us h all) in
         rw (dead_after b.nfa b.kind us rest _ (of_some (sym at ∙ is.first)));
   }
 
@@ -142,9 +144,7 @@ module _ (b : Building) (is : IsBuilding b) (whole : length b.next ≡ length b.
     λ v. (
       λ (h : Contains b.values v). is.reached h.0 v (rw h.2 at (slice_get-get_or b.values h.0 v h.1)),
       λ (r : IsReachedValue b.nfa b.kind v).
-          let at : slice_get b.values (row_after table (start_row b.nfa table r.0 r.1) r.2) ≡ Some v =
-          rw r.5 (row_after-steps r.2 _ _ (start-at r.0 r.1 r.3) r.4) in
-          let i : ℕ = row_after table (start_row b.nfa table r.0 r.1) r.2 in
-          (i, slice_get_within b.values i v at, get_or_from_slice_get b.values i v v at),
+          let at = rw (← r.5) at (row_after-start r.0 r.1 r.2 r.3 r.4) in
+          (_, slice_get_within b.values _ v at, get_or_from_slice_get b.values _ v v at),
     ),
   )

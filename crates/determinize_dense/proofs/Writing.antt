@@ -14,9 +14,6 @@ use Rattle.std.proofs.lemmas.List.Folds.{concat-append}
 use Rattle.determinize_dense.proofs.Offsets.{entries_within}
 use Rattle.determinize_dense.specs.Bytes.{IsWhole, stored_of}
 
-pub words-append : (xs ys : List ℕ) → bytes_of_words (xs ++ ys) ≡ bytes_of_words xs ++ bytes_of_words ys
-words-append xs ys = flat_map-append (to_le_bytes w32) xs ys
-
 -- one number more
 pub write_more : (before total xs : List ℕ) (i x : ℕ) → i < length xs → x ≡ slice_index xs i
     → before ++ bytes_of_words (drop i xs) ≡ total
@@ -34,7 +31,7 @@ pub list_more : (before total : List ℕ) (ps : List (List ℕ)) (i : ℕ) (list
     → list ≡ get_or ps i [] → before ++ bytes_of_words (concat (drop i ps)) ≡ total
     → (before ++ bytes_of_words list) ++ bytes_of_words (concat (drop (i + 1) ps)) ≡ total
 list_more before total ps i list h at so_far =
-    rw (append_assoc, at, ← words-append (get_or ps i []) (concat (drop (i + 1) ps)))
+    rw (append_assoc, at, ← flat_map-append (to_le_bytes w32) (get_or ps i []) (concat (drop (i + 1) ps)))
     (rw (drop_more ps i [] h) at so_far)
 
 -- the numbers before where a list ends, and those left

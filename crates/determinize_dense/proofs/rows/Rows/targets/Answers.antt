@@ -12,7 +12,7 @@ pub loop-row-preserved : goal.loop-row-preserved
 loop-row-preserved g c = rw (← c.self.view_is, length-map) (grind (arith, pushed))
 
 pub returns-clause-filled : goal.returns-clause-filled
-returns-clause-filled g c = rw (← c.self.view_is) c.self.invariant.table
+returns-clause-filled g c = grind arith
 
 pub returns-clause-targets : goal.returns-clause-targets
 returns-clause-targets g c = record {
