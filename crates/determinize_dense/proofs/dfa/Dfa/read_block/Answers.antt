@@ -3,12 +3,10 @@ use Rattle.determinize_dense.proofs.Searching.{come-dead, come-none, come-some, 
 use Rattle.determinize_dense.proofs.dfa.Dfa.read_block.Goals as goal
 
 pub loop-at-preserved-else-is_earliest : goal.loop-at-preserved-else-is_earliest
-loop-at-preserved-else-is_earliest g c = record {
-  come = come-some c.loop-at.invariant.come c.over_byte.ensures.offset c.over_byte.ensures.read
-      (ordered c.self.view_is c.self.invariant.ordered) c.if-at-eq0.false c.if-at-self.true;
-  low = omega arith;
-  within = omega (arith, c.loop-at-test.true);
-}
+loop-at-preserved-else-is_earliest g c =
+    let come = come-some c.loop-at.invariant.come c.over_byte.ensures.offset c.over_byte.ensures.read
+    (ordered c.self.view_is c.self.invariant.ordered) c.if-at-eq0.false c.if-at-self.true in
+    grind (arith, come)
 
 pub loop-at-preserved : goal.loop-at-preserved
 loop-at-preserved g c = record {

@@ -1,41 +1,14 @@
 use Rattle.determinize_dense.proofs.Common.{arith, DfaValue, HasCome, length, Reached, Text, ℕ, ◌<◌, ◌≤◌}
 use Rattle.determinize_dense.proofs.Searching.{come-dead, come-none, come-on, come-some, found-over, ordered}
 use Rattle.determinize_dense.proofs.dfa.Dfa.search_rest.Given.{Over}
-use Rattle.determinize_dense.proofs.dfa.Dfa.search_rest.Goals.{After-is_over, else-at-pauses, else-loop-at-2-test}
-use Rattle.determinize_dense.proofs.dfa.Dfa.search_rest.Goals.{then-at-pauses}
+use Rattle.determinize_dense.proofs.dfa.Dfa.search_rest.Goals.{After-is_over, else-loop-at-2-test}
 use Rattle.determinize_dense.proofs.dfa.Dfa.search_rest.Goals.{then-loop-at-2-test+else-at-stop+else-at-self+else-at-ne0}
 use Rattle.determinize_dense.proofs.dfa.Dfa.search_rest.Goals.{then-loop-at-2-test+else-at-stop+else-at-self+then-at-ne0}
 use Rattle.determinize_dense.proofs.dfa.Dfa.search_rest.Goals.{then-loop-at-2-test+else-at-stop+then-at-self+then-record}
 use Rattle.determinize_dense.proofs.dfa.Dfa.search_rest.Goals as goal
 
 pub loop-at-2-init : goal.loop-at-2-init
-loop-at-2-init g c =
-    let room = c.loop-at-test.true in
-    let len = c.len.ensures.value in
-    elim c.if-at-pauses.branch [
-      | then-at-pauses w ↦
-          let paused = w.if-at-pauses.true in
-          let min_is = w.min.ensures in
-          let all = w.len-then-at-pauses.ensures.value in
-          rw w.stop-is record {
-            come = c.loop-at.invariant.come;
-            within = c.loop-at.invariant.within;
-            upto = omega arith;
-            past = omega arith;
-            since = omega arith;
-            more = λ h. absurd (omega arith);
-          }
-      | else-at-pauses w ↦
-          let all = w.len-else-at-pauses.ensures.value in
-          rw w.stop-is record {
-            come = c.loop-at.invariant.come;
-            within = c.loop-at.invariant.within;
-            upto = omega arith;
-            past = c.self.invariant.ordered.more;
-            since = omega arith;
-            more = λ h. absurd (omega arith);
-          }
-    ]
+loop-at-2-init g c = grind arith
 
 pub loop-at-2-preserved-then-at-stop : goal.loop-at-2-preserved-then-at-stop
 loop-at-2-preserved-then-at-stop g c =
@@ -57,17 +30,9 @@ loop-at-2-preserved-then-at-stop g c =
 
 pub loop-at-2-preserved : goal.loop-at-2-preserved
 loop-at-2-preserved g c =
-    let since = c.loop-at-2.invariant.since in
-    let more = c.scan.ensures.more in
-    record {
-      come = come-none c.loop-at-2.invariant.come c.over_byte.ensures.offset c.over_byte.ensures.read
-          (ordered c.self.view_is c.self.invariant.ordered) c.if-at-self.true c.scan.ensures.more c.scan.ensures.stays;
-      within = c.scan.ensures.within;
-      upto = c.loop-at-2.invariant.upto;
-      past = c.loop-at-2.invariant.past;
-      since = omega arith;
-      more = λ _. omega arith;
-    }
+    let come = come-none c.loop-at-2.invariant.come c.over_byte.ensures.offset c.over_byte.ensures.read
+    (ordered c.self.view_is c.self.invariant.ordered) c.if-at-self.true c.scan.ensures.more c.scan.ensures.stays in
+    grind (arith, come)
 
 -- how far the search has come behind the inner loop
 record IsBehind (d : DfaValue) (text : Text) (from at : Reached) (read : ℕ) : Type 0 where
@@ -122,9 +87,7 @@ loop-at-preserved-then-at-self-2 g c = record {
 }
 
 pub loop-at-preserved : goal.loop-at-preserved
-loop-at-preserved g c =
-    let b = behind g (goal.at.loop-at-preserved g c).After-is_over in
-    record { come = b.come; within = b.within }
+loop-at-preserved g c = grind (arith, behind g (goal.at.loop-at-preserved g c).After-is_over)
 
 pub returns : goal.returns
 returns g c = λ anchored sound s.
