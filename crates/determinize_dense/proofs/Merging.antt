@@ -61,7 +61,9 @@ module _ {v : DfaValue} (is : IsDfa v) {p : Blocks} (part : IsGrouping v.table p
   entry-merged : (b c : ℕ) → b < length p.members → c < v.table.class_count + 1
       → entry e b c ≡ block (entry d (member b) c)
   entry-merged b c h l =
-      let columns : ℕ = v.table.class_count + 1 in grind (arith, div-mul-add b columns c l, mod-mul-add b columns c l, mul-add-lt b columns c (length p.members) h l, rows.entries (b * columns + c))
+      let columns : ℕ = v.table.class_count + 1 in
+      let inside = mul-add-lt b columns c (length p.members) h l in
+      grind (arith, div-mul-add b columns c l, mod-mul-add b columns c l, inside, rows.entries (b * columns + c))
 
   -- the row over a unit of a block
   over-block : (b : ℕ) (u : Option ℕ) → b < length p.members → IsUnit u

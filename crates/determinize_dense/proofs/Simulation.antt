@@ -9,13 +9,12 @@ use Rattle.determinize_dense.proofs.Common.{IsBuilding, IsDfa, IsFilled, IsReach
 use Rattle.determinize_dense.proofs.Common.{length-map, List, map, MatchKind, mod-mul-add, mul-add-lt, NeedsTested, Nfa}
 use Rattle.determinize_dense.proofs.Common.{None, Option, patterns_at, refl, row_after, row_over, slice_get}
 use Rattle.determinize_dense.proofs.Common.{slice_get_within, slice_index, slot_number-below, slot_of, Some}
-use Rattle.determinize_dense.proofs.Common.{start_kind_of, start_row, step, sym, Table, true, unit_at}
-use Rattle.determinize_dense.proofs.Common.{Value, value_after, [], ℕ, ◌*◌, ◌++◌, ◌+◌, ◌<◌, ◌∙◌, ◌∷◌, ◌≡◌}
+use Rattle.determinize_dense.proofs.Common.{start_kind_of, start_row, step, sym, Table, true, unit_at, Value}
+use Rattle.determinize_dense.proofs.Common.{value_after, value_from, [], ℕ, ◌*◌, ◌++◌, ◌+◌, ◌<◌, ◌∙◌, ◌∷◌, ◌≡◌}
 use Rattle.determinize_core.proofs.Common.{nat_lt, slice_get-get_or, slice_get-map}
 use Rattle.determinize_core.proofs.step.AlikeBytes.{each_class_steps}
 use Rattle.determinize_core.proofs.step.StepLaws.{dead_stays}
 use Rattle.determinize_engine.proofs.Places.{of_some}
-use Rattle.determinize_dense.proofs.Common.{value_from}
 use Rattle.determinize_dense.proofs.Reached.{reached-tested}
 
 -- the dead value stays along units

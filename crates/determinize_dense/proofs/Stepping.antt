@@ -23,7 +23,9 @@ row_after-byte d r bytes i inside so_far goes =
 module _ (nfa : Nfa) (d : Table) (anchored : Bool) (text : Text) where
   row_at_end : {row : ℕ} → row ≡ row_after d (start_row nfa d anchored text.behind) (map Some text.bytes)
       → patterns_at d (row_over d row text.ahead) ≡ list_after nfa d anchored text
-  row_at_end is = grind (arith, units_listed text, row_after-more d)
+  row_at_end is =
+      let start : ℕ = start_row nfa d anchored text.behind in
+      rw (is, units_listed text, row_after-more d (map Some text.bytes) (text.ahead ∷ []) start)
 
   pub listed_at_end : IsAccepted nfa → IsDfaOf nfa kinds.All d → IsUnit text.behind → All (λ b. b < 256) text.bytes
       → IsUnit text.ahead → {row : ℕ}

@@ -51,23 +51,15 @@ behind g c =
         within = before.within;
         more = before.more w.loop-at-2-test.false;
       }
-      | then-loop-at-2-test+else-at-stop+then-at-self+then-record w ↦ rw w.at-is record {
-        come = come-none before.come w.over_byte.ensures.offset w.over_byte.ensures.read order w.if-at-self.true
-            w.scan.ensures.more w.scan.ensures.stays;
-        within = w.scan.ensures.within;
-        more = omega (arith, before.since, w.scan.ensures.more);
-      }
-      | then-loop-at-2-test+else-at-stop+else-at-self+then-at-ne0 w ↦ rw w.at-is record {
-        come = come-some before.come w.over_byte.ensures.offset w.over_byte.ensures.read order w.if-at-ne0.true
-            w.if-at-self.false;
-        within = omega (arith, before.upto, w.loop-at-2-test.true);
-        more = omega (arith, before.since);
-      }
-      | then-loop-at-2-test+else-at-stop+else-at-self+else-at-ne0 w ↦ rw w.at-is record {
-        come = come-dead before.come w.over_byte.ensures.offset w.over_byte.ensures.read order w.if-at-ne0.false;
-        within = omega (arith, before.upto, w.loop-at-2-test.true);
-        more = omega (arith, before.since);
-      }
+      | then-loop-at-2-test+else-at-stop+then-at-self+then-record w ↦
+          let come = come-none before.come w.over_byte.ensures.offset w.over_byte.ensures.read order w.if-at-self.true
+          w.scan.ensures.more w.scan.ensures.stays in rw w.at-is (grind (arith, come))
+      | then-loop-at-2-test+else-at-stop+else-at-self+then-at-ne0 w ↦
+          let come = come-some before.come w.over_byte.ensures.offset w.over_byte.ensures.read order w.if-at-ne0.true
+          w.if-at-self.false in rw w.at-is (grind (arith, come))
+      | then-loop-at-2-test+else-at-stop+else-at-self+else-at-ne0 w ↦
+          let come = come-dead before.come w.over_byte.ensures.offset w.over_byte.ensures.read order w.if-at-ne0.false
+          in rw w.at-is (grind (arith, come))
     ]
 
 pub match_of-requires : goal.match_of-requires

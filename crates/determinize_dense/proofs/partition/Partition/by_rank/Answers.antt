@@ -1,4 +1,4 @@
-use Rattle.determinize_dense.proofs.Common.{arith, length-replicate, ◌+◌, ◌≡◌}
+use Rattle.determinize_dense.proofs.Common.{arith, length-replicate, ◌≡◌}
 use Rattle.std.proofs.Math.Nat.{add-zero}
 use Rattle.determinize_dense.proofs.Ordering.{ordering-blocks, ordering-by_rank, ordering-push, ordering-skip}
 use Rattle.determinize_dense.proofs.partition.Partition.by_rank.Goals.{else-ranks-row, then-ranks-row+in_ok-push}

@@ -1,4 +1,4 @@
-use Rattle.determinize_dense.proofs.Common.{arith, entry, length-map, rules}
+use Rattle.determinize_dense.proofs.Common.{arith, length-map, rules}
 use Rattle.determinize_dense.proofs.Splitting.{pushed}
 use Rattle.determinize_dense.proofs.rows.Rows.targets.Goals as goal
 
