@@ -1,5 +1,6 @@
 -- A table that is being built: one value more, and one entry more.
--- Main statements: building-first, building-value, building-entry, next_row-before, next_row-base, stays-more, one_too_many.
+-- Main statements: building-first, building-value, building-entry, next_row-before, next_row-base, stays-more,
+-- one_too_many.
 -- Used by: the functions of `Builder`, and `build`.
 -- Idea: what holds of each value so far, and of one more, holds of each after it is added.
 use Rattle.determinize_core.proofs.Common.{All-nil, AllResolve, ap, arith, Bool, get_or, by_cases, by_test, dead, Err, false}

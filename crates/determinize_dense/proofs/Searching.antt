@@ -223,7 +223,7 @@ module _ {d : DfaValue} {anchored : Bool} {text : Text} (r : Reached) {to last_m
 same_end : (n : ℕ) → n + 1 - 1 ≡ n
 same_end n = omega arith
 
--- how far a search has come that goes on
+-- how far a search has come in two parts
 pub come-on : {d : DfaValue} {text : Text} {from now to : Reached} → HasCome d text from now → HasCome d text now to
     → HasCome d text from to
 come-on a b = record {

@@ -16,9 +16,9 @@ use determinize_core::start::Config;
 use std::alloc::{Allocator, Global};
 use std::marker::Model;
 
-/// A walk by a DFA under way: `Dfa::walker` begins it, and each step leads to the next row.
+/// A walk by a DFA under way: `Dfa::walker` begins it, and each step moves to the next row.
 ///
-/// It holds the offset of its row and not the number. So a step takes no product, and no test of
+/// It has the offset of its row and not the number. So a step takes no product, and no test of
 /// whether the row is one of the DFA, as `Dfa::next_state` does.
 #[derive(Drop)]
 pub struct Walker<'d, 'n, N: Allocator = Global, A: Allocator = Global> {
