@@ -59,10 +59,6 @@ pub is_true : (b : Bool) → not b ≡ false → b ≡ true
 is_true true e = refl
 is_true false e = absurd (cc)
 
-pub is_false : (b : Bool) → not b ≡ true → b ≡ false
-is_false true e = absurd (cc)
-is_false false e = refl
-
 -- a range of one
 pub has_one : (b : ℕ) (c : ℕ) → is_in ((b, b) ∷ []) (Some c) ≡ only b c
 has_one b c = grind (arith)

@@ -1,3 +1,4 @@
+pub mod Bytes
 pub mod Listing
 pub mod Classes
 pub mod Characters

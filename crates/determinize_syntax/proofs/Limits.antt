@@ -1,10 +1,10 @@
 -- The openings and the names in what was read.
--- Main statements: openings_after, operator_opens, names_moved, name_added, name_twice.
+-- Main statements: operator_opens, passes_part, passes_then, right_after, local_limits, name_added, name_twice.
 -- Used by: the proofs that the errors at a limit are right.
 -- Idea: openings are counted, so those of two parts are added; a name that was read is in the part before the place.
-use Rattle.std.proofs.Common.{◌≡◌, ◌<◌, ◌≤◌, ◌+◌, ◌∷◌, ◌++◌, ◌∙◌, [], arith, All, Bool, List, Option, ap, cond, false}
+use Rattle.std.proofs.Common.{◌≡◌, ◌<◌, ◌≤◌, ◌+◌, ◌-◌, ◌∷◌, ◌++◌, ◌∙◌, [], arith, All, Bool, List, Option, ap, cond, false}
 use Rattle.std.proofs.Common.{refl, subst, sym, true, ℕ}
-use Rattle.std.specs.Prelude.{Err, IfErr, IfOk, IsErrAnd, MatchResult, Ok, OnOk, Result, codes, max, not}
+use Rattle.std.specs.Prelude.{Err, IfErr, IfOk, MatchResult, Ok, Result, codes, max, not}
 use Rattle.std.specs.Bool.{⊤}
 use Rattle.std.specs.Cmp.Lexicographic.{slice_cmp}
 use Rattle.std.specs.declared.cmp.Ordering.{Ordering}
@@ -19,24 +19,23 @@ use Rattle.std.proofs.lemmas.List.Sums.{sum_by-append}
 use Rattle.std.proofs.lemmas.Map.Lookups.{exact_bytes}
 use Rattle.std.proofs.lemmas.Map.Views.{All-insert_key}
 use Rattle.determinize_syntax.specs.Limits.{HasNameTwice, bracketed, openings}
-use Rattle.determinize_syntax.specs.Private.Names.{HasName, HasNames, IsDeep, NamesTo, is_local}
+use Rattle.determinize_syntax.specs.Private.Names.{HasName, HasNames, IsRight, Passes, is_local}
 use Rattle.determinize_syntax.specs.Private.Reading.{Part}
 use Rattle.determinize_syntax.specs.Spells as s
 use Rattle.determinize_syntax.specs.Spells.{Bytes, Operator}
 use Rattle.determinize_syntax.specs.Words.{◌∈◌, is_name}
-use Rattle.determinize_syntax.specs.declared.error.ErrorKind.{ErrorKind}
 use Rattle.determinize_syntax.specs.declared.error.ErrorKind.TheVariants.{GroupNameDuplicate, NestLimitExceeded}
 use Rattle.determinize_syntax.specs.declared.error.ParseError.{ParseError}
 use Rattle.determinize_syntax.specs.declared.group.Context.{Context}
+use Rattle.determinize_syntax.specs.declared.parser.TheConstants.{NEST_LIMIT}
 
--- a local error is none of a limit
-pub local_deep : {A : Type 0} (k : ErrorKind) → is_local k ≡ true → k ≡ NestLimitExceeded → A
-local_deep k local is = let never : is_local NestLimitExceeded ≡ true = subst (λ x. is_local x ≡ true) is local in
-    absurd (cc)
-
-pub local_twice : {A : Type 0} (k : ErrorKind) → is_local k ≡ true → k ≡ GroupNameDuplicate → A
-local_twice k local is = let never : is_local GroupNameDuplicate ≡ true = subst (λ x. is_local x ≡ true) is local in
-    absurd (cc)
+-- an error that is local is none of a limit
+pub local_right : (levels : ℕ) (c : Context) (a : Bytes) (e : ParseError) → is_local e.kind ≡ true
+    → IsRight levels c a e
+local_right levels c a e local = record {
+  nested = λ is few. (let never : is_local NestLimitExceeded ≡ true = rw is at local in absurd (cc));
+  twice = λ is text h. (let never : is_local GroupNameDuplicate ≡ true = rw is at local in absurd (cc));
+}
 
 pub openings_after : (t u : Bytes) → openings u ≤ openings (t ++ u)
 openings_after t u =
@@ -78,18 +77,92 @@ name_moved : (read t name : Bytes) → HasName read name → HasName (read ++ t)
 name_moved read t name h =
     (h.0, h.1 ++ t, h.2, ap (λ l. l ++ t) h.3 ∙ append_assoc (h.0 ++ bracketed name) h.1 t)
 
--- the names stay where they are as more is read
-pub names_moved : {a b : Bytes} {P : Bytes → Type 0} (text : Bytes) (c : Context) → Part a b P → HasNames text c a
-    → HasNames text c b
-names_moved {a} {b} {P} text c part h = (
-  h.0 ++ part.0,
-  h.1 ∙ ap (λ l. h.0 ++ l) part.1 ∙ sym (append_assoc h.0 part.0 b),
-  All-weaker _ _ (λ name is. name_moved h.0 part.0 name.now is) c.names.keys h.2,
-)
+-- nothing was read yet
+pub passes_none : (c : Context) (a : Bytes) → Passes c a 0 c a
+passes_none c a = record { deep = omega arith; named = λ text h. h }
+
+-- more is read without a group or an operator
+pub passes_part : {x y : Context} {a b d : Bytes} {n : ℕ} {P : Bytes → Type 0} → Passes x a n y b → Part b d P
+    → Passes x a n y d
+passes_part {y = y} {d = d} h part = record {
+  deep = (let before = h.deep in let left = openings_left part in omega (arith, before, left));
+  named = λ text names. (let t = h.named text names in (
+    t.0 ++ part.0,
+    t.1 ∙ ap (λ l. t.0 ++ l) part.1 ∙ sym (append_assoc t.0 part.0 d),
+    All-weaker _ _ (λ name is. name_moved t.0 part.0 name.now is) y.names.keys t.2,
+  ));
+}
 
 -- after one more byte
-pub names_took : {a b : Bytes} (text : Bytes) (c : Context) (n : ℕ) → a ≡ n ∷ b → HasNames text c a → HasNames text c b
-names_took text c n e h = names_moved {P = λ t. ⊤} text c (n ∷ [], e, tt) h
+pub passes_byte : {x y : Context} {a b d : Bytes} {n : ℕ} (c : ℕ) → Passes x a n y b → b ≡ c ∷ d → Passes x a n y d
+passes_byte c h e = passes_part {P = λ t. ⊤} h (c ∷ [], e, tt)
+
+-- a part after a part is as deep as the deeper one
+pub passes_then : {x y z : Context} {a b d : Bytes} {m n l : ℕ} → Passes x a m y b → Passes y b n z d → l ≡ max n m
+    → Passes x a l z d
+passes_then h k is = record {
+  deep = (let before = h.deep in let after = k.deep in omega (arith, is, before, after));
+  named = λ text names. k.named text (h.named text names);
+}
+
+-- an operator more, after which the names are the same
+pub passes_operator : {x y z : Context} {a b d : Bytes} {n : ℕ} (min : ℕ) (max : Option ℕ) → Passes x a n y b
+    → Part b d (Operator min max) → ((text : Bytes) → HasNames text y d → HasNames text z d) → Passes x a (n + 1) z d
+passes_operator min max h part same = record {
+  deep = (let before = h.deep in omega (arith, before, operator_left min max part));
+  named = λ text names. same text ((passes_part h part).named text names);
+}
+
+-- an error after what was read
+pub right_after : {x y : Context} {a b : Bytes} {n levels : ℕ} {e : ParseError} → Passes x a n y b
+    → IsRight levels y b e
+    → IsRight levels x a e
+right_after h right = record {
+  nested = λ is few. (let deep = right.nested is few in let before = h.deep in omega (arith, deep, before));
+  twice = λ is text names. right.twice is text (h.named text names);
+}
+
+-- an error of the depth, if as many groups and operators begin
+pub deep_right : {levels : ℕ} {c : Context} {a : Bytes} {e : ParseError} → e.kind ≡ NestLimitExceeded
+    → (levels ≤ NEST_LIMIT → levels < openings a) → IsRight levels c a e
+deep_right deep more = record {
+  nested = λ is few. more few;
+  twice = λ is text h. (let never : NestLimitExceeded ≡ GroupNameDuplicate = sym deep ∙ is in absurd (cc));
+}
+
+-- the names are the same
+pub passes_as : {x y z : Context} {a b : Bytes} {n : ℕ} → Passes x a n y b
+    → ((text : Bytes) → HasNames text y b → HasNames text z b) → Passes x a n z b
+passes_as h same = record { deep = h.deep; named = λ text names. same text (h.named text names) }
+
+-- a group: what opens it, what is in it, and its end
+pub passes_whole : {x y z w : Context} {r b d e : Bytes} {n : ℕ} → Passes x r 0 y b → Passes y b n z d → d ≡ 0x29 ∷ e
+    → ((text : Bytes) → HasNames text z e → HasNames text w e) → Passes x (0x28 ∷ r) (n + 1) w e
+passes_whole {x} {r = r} {n = n} opening inner close same = record {
+  deep = (let outer = opening.deep in let deep = inner.deep in
+      let left = openings_left {P = λ t. ⊤} (0x29 ∷ [], close, tt) in omega
+      (arith, outer, deep, left, one_more 0x28 r refl));
+  named = λ text names. same text ((passes_byte 0x29 (passes_then {l = n} opening inner (omega arith)) close).named text
+      ((passes_byte 0x28 (passes_none x (0x28 ∷ r)) refl).named text names));
+}
+
+-- an error in a group
+pub group_right : {x y : Context} {r b : Bytes} {n levels : ℕ} {e : ParseError} → Passes x r n y b
+    → IsRight (levels - 1) y b e → IsRight levels x (0x28 ∷ r) e
+group_right {x} {r = r} {levels = levels} opening right = record {
+  nested = λ is few. (let deep = right.nested is (omega (arith, few)) in let outer = opening.deep in
+      omega (arith, deep, outer, one_more 0x28 r refl));
+  twice = λ is text names. right.twice is text (opening.named text
+      ((passes_byte 0x28 (passes_none x (0x28 ∷ r)) refl).named text names));
+}
+
+-- a call that reads a part, whose errors are local, and which adds no name
+pub local_limits : {A : Type 0} (a b : Bytes) (Q : A → Bytes → Type 0) (levels : ℕ) (x y : Context)
+    (r : Result A ParseError) → IfOk r (λ p. Part a b (Q p)) → IfErr r (λ e. is_local e.kind ≡ true)
+    → ((text : Bytes) → HasNames text x b → HasNames text y b)
+    → MatchResult r (λ _. Passes x a 0 y b) (IsRight levels x a)
+local_limits a b Q levels x y (Ok p) part local same = passes_as (passes_part (passes_none x a) part) same
+local_limits a b Q levels x y (Err e) part local same = local_right levels x a e local
 
 -- a byte that was passed if it was next
 pub maybe : {a b : Bytes} (n : ℕ) (taken : Bool) → (taken ≡ true → a ≡ n ∷ b) → (taken ≡ false → b ≡ a)
@@ -149,49 +222,3 @@ names_none text a c e none = (
   sym e,
   subst (λ keys. All (λ name. HasName [] name.now) keys) (sym none) (All-nil (λ name. HasName [] name.now)),
 )
-
--- errors that are passed on
-module _ {A : Type 0} where
-  pub error_passed : (P : ParseError → Type 0) (r : Result A ParseError) (e : ParseError) → IsErrAnd r (λ x. x ≡ e)
-      → P e → IfErr r P
-  error_passed P (Ok a) e h p = absurd h
-  error_passed P (Err x) e h p = subst P (sym h) p
-
-  pub names_passed : (P : A → Type 0) (text : Bytes) (r : Result A ParseError) (e : ParseError)
-      → IsErrAnd r (λ x. x ≡ e)
-      → (e.kind ≡ GroupNameDuplicate → HasNameTwice text)
-      → MatchResult r P (λ x. x.kind ≡ GroupNameDuplicate → HasNameTwice text)
-  names_passed P text (Ok a) e h p = absurd h
-  names_passed P text (Err x) e h p =
-      subst (λ (y : ParseError). y.kind ≡ GroupNameDuplicate → HasNameTwice text) (sym h) p
-
--- the greater depth of two
-pub deeper : (d a b x n : ℕ) → d ≡ max a b → a + x ≤ n → b + x ≤ n → d + x ≤ n
-deeper d a b x n is one two = omega (arith, is, one, two)
-
--- what a call does that reads a part, and whose errors are local
-module _ {A : Type 0} where
-  pub depth_read : (a b : Bytes) (Q : A → Bytes → Type 0) (r : Result A ParseError) → IfOk r (λ p. Part a b (Q p))
-      → OnOk r (0 + openings b ≤ openings a)
-  depth_read a b Q (Ok p) part = omega (arith, openings_left part)
-  depth_read a b Q (Err e) part = part
-
-  -- behind one more byte
-  pub depth_after : (a b : Bytes) (n : ℕ) (Q : A → Bytes → Type 0) (r : Result A ParseError)
-      → IfOk r (λ p. Part a b (Q p)) → OnOk r (0 + openings b ≤ openings (n ∷ a))
-  depth_after a b n Q (Ok p) part = omega (arith, openings_left part, openings_after (n ∷ []) a)
-  depth_after a b n Q (Err e) part = part
-
-  pub names_read : (a b : Bytes) (Q : A → Bytes → Type 0) (text : Bytes) (c : Context) (r : Result A ParseError)
-      → IfOk r (λ p. Part a b (Q p)) → IfErr r (λ e. is_local e.kind ≡ true) → HasNames text c a → NamesTo r text c b
-  names_read a b Q text c (Ok p) part local h = names_moved text c part h
-  names_read a b Q text c (Err e) part local h = λ is. local_twice e.kind local is
-
-  pub deep_read : (levels : ℕ) (s : Bytes) (r : Result A ParseError) → IfErr r (λ e. is_local e.kind ≡ true)
-      → IfErr r (IsDeep levels s)
-  deep_read levels s (Ok p) local = local
-  deep_read levels s (Err e) local = λ is few. local_deep e.kind local is
-
-pub deep_after : (a b : Bytes) (levels : ℕ) (e : ParseError) → openings b ≤ openings a → IsDeep levels b e
-    → IsDeep levels a e
-deep_after a b levels e less deep is few = omega (arith, deep is few, less)

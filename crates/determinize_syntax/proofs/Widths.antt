@@ -9,7 +9,7 @@ use Rattle.std.proofs.lemmas.Bool.{cond-false, cond-true}
 use Rattle.std.proofs.lemmas.Str.{length-encode}
 use Rattle.ordered_reach.proofs.Cases.{by_test}
 use Rattle.determinize_syntax.specs.Spells.{Bytes}
-use Rattle.determinize_syntax.proofs.Stepping.{heads}
+use Rattle.determinize_syntax.proofs.Bytes.{heads}
 
 -- the first byte, and how many there are
 abbrev pub WidthOf : ℕ → ℕ → Type 0
@@ -19,7 +19,7 @@ two : (c b : ℕ) (t : Bytes) → 128 ≤ c → c < 2048 → encode_utf8 c ≡ b
 unfolding encode_utf8
 two c b t large small e =
     let is = cond-false _ _ _ (le-ltb c 128 large) ∙ cond-true _ _ _ (lt-ltb c 2048 small) in
-    let first : 192 + c / 64 ≡ b = heads (192 + c / 64) b _ t (sym is ∙ e) in
+    let first : 192 + c / 64 ≡ b = heads (sym is ∙ e) in
     let len : len_utf8 c ≡ 2 = cond-false _ _ _ (le-ltb c 128 large) ∙ cond-true _ _ _ (lt-ltb c 2048 small) in
     inl (omega (arith, first), omega (arith, first), len)
 
@@ -29,7 +29,7 @@ three c b t large small e =
     let more : 128 ≤ c = omega arith in
     let is = cond-false _ _ _ (le-ltb c 128 more) ∙ cond-false _ _ _ (le-ltb c 2048 large)
     ∙ cond-true _ _ _ (lt-ltb c 65536 small) in
-    let first : 224 + c / 4096 ≡ b = heads (224 + c / 4096) b _ t (sym is ∙ e) in
+    let first : 224 + c / 4096 ≡ b = heads (sym is ∙ e) in
     let len : len_utf8 c ≡ 3 =
     cond-false _ _ _ (le-ltb c 128 more) ∙ cond-false _ _ _ (le-ltb c 2048 large)
     ∙ cond-true _ _ _ (lt-ltb c 65536 small) in
@@ -42,7 +42,7 @@ four c b t large e =
     let most : 2048 ≤ c = omega arith in
     let is = cond-false _ _ _ (le-ltb c 128 more) ∙ cond-false _ _ _ (le-ltb c 2048 most)
     ∙ cond-false _ _ _ (le-ltb c 65536 large) in
-    let first : 240 + c / 262144 ≡ b = heads (240 + c / 262144) b _ t (sym is ∙ e) in
+    let first : 240 + c / 262144 ≡ b = heads (sym is ∙ e) in
     let len : len_utf8 c ≡ 4 =
     cond-false _ _ _ (le-ltb c 128 more) ∙ cond-false _ _ _ (le-ltb c 2048 most)
     ∙ cond-false _ _ _ (le-ltb c 65536 large) in

@@ -1,8 +1,8 @@
 //! Brackets.
 
 ghost use Rattle.std.specs.Prelude.{◌≡◌, ◌<◌, ◌++◌, ◌∷◌, ◌&&◌, [], ℕ, Bool, IfErr, IfOk, List, OnOk, Some, encode_utf8, false, length, not, slice_get, true};
-ghost use Rattle.determinize_syntax.specs.Private.Following.{FromAtom, FromOperator, Unended, Unlimited};
-ghost use Rattle.determinize_syntax.specs.Private.Letters.{Listing};
+ghost use Rattle.determinize_syntax.specs.Private.Following.{FromAtom, FromOperator, Unlimited};
+ghost use Rattle.determinize_syntax.specs.Private.Letters.{AtBound, Inner, Item, Listing};
 ghost use Rattle.std.specs.Char.{is_ascii};
 ghost use Rattle.determinize_pattern.specs.Characters.{char_pairs};
 ghost use Rattle.determinize_pattern.specs.Patterns.{meaning};
@@ -85,8 +85,8 @@ fn inside(
 ) -> Result<Vec<ClassUnicodeRange>, ParseError>
     ensures read { IfOk result (λ v. Reads cursor.old cursor.new
         (IsInside flags (char_pairs v.items))) }
-    ensures whole { (u : List ℕ) → Listing flags u false First (rest cursor.old)
-        → knows_cases flags ≡ true → Unlimited result (λ v. rest cursor.new ≡ u) }
+    ensures whole { (u : List ℕ) → Inner flags u (rest cursor.old) → knows_cases flags ≡ true
+        → Unlimited result (λ v. rest cursor.new ≡ u) }
     ensures local { IfErr result (λ e. is_local e.kind ≡ true) }
 {
     let mut items = front(alloc, cursor, start)?;
@@ -105,10 +105,8 @@ fn inside(
 fn front(alloc: Global, cursor: &mut Cursor<'_>, start: usize) -> Result<Items, AllocError>
     ensures read { IfOk result (λ i. (f : Flags) → Reads cursor.old cursor.new
         (IsBegun f i.before (char_pairs i.ranges.items) cursor.new)) }
-    ensures whole { IfOk result (λ i. (f : Flags) (u : List ℕ)
-        → Listing f u false First (rest cursor.old)
-        → (b : Bool) × Listing f u b i.before (rest cursor.new)
-        × (b ≡ false → IsNotAt 0x5D cursor.new)) }
+    ensures whole { IfOk result (λ i. (f : Flags) (u : List ℕ) → Inner f u (rest cursor.old)
+        → Listing f u i.before (rest cursor.new)) }
 {
     let mut items = Items {
         ranges: Vec::new(alloc),
@@ -211,9 +209,9 @@ impl Items {
             (char_pairs self.old.ranges.items) self.new.before
             (char_pairs self.new.ranges.items))) }
         ensures progress { OnOk result (length (rest cursor.new) < length (rest cursor.old)) }
-        ensures whole { (u : List ℕ) → Unended flags u self.old.before (rest cursor.old)
+        ensures whole { (u : List ℕ) → Item flags u self.old.before (rest cursor.old)
             → knows_cases flags ≡ true
-            → Unlimited result (λ r. Listing flags u true self.new.before (rest cursor.new)) }
+            → Unlimited result (λ r. Listing flags u self.new.before (rest cursor.new)) }
         ensures local { IfErr result (λ e. is_local e.kind ≡ true) }
     {
         let place = cursor.pos();
@@ -235,9 +233,9 @@ impl Items {
             (char_pairs self.old.ranges.items) self.new.before
             (char_pairs self.new.ranges.items))) }
         ensures progress { OnOk result (length (rest cursor.new) < length (rest cursor.old)) }
-        ensures whole { (u : List ℕ) → Unended flags u self.old.before (rest cursor.old)
+        ensures whole { (u : List ℕ) → Item flags u self.old.before (rest cursor.old)
             → ((c : ℕ) → slice_get (rest cursor.old) 0 ≡ Some c → (c ∈ "-\\[") ≡ false)
-            → Unlimited result (λ r. Listing flags u true self.new.before (rest cursor.new)) }
+            → Unlimited result (λ r. Listing flags u self.new.before (rest cursor.new)) }
         ensures local { IfErr result (λ e. is_local e.kind ≡ true) }
     {
         let place = cursor.pos();
@@ -250,13 +248,14 @@ impl Items {
             self.add_escaped(character)?;
             return Ok(());
         }
-        if !stands(self.before, next) || !cursor.take(next) {
+        if !stands(self.before, next) {
             return Err(ParseError::new(
                 ErrorKind::ClassOperation,
                 self.last,
                 cursor.error_here(ErrorKind::ClassOperation).end,
             ));
         }
+        cursor.pass();
         self.last = place;
         let character = char::from(next);
         self.add(character, character, Before::AfterOne(false, character))?;
@@ -274,8 +273,8 @@ impl Items {
         ensures read { OnOk result (Reads cursor.old cursor.new (λ t. Extends flags
             self.old.before (char_pairs self.old.ranges.items) self.new.before
             (char_pairs self.new.ranges.items) (0x5C ∷ t))) }
-        ensures whole { (u : List ℕ) → Unended flags u self.old.before (0x5C ∷ rest cursor.old)
-            → Unlimited result (λ r. Listing flags u true self.new.before (rest cursor.new)) }
+        ensures whole { (u : List ℕ) → Item flags u self.old.before (0x5C ∷ rest cursor.old)
+            → Unlimited result (λ r. Listing flags u self.new.before (rest cursor.new)) }
         ensures local { IfErr result (λ e. is_local e.kind ≡ true) }
     {
         let escape = read_escape(cursor, place)?;
@@ -308,9 +307,9 @@ impl Items {
         ensures read { OnOk result (Reads cursor.old cursor.new (λ t. Extends flags
             self.old.before (char_pairs self.old.ranges.items) self.new.before
             (char_pairs self.new.ranges.items) (0x5B ∷ t))) }
-        ensures whole { (u : List ℕ) → Unended flags u self.old.before (0x5B ∷ rest cursor.old)
+        ensures whole { (u : List ℕ) → Item flags u self.old.before (0x5B ∷ rest cursor.old)
             → knows_cases flags ≡ true
-            → Unlimited result (λ r. Listing flags u true self.new.before (rest cursor.new)) }
+            → Unlimited result (λ r. Listing flags u self.new.before (rest cursor.new)) }
         ensures local { IfErr result (λ e. is_local e.kind ≡ true) }
     {
         if !cursor.take(b':') {
@@ -342,8 +341,8 @@ impl Items {
         ensures read { OnOk result (Reads cursor.old cursor.new (λ t. Extends flags
             self.old.before (char_pairs self.old.ranges.items) self.new.before
             (char_pairs self.new.ranges.items) (0x2D ∷ t))) }
-        ensures whole { (u : List ℕ) → Unended flags u self.old.before (0x2D ∷ rest cursor.old)
-            → Unlimited result (λ r. Listing flags u true self.new.before (rest cursor.new)) }
+        ensures whole { (u : List ℕ) → Item flags u self.old.before (0x2D ∷ rest cursor.old)
+            → Unlimited result (λ r. Listing flags u self.new.before (rest cursor.new)) }
         ensures local { IfErr result (λ e. is_local e.kind ≡ true) }
     {
         match self.before {
@@ -379,8 +378,8 @@ impl Items {
             (λ t. Extends flags (AfterOne e low) (char_pairs self.old.ranges.items)
             self.new.before (char_pairs self.new.ranges.items) (0x2D ∷ t))) }
         ensures whole { (e : Bool) (u : List ℕ)
-            → Unended flags u (AfterOne e low) (0x2D ∷ rest cursor.old)
-            → Unlimited result (λ r. Listing flags u true self.new.before (rest cursor.new)) }
+            → Item flags u (AfterOne e low) (0x2D ∷ rest cursor.old)
+            → Unlimited result (λ r. Listing flags u self.new.before (rest cursor.new)) }
         ensures local { IfErr result (λ e. is_local e.kind ≡ true) }
     {
         let high = self.bound(cursor, place, flags)?;
@@ -394,7 +393,7 @@ impl Items {
     /// Reads the end of a range, whose hyphen is at `place`.
     fn bound(&self, cursor: &mut Cursor<'_>, place: usize, flags: Flags) -> Result<char, ParseError>
         ensures read { IfOk result (λ h. Reads cursor.old cursor.new (Bound flags h)) }
-        ensures whole { (h : ℕ) (u : List ℕ) → Part (rest cursor.old) u (Bound flags h)
+        ensures whole { (h : ℕ) (u : List ℕ) → AtBound flags h u (rest cursor.old)
             → Unlimited result (λ g. (g ≡ h) × (rest cursor.new ≡ u)) }
         ensures local { IfErr result (λ e. is_local e.kind ≡ true) }
     {
@@ -417,9 +416,10 @@ impl Items {
         if !next.is_ascii() {
             return wide(cursor, flags);
         }
-        if !may_end_range(next) || !cursor.take(next) {
+        if !may_end_range(next) {
             return Err(cursor.error_here(ErrorKind::UnicodeNotAllowed));
         }
+        cursor.pass();
         Ok(char::from(next))
     }
 

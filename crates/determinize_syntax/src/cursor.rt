@@ -63,6 +63,16 @@ impl<'a> Cursor<'a> {
         }
     }
 
+    /// Passes the next byte, if there is one.
+    pub fn pass(&mut self)
+        ensures { (c : ℕ) → slice_get (rest self.old) 0 ≡ Some c
+            → rest self.old ≡ c ∷ rest self.new }
+    {
+        if let [_, rest @ ..] = self.rest {
+            self.rest = rest;
+        }
+    }
+
     /// Passes a character beyond ASCII and returns it.
     pub fn take_wide(&mut self) -> Option<char>
         ensures read { IfSome result (λ c.

@@ -3,13 +3,15 @@
 ghost use Rattle.std.specs.Prelude.{◌≡◌, ◌*◌, ◌+◌, ◌<◌, ◌≤◌, ◌++◌, ◌∷◌, [], ℕ, IfErr, IfNone, IfOk, IfSome, List, OnErr, OnOk, OnSome, Some, codes, false, length, slice_get, true};
 ghost use Rattle.std.specs.Char.{is_digit};
 ghost use Rattle.std.specs.List.{list_all};
-ghost use Rattle.determinize_syntax.specs.Private.Following.{IsPastBoundary, IsSame, MayPrecede, Unlimited};
+ghost use Rattle.determinize_syntax.specs.Private.Following.{IsPastBoundary, MayPrecede, Unlimited};
 ghost use Rattle.determinize_syntax.specs.Private.Following as following;
 ghost use Rattle.determinize_syntax.specs.declared.escape.Escape.{Escape};
 ghost use Rattle.determinize_syntax.specs.Private.Names.{is_local};
-ghost use Rattle.determinize_syntax.specs.Private.Reading.{IsDigits, IsEscape, IsHexDigit, Part, Reads, is_available, rest};
+ghost use Rattle.determinize_syntax.specs.Private.Letters.{AtEscape, AtNumber};
+ghost use Rattle.determinize_syntax.specs.Private.Reading as reading;
+ghost use Rattle.determinize_syntax.specs.Private.Reading.{IsDigit, IsDigits, IsEscape, Part, Reads, is_available, rest};
 ghost use Rattle.determinize_syntax.specs.Words as words;
-ghost use Rattle.determinize_syntax.specs.Words.{escaped_byte, number};
+ghost use Rattle.determinize_syntax.specs.Words.{◌∈◌, escaped_byte, number};
 
 use crate::cursor::Cursor;
 use crate::error::{ErrorKind, ParseError};
@@ -60,29 +62,24 @@ fn is_text_end(look: Look) -> bool
 pub fn read_escape(cursor: &mut Cursor<'_>, start: usize) -> Result<Escape, ParseError>
     ensures read { IfOk result (λ e.
         Reads cursor.old cursor.new (λ t. IsEscape e (0x5C ∷ t))) }
-    ensures whole { (e : Escape) (u : List ℕ) → Part (0x5C ∷ rest cursor.old) u (IsEscape e)
-        → MayPrecede e u → Unlimited result (λ d. IsSame d e × (rest cursor.new ≡ u)) }
+    ensures whole { (e : Escape) (u : List ℕ) → AtEscape u e (rest cursor.old) → MayPrecede e u
+        → Unlimited result (λ d. (d ≡ e) × (rest cursor.new ≡ u)) }
     ensures local { IfErr result (λ e. is_local e.kind ≡ true) }
 {
-    if cursor.take(b'x') {
-        return hex(cursor);
-    }
-    if let Some(look) = assertion(cursor)? {
-        return Ok(Escape::Look(look));
-    }
     let Some(next) = cursor.peek() else {
         return Err(cursor.error_since(start, ErrorKind::EscapeUnexpectedEof));
     };
-    if let Some(byte) = escaped(next) {
-        if !cursor.take(next) {
-            return Err(ParseError::at(ErrorKind::EscapeUnrecognized, start));
-        }
-        return Ok(Escape::Byte(byte));
+    if let Some(escape) = one_byte(next) {
+        cursor.pass();
+        return Ok(escape);
     }
-    match perl_kind(next) {
-        Some((kind, negated)) if cursor.take(next) => Ok(Escape::Class(kind, negated)),
-        _ => Err(unrecognized(cursor, start, next)),
+    if cursor.take(b'x') {
+        return hex(cursor);
     }
+    if !cursor.take(b'b') {
+        return Err(unrecognized(cursor, start, next));
+    }
+    Ok(Escape::Look(boundary(cursor)?))
 }
 
 /// Returns the error of an escape that has no meaning, whose byte after the backslash is `next`.
@@ -115,34 +112,11 @@ fn escaped(byte: u8) -> Option<u8>
     }
 }
 
-/// Reads the rest of an assertion after its backslash, if there is one.
-fn assertion(cursor: &mut Cursor<'_>) -> Result<Option<Look>, ParseError>
-    ensures read { IfOk result (λ o. IfSome o (λ l.
-        Reads cursor.old cursor.new (λ t. words.assertion t ≡ Some l))) }
-    ensures none { IfOk result (λ o. IfNone o (cursor.new ≡ cursor.old)) }
-    ensures whole { (l : _) (u : List ℕ)
-        → Part (rest cursor.old) u (λ t. words.assertion t ≡ Some l) → IsPastBoundary u
-        → Unlimited result (λ o. (o ≡ Some l) × (rest cursor.new ≡ u)) }
-    ensures begun { OnErr result (slice_get (rest cursor.old) 0 ≡ Some 0x62) }
-    ensures local { IfErr result (λ e. is_local e.kind ≡ true) }
-{
-    if cursor.take(b'b') {
-        let look = boundary(cursor)?;
-        return Ok(Some(look));
-    }
-    let Some(next) = cursor.peek() else {
-        return Ok(None);
-    };
-    match look_of(next) {
-        Some(look) if cursor.take(next) => Ok(Some(look)),
-        _ => Ok(None),
-    }
-}
-
 /// Returns the assertion of a backslash and the byte, but for `\b`.
 fn look_of(byte: u8) -> Option<Look>
-    ensures some { IfSome result (λ l. words.assertion (byte ∷ []) ≡ Some l) }
-    ensures none { IfNone result ((l : _) → words.assertion (byte ∷ []) ≡ Some l → byte ≡ 0x62) }
+    ensures some { IfSome result (λ l. (words.assertion (byte ∷ []) ≡ Some l)
+        × (byte ∈ "AzB<>" ≡ true)) }
+    ensures none { IfNone result (byte ∈ "AzB<>" ≡ false) }
 {
     match byte {
         b'A' => Some(Look::Start),
@@ -152,6 +126,22 @@ fn look_of(byte: u8) -> Option<Look>
         b'>' => Some(Look::WordEndAscii),
         _ => None,
     }
+}
+
+/// Returns the escape of a backslash and one byte, which is not `x` or `b`.
+fn one_byte(byte: u8) -> Option<Escape>
+    ensures { result ≡ reading.one_byte byte }
+{
+    if let Some(look) = look_of(byte) {
+        return Some(Escape::Look(look));
+    }
+    if let Some((kind, negated)) = perl_kind(byte) {
+        return Some(Escape::Class(kind, negated));
+    }
+    if let Some(escaped) = escaped(byte) {
+        return Some(Escape::Byte(escaped));
+    }
+    None
 }
 
 /// Reads the rest of a boundary after `\b`.
@@ -199,9 +189,10 @@ pub fn pass_letters(cursor: &mut Cursor<'_>)
         → following.is_in_boundary c ≡ false }
 {
     while let Some(next) = cursor.peek() {
-        if !is_in_boundary(next) || !cursor.take(next) {
+        if !is_in_boundary(next) {
             break;
         }
+        cursor.pass();
     }
 }
 
@@ -238,9 +229,8 @@ fn boundary_of(name: &[u8]) -> Option<Look>
 fn hex(cursor: &mut Cursor<'_>) -> Result<Escape, ParseError>
     ensures read { IfOk result (λ e.
         Reads cursor.old cursor.new (λ t. IsEscape e (0x5C ∷ 0x78 ∷ t))) }
-    ensures whole { (e : Escape) (u : List ℕ)
-        → Part (0x5C ∷ 0x78 ∷ rest cursor.old) u (IsEscape e)
-        → Unlimited result (λ d. IsSame d e × (rest cursor.new ≡ u)) }
+    ensures whole { (e : Escape) (u : List ℕ) → AtNumber u e (rest cursor.old)
+        → Unlimited result (λ d. (d ≡ e) × (rest cursor.new ≡ u)) }
     ensures local { IfErr result (λ e. is_local e.kind ≡ true) }
 {
     let brace = cursor.pos();
@@ -257,9 +247,8 @@ fn hex(cursor: &mut Cursor<'_>) -> Result<Escape, ParseError>
 fn braces(cursor: &mut Cursor<'_>, brace: usize) -> Result<Escape, ParseError>
     ensures read { IfOk result (λ e.
         Reads cursor.old cursor.new (λ t. IsEscape e (0x5C ∷ 0x78 ∷ 0x7B ∷ t))) }
-    ensures whole { (e : Escape) (u : List ℕ)
-        → Part (0x5C ∷ 0x78 ∷ 0x7B ∷ rest cursor.old) u (IsEscape e)
-        → Unlimited result (λ d. IsSame d e × (rest cursor.new ≡ u)) }
+    ensures whole { (e : Escape) (u : List ℕ) → AtNumber u e (0x7B ∷ rest cursor.old)
+        → Unlimited result (λ d. (d ≡ e) × (rest cursor.new ≡ u)) }
     ensures local { IfErr result (λ e. is_local e.kind ≡ true) }
 {
     let first = cursor.pos();
@@ -314,7 +303,7 @@ fn with_digit(value: u32, digit: u32) -> u32
 
 /// Reads a digit. If the text ends here, the error is from `from` to its end.
 fn hex_digit(cursor: &mut Cursor<'_>, from: usize) -> Result<u32, ParseError>
-    ensures read { IfOk result (λ n. Reads cursor.old cursor.new (IsHexDigit n)) }
+    ensures read { IfOk result (λ n. Reads cursor.old cursor.new (IsDigit 16 n)) }
     ensures small { IfOk result (λ n. n < 16) }
     ensures other { OnErr result ((d : ℕ) → slice_get (rest cursor.old) 0 ≡ Some d
         → is_digit d 16 ≡ false) }
@@ -327,8 +316,6 @@ fn hex_digit(cursor: &mut Cursor<'_>, from: usize) -> Result<u32, ParseError>
     let Some(digit) = char::from(next).to_digit(16) else {
         return Err(cursor.error_here(ErrorKind::EscapeHexInvalidDigit));
     };
-    if !cursor.take(next) {
-        return Err(cursor.error_here(ErrorKind::EscapeHexInvalidDigit));
-    }
+    cursor.pass();
     Ok(digit)
 }

@@ -177,9 +177,7 @@ fn letter(cursor: &mut Cursor<'_>, seen: &[u8], flags: Flags, on: bool) -> Resul
             _ => ErrorKind::FlagUnrecognized,
         }));
     };
-    if !cursor.take(letter) {
-        return Err(cursor.error_here(ErrorKind::FlagUnrecognized));
-    }
+    cursor.pass();
     Ok(set)
 }
 

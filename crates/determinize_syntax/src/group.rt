@@ -1,10 +1,9 @@
 //! What opens a group.
 
-ghost use Rattle.std.specs.Prelude.{◌≡◌, ◌++◌, ◌∷◌, [], ℕ, IfErr, IfOk, List, OnOk, false, true};
+ghost use Rattle.std.specs.Prelude.{◌≡◌, ◌++◌, ◌∷◌, [], ℕ, IfErr, IfOk, List, MatchResult, OnOk, false, true};
 ghost use Rattle.determinize_syntax.specs.Private.Following.{FromAtom, FromItem, Unlimited};
-ghost use Rattle.determinize_syntax.specs.Private.Names.{HasNames, NamesTo, is_local};
+ghost use Rattle.determinize_syntax.specs.Private.Names.{IsRight, Passes, is_local};
 ghost use Rattle.determinize_syntax.specs.Private.Reading.{IsNamed, Opens, Reads, rest};
-ghost use Rattle.determinize_syntax.specs.declared.error.ErrorKind.TheVariants.{NestLimitExceeded};
 ghost use Rattle.determinize_syntax.specs.declared.flags.Flags.{Flags};
 ghost use Rattle.determinize_syntax.specs.Words as words;
 ghost use Rattle.determinize_syntax.specs.Words.{◌∈◌, is_name};
@@ -57,9 +56,9 @@ pub fn read_opening<'a>(
     ensures read { IfOk result (λ o. Reads cursor.old cursor.new (Opens flags o.flags)) }
     ensures whole { (k : List Flags) → FromAtom k flags (0x28 ∷ rest cursor.old)
         → Unlimited result (λ o. FromItem (flags ∷ k) o.flags (rest cursor.new)) }
-    ensures shallow { IfErr result (λ e. e.kind ≡ NestLimitExceeded → ⊥) }
-    ensures names { (text : List ℕ) → HasNames text context.old (rest cursor.old)
-        → NamesTo result text context.new (rest cursor.new) }
+    ensures limits { (levels : ℕ) → MatchResult result
+        (λ _. Passes context.old (rest cursor.old) 0 context.new (rest cursor.new))
+        (IsRight levels context.old (rest cursor.old)) }
 {
     let capture = Opening {
         captures: true,
@@ -109,9 +108,9 @@ fn name<'a>(context: &mut Context<'a>, cursor: &mut Cursor<'a>) -> Result<(), Pa
     ensures read { OnOk result (Reads cursor.old cursor.new IsNamed) }
     ensures whole { (n u : List ℕ) → rest cursor.old ≡ n ++ 0x3E ∷ u → is_name n ≡ true
         → Unlimited result (λ r. rest cursor.new ≡ u) }
-    ensures shallow { IfErr result (λ e. e.kind ≡ NestLimitExceeded → ⊥) }
-    ensures names { (text : List ℕ) → HasNames text context.old (0x3C ∷ rest cursor.old)
-        → NamesTo result text context.new (rest cursor.new) }
+    ensures limits { (levels : ℕ) → MatchResult result
+        (λ _. Passes context.old (0x3C ∷ rest cursor.old) 0 context.new (rest cursor.new))
+        (IsRight levels context.old (0x3C ∷ rest cursor.old)) }
 {
     let first = *cursor;
     if let Some(b'>') = cursor.peek() {
@@ -149,13 +148,15 @@ fn letters_of_name(cursor: &mut Cursor<'_>) -> Result<(), ParseError>
     let Some(first) = cursor.peek() else {
         return Err(unnamed(cursor));
     };
-    if !begins_name(first) || !cursor.take(first) {
+    if !begins_name(first) {
         return Err(unnamed(cursor));
     }
+    cursor.pass();
     while let Some(next) = cursor.peek() {
-        if !is_in_name(next) || !cursor.take(next) {
+        if !is_in_name(next) {
             break;
         }
+        cursor.pass();
     }
     Ok(())
 }

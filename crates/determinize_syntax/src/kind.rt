@@ -2,8 +2,8 @@
 
 ghost use Rattle.std.specs.Prelude.{◌≡◌, IfNone, IfOk, IfSome, None, Some, codes};
 ghost use Rattle.determinize_pattern.specs.Classes.{HasBytes, pairs};
-ghost use Rattle.determinize_syntax.specs.Private.Sets.{name_of, set_of, turned};
-ghost use Rattle.determinize_syntax.specs.Words.{folded, named_class, perl_class};
+ghost use Rattle.determinize_syntax.specs.Private.Sets.{name_of, perl_of, set_of, turned};
+ghost use Rattle.determinize_syntax.specs.Words.{folded, named_class};
 
 use crate::class::class;
 use crate::flags::Flags;
@@ -135,8 +135,7 @@ impl ClassKind {
 
 /// Returns the class of a backslash and the letter, as `\d`, and whether it has all other bytes.
 pub fn perl_kind(letter: u8) -> Option<(ClassKind, bool)>
-    ensures some { IfSome result (λ r. perl_class letter ≡ Some (turned r.1 (set_of r.0))) }
-    ensures none { IfNone result (perl_class letter ≡ None) }
+    ensures { result ≡ perl_of letter }
 {
     match letter {
         b'd' => Some((ClassKind::Digit, false)),

@@ -1,6 +1,6 @@
 //! The levels of a pattern, from its choices down to its atoms.
 
-ghost use Rattle.std.specs.Prelude.{◌≡◌, ◌+◌, ◌<◌, ◌≤◌, ◌∷◌, ℕ, Bool, IfErr, IfOk, List, OnOk, Some, cond, encode_utf8, false, length, map, not, slice_get, true};
+ghost use Rattle.std.specs.Prelude.{◌≡◌, ◌+◌, ◌<◌, ◌≤◌, ◌∷◌, [], ℕ, Bool, IfErr, IfOk, List, MatchResult, OnOk, Some, cond, encode_utf8, false, length, map, not, slice_get, true};
 ghost use Rattle.determinize_pattern.specs.Meaning.{Re};
 ghost use Rattle.determinize_syntax.specs.Private.Following.{FromAtom, FromItem, FromOperator, IsBranchEnd, IsEnd, Unlimited};
 ghost use Rattle.determinize_syntax.specs.declared.error.ErrorKind.TheVariants.{GroupNameDuplicate, NestLimitExceeded};
@@ -11,8 +11,8 @@ ghost use Rattle.determinize_pattern.specs.Meaning as meanings;
 ghost use Rattle.determinize_pattern.specs.Characters.{IsCharClass};
 ghost use Rattle.determinize_pattern.specs.Patterns.{IsClass, choice_of, literal, meaning, repeated};
 ghost use Rattle.determinize_syntax.specs.Limits.{HasNameTwice, openings};
-ghost use Rattle.determinize_syntax.specs.Private.Names.{HasNames, IsDeep, NamesTo, is_local};
-ghost use Rattle.determinize_syntax.specs.Private.Reading.{Reads, rest};
+ghost use Rattle.determinize_syntax.specs.Private.Names.{IsRight, Passes, is_local};
+ghost use Rattle.determinize_syntax.specs.Private.Reading.{IsNotAt, Reads, rest};
 ghost use Rattle.determinize_syntax.specs.Spells as spells;
 ghost use Rattle.determinize_syntax.specs.Spells.{Atom, Choice, IsOneOf, Items, Repeated, Spells, SpellsUnder, is_limit};
 ghost use Rattle.determinize_syntax.specs.Words.{◌∈◌, at_line, dot_set, folded, knows_cases, only};
@@ -83,11 +83,9 @@ fn choice<'a>(
     ensures whole { (k : List Flags) → FromItem k flags (rest cursor.old)
         → Unlimited result (λ p. (g : Flags) × FromItem k g (rest cursor.new)
         × IsEnd (rest cursor.new)) }
-    ensures depth { OnOk result (context.new.depth + openings (rest cursor.new)
-        ≤ openings (rest cursor.old)) }
-    ensures nested { IfErr result (IsDeep levels (rest cursor.old)) }
-    ensures names { (text : List ℕ) → HasNames text context.old (rest cursor.old)
-        → NamesTo result text context.new (rest cursor.new) }
+    ensures limits { MatchResult result
+        (λ _. Passes context.old (rest cursor.old) context.new.depth context.new (rest cursor.new))
+        (IsRight levels context.old (rest cursor.old)) }
 {
     let mut flags = flags;
     let mut depth = 0;
@@ -117,11 +115,9 @@ fn items<'a>(
     ensures whole { (k : List Flags) → FromItem k flags.old (rest cursor.old)
         → Unlimited result (λ ps. FromItem k flags.new (rest cursor.new)
         × IsBranchEnd (rest cursor.new)) }
-    ensures depth { OnOk result (context.new.depth + openings (rest cursor.new)
-        ≤ openings (rest cursor.old)) }
-    ensures nested { IfErr result (IsDeep levels (rest cursor.old)) }
-    ensures names { (text : List ℕ) → HasNames text context.old (rest cursor.old)
-        → NamesTo result text context.new (rest cursor.new) }
+    ensures limits { MatchResult result
+        (λ _. Passes context.old (rest cursor.old) context.new.depth context.new (rest cursor.new))
+        (IsRight levels context.old (rest cursor.old)) }
 {
     let mut depth = 0;
     let mut items = Vec::new(context.alloc);
@@ -172,11 +168,9 @@ fn repeated<'a>(
     ensures progress { OnOk result (length (rest cursor.new) < length (rest cursor.old)) }
     ensures whole { (k : List Flags) → FromAtom k flags (rest cursor.old)
         → Unlimited result (λ p. FromItem k flags (rest cursor.new)) }
-    ensures depth { OnOk result (context.new.depth + openings (rest cursor.new)
-        ≤ openings (rest cursor.old)) }
-    ensures nested { IfErr result (IsDeep levels (rest cursor.old)) }
-    ensures names { (text : List ℕ) → HasNames text context.old (rest cursor.old)
-        → NamesTo result text context.new (rest cursor.new) }
+    ensures limits { MatchResult result
+        (λ _. Passes context.old (rest cursor.old) context.new.depth context.new (rest cursor.new))
+        (IsRight levels context.old (rest cursor.old)) }
 {
     let mut pattern = atom(context, cursor, flags, levels)?;
     let mut start = cursor.pos();
@@ -204,34 +198,38 @@ fn atom<'a>(
     ensures progress { OnOk result (length (rest cursor.new) < length (rest cursor.old)) }
     ensures whole { (k : List Flags) → FromAtom k flags (rest cursor.old)
         → Unlimited result (λ p. FromOperator k flags false (rest cursor.new)) }
-    ensures depth { OnOk result (context.new.depth + openings (rest cursor.new)
-        ≤ openings (rest cursor.old)) }
-    ensures nested { IfErr result (IsDeep levels (rest cursor.old)) }
-    ensures names { (text : List ℕ) → HasNames text context.old (rest cursor.old)
-        → NamesTo result text context.new (rest cursor.new) }
+    ensures limits { MatchResult result
+        (λ _. Passes context.old (rest cursor.old) context.new.depth context.new (rest cursor.new))
+        (IsRight levels context.old (rest cursor.old)) }
 {
     let start = cursor.pos();
     if cursor.take(b'(') {
         return group(context, cursor, start, flags, levels);
     }
     context.depth = 0;
-    let alloc = context.alloc;
-    if cursor.take(b'^') {
-        return Ok(line_start(flags));
-    }
-    if cursor.take(b'$') {
-        return Ok(line_end(flags));
-    }
-    if cursor.take(b'.') {
-        return Ok(dot(alloc, flags)?);
-    }
+    single(context.alloc, cursor, start, flags)
+}
+
+/// Reads an atom that is no group, and begins at `start`.
+fn single(
+    alloc: Global,
+    cursor: &mut Cursor<'_>,
+    start: usize,
+    flags: Flags,
+) -> Result<Pattern, ParseError>
+    ensures read { IfOk result (λ p. Reads cursor.old cursor.new (Atom flags (meaning p))) }
+    ensures progress { OnOk result (length (rest cursor.new) < length (rest cursor.old)) }
+    ensures whole { (k : List Flags) → FromAtom k flags (rest cursor.old) → IsNotAt 0x28 cursor.old
+        → Unlimited result (λ p. FromOperator k flags false (rest cursor.new)) }
+    ensures local { IfErr result (λ e. is_local e.kind ≡ true) }
+{
     if cursor.take(b'\\') {
         return escaped_atom(alloc, cursor, start, flags);
     }
     if cursor.take(b'[') {
         return bracket(alloc, cursor, start, flags);
     }
-    literal_atom(alloc, cursor, flags)
+    byte_atom(alloc, cursor, flags)
 }
 
 /// Reads an escape after its backslash, which is at `start`, where it can be repeated.
@@ -259,18 +257,22 @@ fn escaped_atom(
     }
 }
 
-/// Reads a literal character.
-fn literal_atom(alloc: Global, cursor: &mut Cursor<'_>, flags: Flags) -> Result<Pattern, ParseError>
+/// Reads `.`, `^` or `$`, or a literal character.
+fn byte_atom(alloc: Global, cursor: &mut Cursor<'_>, flags: Flags) -> Result<Pattern, ParseError>
     ensures read { IfOk result (λ p. Reads cursor.old cursor.new (Atom flags (meaning p))) }
     ensures progress { OnOk result (length (rest cursor.new) < length (rest cursor.old)) }
     ensures whole { (k : List Flags) → FromAtom k flags (rest cursor.old)
-        → ((c : ℕ) → slice_get (rest cursor.old) 0 ≡ Some c → (c ∈ "(^$.\\[") ≡ false)
+        → ((c : ℕ) → slice_get (rest cursor.old) 0 ≡ Some c → (c ∈ "([\\") ≡ false)
         → Unlimited result (λ p. FromOperator k flags false (rest cursor.new)) }
     ensures local { IfErr result (λ e. is_local e.kind ≡ true) }
 {
     let Some(next) = cursor.peek() else {
         return Err(cursor.error_before(ErrorKind::RepetitionMissing));
     };
+    if is_sign(next) {
+        cursor.pass();
+        return Ok(sign(alloc, next, flags)?);
+    }
     if is_special(next) {
         return Err(cursor.error_before(ErrorKind::RepetitionMissing));
     }
@@ -283,10 +285,27 @@ fn literal_atom(alloc: Global, cursor: &mut Cursor<'_>, flags: Flags) -> Result<
         };
         return Ok(wide(alloc, character)?);
     }
-    if !cursor.take(next) {
-        return Err(cursor.error_before(ErrorKind::RepetitionMissing));
-    }
+    cursor.pass();
     Ok(byte(alloc, next, flags)?)
+}
+
+/// Returns whether the byte is `.`, `^` or `$`.
+fn is_sign(byte: u8) -> bool
+    ensures { result ≡ (byte ∈ ".^$") }
+{
+    matches!(byte, b'.' | b'^' | b'$')
+}
+
+/// Returns the pattern of `.`, `^` or `$`.
+fn sign(alloc: Global, byte: u8, flags: Flags) -> Result<Pattern, AllocError>
+    requires { byte ∈ ".^$" ≡ true }
+    ensures { IfOk result (λ p. Atom flags (meaning p) (byte ∷ [])) }
+{
+    match byte {
+        b'^' => Ok(line_start(flags)),
+        b'$' => Ok(line_end(flags)),
+        _ => dot(alloc, flags),
+    }
 }
 
 /// Reads a group after its parenthesis, which is at `start`.
@@ -302,11 +321,10 @@ fn group<'a>(
         (λ t. Atom flags (meaning p) (0x28 ∷ t))) }
     ensures whole { (k : List Flags) → FromAtom k flags (0x28 ∷ rest cursor.old)
         → Unlimited result (λ p. FromOperator k flags false (rest cursor.new)) }
-    ensures depth { OnOk result (context.new.depth + openings (rest cursor.new)
-        ≤ openings (0x28 ∷ rest cursor.old)) }
-    ensures nested { IfErr result (IsDeep levels (0x28 ∷ rest cursor.old)) }
-    ensures names { (text : List ℕ) → HasNames text context.old (0x28 ∷ rest cursor.old)
-        → NamesTo result text context.new (rest cursor.new) }
+    ensures limits { MatchResult result
+        (λ _. Passes context.old (0x28 ∷ rest cursor.old) context.new.depth context.new
+        (rest cursor.new))
+        (IsRight levels context.old (0x28 ∷ rest cursor.old)) }
 {
     let opening = read_opening(context, cursor, start, flags)?;
     if levels == 0 {

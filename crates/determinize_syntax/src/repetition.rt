@@ -1,12 +1,12 @@
 //! Operators of repetitions.
 
-ghost use Rattle.std.specs.Prelude.{◌≡◌, ◌<◌, ◌∷◌, ℕ, Bool, IfErr, IfNone, IfOk, IfSome, List, MatchOption, OnOk, OnSome, Some, length, true};
-ghost use Rattle.determinize_syntax.specs.Private.Following.{AfterOperator, CountsTo, FromItem, FromOperator, IsCount, IsPastDigits, Unlimited};
+ghost use Rattle.std.specs.Prelude.{◌≡◌, ◌<◌, ◌∷◌, [], ℕ, Bool, IfErr, IfNone, IfOk, IfSome, List, MatchOption, OnOk, OnSome, Some, false, length, true};
+ghost use Rattle.determinize_syntax.specs.Private.Following.{AfterOperator, CountsTo, FromItem, FromOperator, IsCount, NoDigit, Unlimited};
 ghost use Rattle.determinize_syntax.specs.Private.Names.{is_local};
 ghost use Rattle.determinize_syntax.specs.Private.Reading.{IsDigit, Part, Reads, rest};
 ghost use Rattle.determinize_syntax.specs.declared.flags.Flags.{Flags};
 ghost use Rattle.determinize_syntax.specs.Spells.{Operator};
-ghost use Rattle.determinize_syntax.specs.Words.{number};
+ghost use Rattle.determinize_syntax.specs.Words.{◌∈◌, number};
 
 use crate::cursor::Cursor;
 use crate::error::{ErrorKind, ParseError};
@@ -30,24 +30,35 @@ pub fn operator(cursor: &mut Cursor<'_>) -> Result<Option<Bounds>, ParseError>
         (λ b. AfterOperator k f (rest cursor.new))) }
     ensures local { IfErr result (λ e. is_local e.kind ≡ true) }
 {
-    let start = cursor.pos();
-    if cursor.take(b'*') {
-        return Ok(Some(Bounds { min: 0, max: None }));
-    }
-    if cursor.take(b'+') {
-        return Ok(Some(Bounds { min: 1, max: None }));
-    }
-    if cursor.take(b'?') {
-        return Ok(Some(Bounds {
-            min: 0,
-            max: Some(1),
-        }));
-    }
-    if cursor.take(b'{') {
-        let bounds = counts(cursor, start)?;
+    let Some(next) = cursor.peek() else {
+        return Ok(None);
+    };
+    if let Some(bounds) = bounds_of(next) {
+        cursor.pass();
         return Ok(Some(bounds));
     }
-    Ok(None)
+    let start = cursor.pos();
+    if !cursor.take(b'{') {
+        return Ok(None);
+    }
+    let bounds = counts(cursor, start)?;
+    Ok(Some(bounds))
+}
+
+/// Returns the bounds of `*`, `+` or `?`.
+fn bounds_of(sign: u8) -> Option<Bounds>
+    ensures some { IfSome result (λ b. Operator b.min b.max (sign ∷ []) × (sign ∈ "*+?" ≡ true)) }
+    ensures none { IfNone result (sign ∈ "*+?" ≡ false) }
+{
+    match sign {
+        b'*' => Some(Bounds { min: 0, max: None }),
+        b'+' => Some(Bounds { min: 1, max: None }),
+        b'?' => Some(Bounds {
+            min: 0,
+            max: Some(1),
+        }),
+        _ => None,
+    }
 }
 
 /// Reads counts after their brace, which is at `start`.
@@ -88,7 +99,7 @@ fn counts(cursor: &mut Cursor<'_>, start: usize) -> Result<Bounds, ParseError>
 /// Reads a number of the counts whose brace is at `start`.
 fn decimal(cursor: &mut Cursor<'_>, start: usize) -> Result<u32, ParseError>
     ensures read { IfOk result (λ n. Reads cursor.old cursor.new (λ t. number 10 t ≡ Some n)) }
-    ensures whole { (n : ℕ) (u : List ℕ) → Part (rest cursor.old) u (IsCount n) → IsPastDigits u
+    ensures whole { (n : ℕ) (u : List ℕ) → Part (rest cursor.old) u (IsCount n) → NoDigit 10 u
         → Unlimited result (λ m. (m ≡ n) × (rest cursor.new ≡ u)) }
     ensures local { IfErr result (λ e. is_local e.kind ≡ true) }
 {
@@ -114,14 +125,15 @@ fn decimal(cursor: &mut Cursor<'_>, start: usize) -> Result<u32, ParseError>
 /// Passes a digit and returns its value.
 fn digit(cursor: &mut Cursor<'_>) -> Option<u32>
     ensures read { IfSome result (λ n.
-        Reads cursor.old cursor.new (IsDigit n)) }
+        Reads cursor.old cursor.new (IsDigit 10 n)) }
     ensures none { IfNone result (cursor.new ≡ cursor.old) }
-    ensures past { IfNone result (IsPastDigits (rest cursor.old)) }
+    ensures past { IfNone result (NoDigit 10 (rest cursor.old)) }
 {
     let next = cursor.peek()?;
-    if !next.is_ascii_digit() || !cursor.take(next) {
+    if !next.is_ascii_digit() {
         return None;
     }
+    cursor.pass();
     Some(u32::from(next - b'0'))
 }
 

@@ -1,5 +1,5 @@
 -- The names of groups in what was read, and the errors that depend on what was read.
-use Rattle.std.specs.Prelude.{◌≡◌, ◌<◌, ◌≤◌, ◌++◌, ℕ, All, Bool, MatchResult, Result, false, true}
+use Rattle.std.specs.Prelude.{◌≡◌, ◌<◌, ◌≤◌, ◌+◌, ◌++◌, ℕ, All, Bool, false, true}
 use Rattle.determinize_syntax.specs.Limits.{HasNameTwice, bracketed, openings}
 use Rattle.determinize_syntax.specs.Spells.{Bytes}
 use Rattle.determinize_syntax.specs.Words.{is_name}
@@ -15,10 +15,6 @@ is_local GroupNameDuplicate = false
 is_local NestLimitExceeded = false
 is_local kind = true
 
--- if the error is that of the depth, more groups and operators begin in s than levels are left
-abbrev pub IsDeep : ℕ → Bytes → ParseError → Type 0
-IsDeep levels s e = e.kind ≡ NestLimitExceeded → levels ≤ NEST_LIMIT → levels < openings s
-
 -- the name opens a group in what was read
 abbrev pub HasName : Bytes → Bytes → Type 0
 HasName read name = (front back : Bytes) × (is_name name ≡ true)
@@ -29,7 +25,13 @@ abbrev pub HasNames : Bytes → Context → Bytes → Type 0
 HasNames text context s = (read : Bytes) × (text ≡ read ++ s)
     × All (λ name. HasName read name.now) context.names.keys
 
--- the names are as far as s is still to read, or the error is that of a name and is right
-abbrev pub NamesTo : {A : Type 0} → Result A ParseError → Bytes → Context → Bytes → Type 0
-NamesTo result text context s = MatchResult result (λ _. HasNames text context s)
-    (λ e. e.kind ≡ GroupNameDuplicate → HasNameTwice text)
+-- of the text a, b is still to read: groups and operators are at most as deep in what was read as
+-- it has bytes with which they begin, and the names of its groups were added
+pub record Passes (old : Context) (a : Bytes) (depth : ℕ) (new : Context) (b : Bytes) : Type 0 where
+  pub deep : depth + openings b ≤ openings a
+  pub named : (text : Bytes) → HasNames text old a → HasNames text new b
+
+-- an error at a limit is right where a is still to read, and as many levels are left
+pub record IsRight (levels : ℕ) (old : Context) (a : Bytes) (e : ParseError) : Type 0 where
+  pub nested : e.kind ≡ NestLimitExceeded → levels ≤ NEST_LIMIT → levels < openings a
+  pub twice : e.kind ≡ GroupNameDuplicate → (text : Bytes) → HasNames text old a → HasNameTwice text

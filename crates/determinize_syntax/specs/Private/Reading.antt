@@ -1,11 +1,12 @@
 -- Places in a text, and the parts between them.
-use Rattle.std.specs.Prelude.{◌≡◌, ◌-◌, ◌≤◌, ◌++◌, ◌∷◌, ◌==◌, ◌||◌, [], ℕ, Bool, List, Some, codes, false, not, slice_get, true}
-use Rattle.std.specs.Char.{digit_value, is_ascii_digit, is_digit}
+use Rattle.std.specs.Prelude.{◌≡◌, ◌≤◌, ◌++◌, ◌∷◌, ◌==◌, ◌||◌, [], ℕ, Bool, List, Option, Some, codes, false, if◌then◌else◌, not, slice_get, true}
+use Rattle.std.specs.Char.{digit_value, is_digit}
 use Rattle.std.specs.List.{list_any}
+use Rattle.std.specs.Option.{option_map}
 use Rattle.determinize_pattern.specs.Meaning.{Re}
-use Rattle.determinize_syntax.specs.Private.Sets.{set_of, turned}
+use Rattle.determinize_syntax.specs.Private.Sets.{perl_of}
 use Rattle.determinize_syntax.specs.Spells.{Atom, Escaped, Sets, SpellsUnder, Wide}
-use Rattle.determinize_syntax.specs.Words.{assertion, is_text_end, is_name, knows_cases, number, perl_class, set_flag}
+use Rattle.determinize_syntax.specs.Words.{◌∈◌, assertion, escaped_byte, is_text_end, is_name, knows_cases, number, set_flag}
 use Rattle.determinize_syntax.specs.declared.escape.Escape.{Escape}
 use Rattle.determinize_syntax.specs.declared.escape.Escape.TheVariants as escape
 use Rattle.determinize_syntax.specs.declared.flags.Flags.{Flags}
@@ -28,8 +29,8 @@ abbrev pub IsNotAt : ℕ → Cursor → Type 0
 IsNotAt b c = slice_get (rest c) 0 ≡ Some b → ⊥
 
 -- one digit, of this value
-abbrev pub IsDigit : ℕ → List ℕ → Type 0
-IsDigit n t = (d : ℕ) × (t ≡ d ∷ []) × (is_ascii_digit d ≡ true) × (n ≡ d - 48)
+abbrev pub IsDigit : ℕ → ℕ → List ℕ → Type 0
+IsDigit radix n t = (d : ℕ) × (t ≡ d ∷ []) × (is_digit d radix ≡ true) × (n ≡ digit_value d)
 
 -- one letter that sets or clears a flag, and is not among those seen
 abbrev pub IsFlag : List ℕ → Flags → Bool → Flags → List ℕ → Type 0
@@ -54,10 +55,6 @@ abbrev pub Opens : Flags → Flags → List ℕ → Type 0
 Opens f g t = (re : Re) (u : List ℕ) → SpellsUnder g re u
     → Atom f re (0x28 ∷ (t ++ (u ++ 0x29 ∷ [])))
 
--- one hexadecimal digit, of this value
-abbrev pub IsHexDigit : ℕ → List ℕ → Type 0
-IsHexDigit n t = (d : ℕ) × (t ≡ d ∷ []) × (is_digit d 16 ≡ true) × (n ≡ digit_value d)
-
 -- hexadecimal digits, of this value if it is small enough for a character
 abbrev pub IsDigits : ℕ → List ℕ → Type 0
 IsDigits n t = n ≤ 0x10_FFFF → number 16 t ≡ Some n
@@ -67,8 +64,15 @@ abbrev pub IsEscape : Escape → List ℕ → Type 0
 IsEscape (escape.Byte b) t = Escaped b t
 IsEscape (escape.Wide c) t = Wide c t
 IsEscape (escape.Class kind negated) t = (c : ℕ)
-    × (perl_class c ≡ Some (turned negated (set_of kind))) × (t ≡ 0x5C ∷ c ∷ [])
+    × (perl_of c ≡ Some (kind, negated)) × (t ≡ 0x5C ∷ c ∷ [])
 IsEscape (escape.Look l) t = (u : List ℕ) × (assertion u ≡ Some l) × (t ≡ 0x5C ∷ u)
+
+-- the escape of a backslash and one byte, but for `\x` and `\b`
+abbrev pub one_byte : ℕ → Option Escape
+one_byte c =
+    if c ∈ "AzB<>" then option_map (λ l. escape.Look l) (assertion (c ∷ []))
+    else if c ∈ "dDwWsS" then option_map (λ x. escape.Class x.0 x.1) (perl_of c)
+    else option_map (λ b. escape.Byte b) (escaped_byte c)
 
 -- the escape needs no tables of Unicode where it is
 abbrev pub is_available : Flags → Escape → Bool

@@ -1,5 +1,5 @@
 -- Sets of bytes or characters as ranges.
-use Rattle.std.specs.Prelude.{◌&&◌, ◌||◌, ◌≡◌, ◌<◌, ℕ, Bool, List, Some, cond, nat_lt, not}
+use Rattle.std.specs.Prelude.{◌&&◌, ◌||◌, ◌≡◌, ◌<◌, ℕ, Bool, List, None, Option, Some, cond, false, if◌then◌else◌, nat_lt, not, true}
 use Rattle.std.specs.Char.{is_ascii, is_ascii_alphabetic, is_ascii_alphanumeric, is_ascii_control, is_ascii_digit, is_ascii_graphic, is_ascii_hexdigit, is_ascii_lowercase, is_ascii_punctuation, is_ascii_uppercase, to_ascii_lowercase, to_ascii_uppercase}
 use Rattle.std.specs.Int.{is_in_range}
 use Rattle.determinize_pattern.specs.Characters.{char_pairs}
@@ -74,3 +74,10 @@ name_of Space = "space"
 name_of Upper = "upper"
 name_of Word = "word"
 name_of Xdigit = "xdigit"
+
+-- the class of a letter and whether it has all other bytes, as `\d` and `\D`
+abbrev pub perl_of : ℕ → Option (ClassKind × Bool)
+perl_of c =
+    if c ∈ "d" then Some (Digit, false) else if c ∈ "D" then Some (Digit, true)
+    else if c ∈ "w" then Some (Word, false) else if c ∈ "W" then Some (Word, true)
+    else if c ∈ "s" then Some (Space, false) else if c ∈ "S" then Some (Space, true) else None

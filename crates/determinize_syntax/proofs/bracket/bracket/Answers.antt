@@ -1,20 +1,16 @@
-use Rattle.std.proofs.Common.{◌≡◌, ◌∷◌, ◌∙◌, Bool, Some, ap, false, refl, slice_get, subst, sym, true}
-use Rattle.determinize_syntax.specs.Spells.{Bytes}
-use Rattle.determinize_syntax.specs.declared.flags.Flags.{Flags}
+use Rattle.std.proofs.Common.{◌≡◌, ◌∷◌, ◌∙◌, Bool, Some, ap, false, refl, rules, slice_get, sym, true}
+use Rattle.ordered_reach.proofs.Cases.{by_cases}
 use Rattle.determinize_pattern.specs.Characters.{char_pairs}
 use Rattle.determinize_pattern.specs.Patterns.{meaning}
+use Rattle.determinize_syntax.specs.Private.Following.{Bracketed}
+use Rattle.determinize_syntax.specs.Private.Letters.{Inner}
 use Rattle.determinize_syntax.specs.Private.Reading.{rest}
-use Rattle.determinize_syntax.specs.Private.Sets.{has_char, turned}
-use Rattle.determinize_syntax.specs.Spells.{IsOneOf}
-use Rattle.determinize_syntax.specs.Words.{folded}
+use Rattle.determinize_syntax.specs.Spells.{Bytes}
+use Rattle.determinize_syntax.specs.declared.flags.Flags.{Flags}
+use Rattle.determinize_syntax.proofs.Bytes.{clash, tails}
 use Rattle.determinize_syntax.proofs.Characters.{one_of_listed}
 use Rattle.determinize_syntax.proofs.Listing.{any_bracket_read}
-use Rattle.ordered_reach.proofs.Cases.{by_cases}
-use Rattle.determinize_syntax.specs.Private.Following.{FromOperator}
-use Rattle.determinize_syntax.specs.Private.Letters.{Listing}
-use Rattle.determinize_syntax.specs.declared.bracket.Before.TheVariants.{First}
-use Rattle.determinize_syntax.proofs.Nexts.{AtBracket, bracket_next}
-use Rattle.determinize_syntax.proofs.Stepping.{passed_on, tails}
+use Rattle.determinize_syntax.proofs.Stepping.{bracket_next}
 use Rattle.determinize_syntax.proofs.bracket.bracket.Goals as goal
 
 pub returns-clause-read : goal.returns-clause-read
@@ -26,38 +22,32 @@ returns-clause-read c =
     any_bracket_read f n (char_pairs ranges) re c.take-negated.ensures.read
     (λ e. ap rest (c.take-negated.ensures.left e)) c.take-negated.ensures.other c.in_ok-ranges.ensures.read
     (sym c.know_cases.ensures ∙ c.if-not-know_cases.false)
-    (λ r h. one_of_listed f n r ranges re h
-    (subst (λ l. IsOneOf f.unicode (turned n (folded f (has_char l))) re) c.deref.ensures.value
-    c.in_ok-pattern.ensures))
+    (λ r h. one_of_listed f n r ranges re h (rw c.deref.ensures.value at c.in_ok-pattern.ensures))
 
 -- the inside after the `^` if there is one
-listing : (f : Flags) (w r new : Bytes) (negated : Bool) → AtBracket f w r → (negated ≡ true → r ≡ 0x5E ∷ new)
-    → (negated ≡ false → new ≡ r) → (negated ≡ false → slice_get r 0 ≡ Some 0x5E → ⊥) → Listing f w false First new
-listing f w r new true x read same other =
-    by_cases x.1 (λ y. subst (Listing f w false First) (tails 0x5E 0x5E y.0 new (sym y.1 ∙ read refl)) y.2)
+inner : (f : Flags) (w r new : Bytes) (negated : Bool) → Bracketed f w r → (negated ≡ true → r ≡ 0x5E ∷ new)
+    → (negated ≡ false → new ≡ r) → (negated ≡ false → slice_get r 0 ≡ Some 0x5E → ⊥) → Inner f w new
+inner f w r new true x read same other =
+    by_cases x (λ y. rw (tails (sym y.1 ∙ read refl)) at y.2)
     (λ y. absurd (y.0 (ap (λ l. slice_get l 0) (read refl))))
-listing f w r new false x read same other =
-    by_cases x.1 (λ y. absurd (other refl (ap (λ l. slice_get l 0) y.1)))
-    (λ y. subst (Listing f w false First) (sym (same refl)) y.1)
+inner f w r new false x read same other =
+    by_cases x (λ y. absurd (other refl (ap (λ l. slice_get l 0) y.1))) (λ y. rw (same refl) y.1)
 
 pub returns-in_err-ranges-clause-whole : goal.returns-in_err-ranges-clause-whole
 returns-in_err-ranges-clause-whole c k h =
-    let x = bracket_next k c.args.flags _ h (rest c.args.cursor.now) refl in
-    let inner = listing c.args.flags x.0 (rest c.args.cursor.now)
-    (rest c.take-negated.new.self) c.take-negated.result x.1
-    c.take-negated.ensures.read (λ e. ap rest (c.take-negated.ensures.left e)) c.take-negated.ensures.other in
-    passed_on _ c.from_residual.result c.in_err-ranges.field-0.0 c.from_residual.ensures.1
-    (c.in_err-ranges.ensures.whole x.0 inner x.1.0)
+    let x = bracket_next k c.args.flags _ h in
+    search (
+      rules,
+      c.in_err-ranges.ensures.whole x.0 (inner c.args.flags x.0 (rest c.args.cursor.now) _ _ x.1
+          c.take-negated.ensures.read (λ e. ap rest (c.take-negated.ensures.left e)) c.take-negated.ensures.other) x.2,
+    )
 
 pub returns-then-not-know_cases-clause-whole : goal.returns-then-not-know_cases-clause-whole
 returns-then-not-know_cases-clause-whole c k h =
-    let x = bracket_next k c.args.flags _ h (rest c.args.cursor.now) refl in
-    let never : true ≡ false = sym x.1.0 ∙ sym c.know_cases.ensures ∙ c.if-not-know_cases.true in absurd (cc)
+    clash (bracket_next k c.args.flags _ h).2 (sym c.know_cases.ensures ∙ c.if-not-know_cases.true)
 
 pub returns-clause-whole : goal.returns-clause-whole
 returns-clause-whole c k h =
-    let x = bracket_next k c.args.flags _ h (rest c.args.cursor.now) refl in
-    let inner = listing c.args.flags x.0 (rest c.args.cursor.now)
-    (rest c.take-negated.new.self) c.take-negated.result x.1
-    c.take-negated.ensures.read (λ e. ap rest (c.take-negated.ensures.left e)) c.take-negated.ensures.other in
-    subst (FromOperator k c.args.flags false) (sym (c.in_ok-ranges.ensures.whole x.0 inner x.1.0)) x.2
+    let x = bracket_next k c.args.flags _ h in
+    rw (c.in_ok-ranges.ensures.whole x.0 (inner c.args.flags x.0 (rest c.args.cursor.now) _ _ x.1
+    c.take-negated.ensures.read (λ e. ap rest (c.take-negated.ensures.left e)) c.take-negated.ensures.other) x.2) x.3

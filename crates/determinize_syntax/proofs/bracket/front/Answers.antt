@@ -1,14 +1,11 @@
-use Rattle.std.proofs.Common.{◌∷◌, ◌++◌, ◌∙◌, [], Some, ap, false, refl, subst, sym, true}
+use Rattle.std.proofs.Common.{◌∷◌, ◌++◌, ◌∙◌, [], Some, ap, false, sym}
 use Rattle.determinize_pattern.specs.Characters.{char_pairs}
 use Rattle.determinize_pattern.specs.Meaning.{is_in}
-use Rattle.determinize_syntax.specs.Private.Reading.{IsNotAt, rest}
+use Rattle.determinize_syntax.specs.Private.Reading.{rest}
 use Rattle.determinize_syntax.specs.Spells as s
-use Rattle.determinize_syntax.specs.Spells.{Lists}
 use Rattle.determinize_syntax.specs.Words.{only}
 use Rattle.determinize_syntax.proofs.Listing.{has_only}
-use Rattle.determinize_syntax.specs.Private.Letters.{Listing}
-use Rattle.determinize_syntax.specs.declared.bracket.Before.TheVariants.{First}
-use Rattle.determinize_syntax.proofs.Nexts.{front_next}
+use Rattle.determinize_syntax.proofs.Nexts.{front_next, items_next}
 use Rattle.determinize_syntax.proofs.bracket.front.Goals as goal
 
 pub returns-then-not-take-clause-read : goal.returns-then-not-take-clause-read
@@ -19,7 +16,7 @@ returns-then-not-take-clause-read c = λ f. (
     (λ b. false),
     s.nothing,
     (λ b small. ap (λ l. is_in (char_pairs l) (Some b)) c.new.ensures.items),
-    λ e. subst (IsNotAt 0x5D) (sym (c.take.ensures.left c.if-not-take.true)) (c.take.ensures.other c.if-not-take.true),
+    λ e. rw (c.take.ensures.left c.if-not-take.true) (c.take.ensures.other c.if-not-take.true),
   ),
 )
 
@@ -29,26 +26,18 @@ returns-clause-read c = λ f. (
   c.take.ensures.read c.if-not-take.false,
   (
     only 0x5D,
-    subst (λ q. Lists f q (only 0x5D) (0x5D ∷ [])) (sym c.in_ok-add.ensures.before) s.closing,
+    rw c.in_ok-add.ensures.before s.closing,
     (λ b small. ap (λ l. is_in l (Some b)) (c.in_ok-add.ensures.ranges
-        ∙ ap (λ l. char_pairs l ++ (0x5D, 0x5D) ∷ []) c.new.ensures.items)
-        ∙ has_only 0x5D b small),
+        ∙ ap (λ l. char_pairs l ++ (0x5D, 0x5D) ∷ []) c.new.ensures.items) ∙ has_only 0x5D b small),
     λ e. absurd (cc),
   ),
 )
 
 pub returns-then-not-take-clause-whole : goal.returns-then-not-take-clause-whole
-returns-then-not-take-clause-whole c f u h = (
-  false,
-  subst (λ y. Listing f u false First (rest y)) (sym (c.take.ensures.left c.if-not-take.true)) h,
-  λ e. subst (IsNotAt 0x5D) (sym (c.take.ensures.left c.if-not-take.true)) (c.take.ensures.other c.if-not-take.true),
-)
+returns-then-not-take-clause-whole c f u h =
+    rw (c.take.ensures.left c.if-not-take.true)
+    (items_next f u (rest c.args.cursor.now) h (c.take.ensures.other c.if-not-take.true))
 
 pub returns-clause-whole : goal.returns-clause-whole
-returns-clause-whole c f u h = (
-  true,
-  subst (λ q. Listing f u true q (rest c.take.new.self)) (sym c.in_ok-add.ensures.before)
-      (front_next f u false First (rest c.args.cursor.now) h (rest c.take.new.self)
-      (c.take.ensures.read c.if-not-take.false) refl),
-  λ e. absurd (cc),
-)
+returns-clause-whole c f u h =
+    rw c.in_ok-add.ensures.before (front_next f u _ (rw (c.take.ensures.read c.if-not-take.false) at h))

@@ -2,14 +2,14 @@ use Rattle.std.proofs.Common.{◌≡◌, ◌∷◌, Some, length, ℕ}
 use Rattle.determinize_syntax.specs.Private.Reading.{IsDigits, Part, Reads, rest}
 use Rattle.determinize_syntax.specs.Spells.{Bytes}
 use Rattle.determinize_syntax.specs.Words.{number}
-use Rattle.determinize_syntax.proofs.Hexes.{HexLeft}
+use Rattle.determinize_syntax.proofs.Numbers.{Left}
 use Rattle.determinize_syntax.proofs.escape.hex_number.Given as goal
 
 abbrev pub invariant-loop-cursor : goal.invariant-loop-cursor
 invariant-loop-cursor l =
     Reads l.fn.cursor l.cursor (IsDigits l.value)
     × ((n : ℕ) (u : Bytes) → Part (rest l.fn.cursor) (0x7D ∷ u) (λ t. number 16 t ≡ Some n)
-    → HexLeft l.value n u (rest l.cursor))
+    → Left 16 0x10_FFFF l.value n (0x7D ∷ u) (rest l.cursor))
 
 abbrev pub decreases-loop-cursor : goal.decreases-loop-cursor
 decreases-loop-cursor l = length (rest l.cursor)

@@ -1,11 +1,11 @@
-use Rattle.std.proofs.Common.{◌≡◌, ◌++◌, ◌∙◌, [], ap, refl, subst, sym}
+use Rattle.std.proofs.Common.{◌≡◌, ◌++◌, ◌∙◌, [], ap, refl, rules, subst, sym}
 use Rattle.std.proofs.lemmas.List.{append_assoc}
 use Rattle.determinize_syntax.specs.Private.Letters.{Letters}
 use Rattle.determinize_syntax.specs.Private.Reading.{rest}
 use Rattle.determinize_syntax.specs.Spells.{no_letter}
+use Rattle.determinize_syntax.proofs.Bytes.{at_end}
 use Rattle.determinize_syntax.proofs.Flagging.{after_here, letters_end, letters_none, not_after}
-use Rattle.determinize_syntax.proofs.Parts.{at_end, letters_read}
-use Rattle.determinize_syntax.proofs.Stepping.{passed_on}
+use Rattle.determinize_syntax.proofs.Parts.{letters_read}
 use Rattle.determinize_syntax.proofs.flags.letters.Goals as goal
 
 pub loop-cursor-init : goal.loop-cursor-init
@@ -32,12 +32,13 @@ loop-cursor-preserved c = (
 pub returns-in_err-flags-clause-whole : goal.returns-in_err-flags-clause-whole
 returns-in_err-flags-clause-whole c g u h after =
     let b = c.loop-cursor.invariant.1 g u h after in
-    let seen : c.since-seen.result.now ≡ b.0 = c.since-seen.ensures b.0 b.1 in
-    passed_on _ c.from_residual.result c.in_err-flags.field-0.0 c.from_residual.ensures.1
-    (c.in_err-flags.ensures.whole g u
-    (subst (λ s. Letters g u s c.loop-cursor.on c.loop-cursor.flags (rest c.loop-cursor.cursor)) (sym seen) b.2) after
-    (not_after (rest c.loop-cursor.cursor) c.in-Some.field-0 (sym c.peek.ensures ∙ c.in-Some.is)
-    (search (c.in-Some.field-0-test))))
+    search (
+      rules,
+      c.in_err-flags.ensures.whole g u (subst (λ s. Letters g u s c.loop-cursor.on c.loop-cursor.flags
+          (rest c.loop-cursor.cursor)) (sym (c.since-seen.ensures b.0 b.1)) b.2) after
+          (not_after (rest c.loop-cursor.cursor) c.in-Some.field-0 (sym c.peek.ensures ∙ c.in-Some.is)
+          (search (c.in-Some.field-0-test))),
+    )
 
 pub returns-clause-whole : goal.returns-clause-whole
 returns-clause-whole c g u h after =
@@ -49,5 +50,5 @@ returns-clause-whole c g u h after =
 pub returns-in-None-clause-whole : goal.returns-in-None-clause-whole
 returns-in-None-clause-whole c g u h after =
     let b = c.loop-cursor.invariant.1 g u h after in
-    letters_none g u b.0 c.loop-cursor.on c.loop-cursor.flags (rest c.loop-cursor.cursor) b.2
-    (at_end (rest c.loop-cursor.cursor) (sym c.peek.ensures ∙ c.in-None.is)) after
+    letters_none g u b.0 c.loop-cursor.on c.loop-cursor.flags
+    (rw (at_end (rest c.loop-cursor.cursor) (sym c.peek.ensures ∙ c.in-None.is)) at b.2) after

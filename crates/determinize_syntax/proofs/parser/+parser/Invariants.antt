@@ -1,7 +1,6 @@
-use Rattle.std.proofs.Common.{◌≡◌, ◌<◌, ◌≤◌, Bool, List, true, ◌+◌, ◌*◌, length, map, ℕ}
+use Rattle.std.proofs.Common.{◌≡◌, ◌<◌, Bool, List, true, ◌+◌, ◌*◌, length, map}
 use Rattle.determinize_pattern.specs.Patterns.{meaning}
-use Rattle.determinize_syntax.specs.Limits.{openings}
-use Rattle.determinize_syntax.specs.Private.Names.{HasNames}
+use Rattle.determinize_syntax.specs.Private.Names.{Passes}
 use Rattle.determinize_syntax.specs.Private.Following.{FromAtom, FromItem, FromOperator}
 use Rattle.determinize_syntax.specs.Private.Reading.{IsNotAt, Reads, rest}
 use Rattle.determinize_syntax.specs.Spells.{Branches, Items, Repeated}
@@ -27,8 +26,7 @@ abbrev pub invariant-choice-loop-branches : goal.invariant-choice-loop-branches
 invariant-choice-loop-branches l =
     Reads l.fn.cursor l.cursor (Branches l.fn.flags l.flags (map meaning l.branches.items))
     × ((k : List Flags) → FromItem k l.fn.flags (rest l.fn.cursor) → FromItem k l.flags (rest l.cursor))
-    × (l.depth + openings (rest l.cursor) ≤ openings (rest l.fn.cursor))
-    × ((text : List ℕ) → HasNames text l.fn.context (rest l.fn.cursor) → HasNames text l.context (rest l.cursor))
+    × Passes l.fn.context (rest l.fn.cursor) l.depth l.context (rest l.cursor)
 
 abbrev pub decreases-choice-loop-branches : goal.decreases-choice-loop-branches
 decreases-choice-loop-branches l = length (rest l.cursor)
@@ -37,8 +35,7 @@ abbrev pub invariant-items-loop-cursor : goal.invariant-items-loop-cursor
 invariant-items-loop-cursor l =
     Reads l.fn.cursor l.cursor (Items l.fn.flags l.flags (map meaning l.items.items))
     × ((k : List Flags) → FromItem k l.fn.flags (rest l.fn.cursor) → FromItem k l.flags (rest l.cursor))
-    × (l.depth + openings (rest l.cursor) ≤ openings (rest l.fn.cursor))
-    × ((text : List ℕ) → HasNames text l.fn.context (rest l.fn.cursor) → HasNames text l.context (rest l.cursor))
+    × Passes l.fn.context (rest l.fn.cursor) l.depth l.context (rest l.cursor)
 
 abbrev pub decreases-items-loop-cursor : goal.decreases-items-loop-cursor
 decreases-items-loop-cursor l = length (rest l.cursor)
@@ -50,8 +47,7 @@ invariant-repeated-loop-bounds l =
     × (length (rest l.cursor) < length (rest l.fn.cursor))
     × ((k : List Flags) → FromAtom k l.fn.flags (rest l.fn.cursor) → (e : Bool)
     × FromOperator k l.fn.flags e (rest l.cursor))
-    × (l.context.depth + openings (rest l.cursor) ≤ openings (rest l.fn.cursor))
-    × ((text : List ℕ) → HasNames text l.fn.context (rest l.fn.cursor) → HasNames text l.context (rest l.cursor))
+    × Passes l.fn.context (rest l.fn.cursor) l.context.depth l.context (rest l.cursor)
 
 abbrev pub decreases-repeated-loop-bounds : goal.decreases-repeated-loop-bounds
 decreases-repeated-loop-bounds l = length (rest l.cursor)

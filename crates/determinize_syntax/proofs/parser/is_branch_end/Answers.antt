@@ -1,6 +1,6 @@
 use Rattle.std.proofs.Common.{◌∙◌, inl, sym}
 use Rattle.determinize_syntax.specs.Private.Reading.{rest}
-use Rattle.determinize_syntax.proofs.Parts.{at_end}
+use Rattle.determinize_syntax.proofs.Bytes.{at_end, front_of}
 use Rattle.determinize_syntax.proofs.Stepping.{no_stop, stop_here}
 use Rattle.determinize_syntax.proofs.parser.is_branch_end.Goals as goal
 
@@ -9,10 +9,10 @@ returns-in-None-clause-end c e = inl (inl (at_end (rest c.args.cursor.now) (sym 
 
 pub returns-in-Some-clause-end : goal.returns-in-Some-clause-end
 returns-in-Some-clause-end c e =
-    stop_here (rest c.args.cursor.now) c.in-Some.next (sym c.peek.ensures ∙ c.in-Some.is)
-    (sym c.ends_branch.ensures ∙ e)
+    let x = front_of (rest c.args.cursor.now) c.in-Some.next (sym c.peek.ensures ∙ c.in-Some.is) in
+    rw x.1 (stop_here x.0 c.in-Some.next (sym c.ends_branch.ensures ∙ e))
 
 pub returns-in-Some-clause-other : goal.returns-in-Some-clause-other
 returns-in-Some-clause-other c e stop =
-    no_stop (rest c.args.cursor.now) c.in-Some.next (sym c.peek.ensures ∙ c.in-Some.is)
-    (sym c.ends_branch.ensures ∙ e) stop
+    let x = front_of (rest c.args.cursor.now) c.in-Some.next (sym c.peek.ensures ∙ c.in-Some.is) in
+    no_stop x.0 c.in-Some.next (sym c.ends_branch.ensures ∙ e) (rw x.1 at stop)

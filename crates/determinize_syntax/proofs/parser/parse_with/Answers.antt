@@ -1,35 +1,35 @@
-use Rattle.std.proofs.Common.{◌≡◌, ◌∙◌, [], None, ap, slice_get, subst, sym, true}
+use Rattle.std.proofs.Common.{◌≡◌, ◌<◌, ◌∙◌, [], None, ap, arith, rules, slice_get, sym, true}
 use Rattle.std.specs.Prelude.{is_some}
 use Rattle.determinize_pattern.specs.Patterns.{meaning}
-use Rattle.determinize_syntax.specs.Private.Following.{FromItem}
+use Rattle.determinize_syntax.specs.Limits.{HasNameTwice, openings}
 use Rattle.determinize_syntax.specs.Private.Reading.{rest}
 use Rattle.determinize_syntax.specs.Spells.{SpellsUnder}
-use Rattle.determinize_syntax.proofs.Following.{text_follows}
-use Rattle.determinize_syntax.proofs.Parts.{none_of, whole_read}
-use Rattle.determinize_syntax.proofs.Stepping.{error_passed_on, whole_ended}
-use Rattle.std.proofs.Common.{◌<◌, arith}
-use Rattle.determinize_syntax.specs.Limits.{HasNameTwice, openings}
 use Rattle.determinize_syntax.specs.declared.error.ErrorKind.TheVariants.{GroupNameDuplicate, NestLimitExceeded}
 use Rattle.determinize_syntax.specs.declared.parser.TheConstants.{NEST_LIMIT}
-use Rattle.determinize_syntax.proofs.Limits.{error_passed, names_none}
+use Rattle.determinize_syntax.proofs.Following.{text_follows}
+use Rattle.determinize_syntax.proofs.Limits.{names_none}
+use Rattle.determinize_syntax.proofs.Parts.{none_of, whole_read}
+use Rattle.determinize_syntax.proofs.Stepping.{whole_ended}
 use Rattle.determinize_syntax.proofs.parser.parse_with.Goals as goal
 
 pub returns-clause-spells : goal.returns-clause-spells
 returns-clause-spells c =
     let off : c.peek.result ≡ None = none_of c.peek.result (sym c.is_some.ensures ∙ c.if-is_some.false) in
     let spells = SpellsUnder c.args.flags (meaning c.in_ok-pattern.pattern) in
-    subst spells c.new-cursor.ensures (whole_read _ _ spells c.in_ok-pattern.ensures.read (sym c.peek.ensures ∙ off))
+    rw c.new-cursor.ensures at (whole_read _ _ spells c.in_ok-pattern.ensures.read (sym c.peek.ensures ∙ off))
 
 pub returns-in_err-pattern-clause-complete : goal.returns-in_err-pattern-clause-complete
 returns-in_err-pattern-clause-complete c re h =
-    error_passed_on c.from_residual.result c.in_err-pattern.field-0.0 c.from_residual.ensures.1
-    (c.in_err-pattern.ensures.whole [] (subst (FromItem [] c.args.flags) (sym c.new-cursor.ensures)
-    (text_follows c.args.flags re c.args.text.now h)))
+    search (
+      rules,
+      c.in_err-pattern.ensures.whole []
+          (rw c.new-cursor.ensures (text_follows c.args.flags re c.args.text.now h)),
+    )
 
 pub returns-then-is_some-clause-complete : goal.returns-then-is_some-clause-complete
 returns-then-is_some-clause-complete c re h =
-    let x = c.in_ok-pattern.ensures.whole [] (subst (FromItem [] c.args.flags) (sym c.new-cursor.ensures)
-    (text_follows c.args.flags re c.args.text.now h)) in
+    let x = c.in_ok-pattern.ensures.whole []
+    (rw c.new-cursor.ensures (text_follows c.args.flags re c.args.text.now h)) in
     let off : c.peek.result ≡ None = c.peek.ensures
     ∙ ap (λ l. slice_get l 0) (whole_ended x.0 (rest c.choice.new.cursor) x.1 x.2) in
     let never : is_some c.peek.result ≡ true = sym c.is_some.ensures ∙ c.if-is_some.true in
@@ -37,15 +37,11 @@ returns-then-is_some-clause-complete c re h =
 
 pub returns-in_err-pattern-clause-nested : goal.returns-in_err-pattern-clause-nested
 returns-in_err-pattern-clause-nested c =
-    error_passed (λ e. e.kind ≡ NestLimitExceeded → NEST_LIMIT < openings c.args.text.now) c.from_residual.result
-    c.in_err-pattern.field-0.0 c.from_residual.ensures.1
-    (λ is. subst (λ l. NEST_LIMIT < openings l) c.new-cursor.ensures
-    (c.in_err-pattern.ensures.nested is (omega arith)))
+    let nested : c.in_err-pattern.field-0.0.kind ≡ NestLimitExceeded → NEST_LIMIT < openings c.args.text.now =
+    λ is. rw c.new-cursor.ensures at (c.in_err-pattern.ensures.limits.nested is (omega arith)) in search (rules, nested)
 
 pub returns-in_err-pattern-clause-twice : goal.returns-in_err-pattern-clause-twice
 returns-in_err-pattern-clause-twice c =
-    error_passed (λ e. e.kind ≡ GroupNameDuplicate → HasNameTwice c.args.text.now) c.from_residual.result
-    c.in_err-pattern.field-0.0 c.from_residual.ensures.1
-    (c.in_err-pattern.ensures.names c.args.text.now
-    (names_none c.args.text.now (rest c.new-cursor.result) c.new-context.result c.new-cursor.ensures
-    c.new-context.ensures))
+    let twice : c.in_err-pattern.field-0.0.kind ≡ GroupNameDuplicate → HasNameTwice c.args.text.now =
+    λ is. c.in_err-pattern.ensures.limits.twice is c.args.text.now (names_none c.args.text.now
+    (rest c.new-cursor.result) c.new-context.result c.new-cursor.ensures c.new-context.ensures) in search (rules, twice)

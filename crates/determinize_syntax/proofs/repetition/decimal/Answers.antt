@@ -1,53 +1,49 @@
-use Rattle.std.proofs.Common.{◌≡◌, ◌<◌, ◌≤◌, ◌^◌, ◌*◌, ◌∙◌, ◌+◌, IfNone, ap, arith, subst}
-use Rattle.determinize_syntax.specs.Private.Following.{IsPastDigits}
+use Rattle.std.proofs.Common.{◌*◌, ◌+◌, ◌<◌, ◌≤◌, ◌^◌, ◌∙◌, ap, arith}
 use Rattle.determinize_syntax.specs.Private.Reading.{rest}
-use Rattle.determinize_syntax.proofs.Counting.{count_begins, count_begun, count_ended, count_more, count_over}
-use Rattle.determinize_syntax.proofs.Parts.{number_begun, number_grown}
+use Rattle.determinize_syntax.proofs.Numbers.{begun, ended, grown, number_begun, number_grown, over, some_digit}
 use Rattle.determinize_syntax.proofs.repetition.decimal.Goals as goal
 
 pub loop-next-init : goal.loop-next-init
 loop-next-init c = (
-  number_begun c.in-Some.value c.in-Some.ensures.read,
-  λ n u h p. count_begun n c.in-Some.value c.in-Some.ensures.read h,
+  number_begun 10 c.in-Some.value c.in-Some.ensures.read,
+  λ n u h p. begun 10 0xFFFF_FFFF n c.in-Some.value c.in-Some.ensures.read (h.0, h.1, h.2.0),
 )
 
 pub loop-next-preserved : goal.loop-next-preserved
 loop-next-preserved c =
-    let grown = c.in-Some-checked_add.ensures.1
+    let more = c.in-Some-checked_add.ensures.1
     ∙ ap (λ x. x + c.in-Some-digit.next) c.in-Some-checked_mul.ensures.1 in (
       number_grown c.loop-next.value c.in-Some-digit.next c.in-Some-checked_add.grown c.loop-next.invariant.0
-          c.in-Some-digit.ensures.read grown,
-      λ n u h p. count_more c.loop-next.value n c.in-Some-digit.next c.in-Some-checked_add.grown
-          (c.loop-next.invariant.1 n u h p) p c.in-Some-digit.ensures.read grown,
+          c.in-Some-digit.ensures.read more,
+      λ n u h p. grown 10 0xFFFF_FFFF c.loop-next.value n c.in-Some-digit.next c.in-Some-checked_add.grown
+          (λ v. omega arith)
+          (c.loop-next.invariant.1 n u h p) p c.in-Some-digit.ensures.read (λ small. more),
     )
 
 pub returns-in-Some-peek-clause-whole : goal.returns-in-Some-peek-clause-whole
 returns-in-Some-peek-clause-whole c n u h p =
-    count_begins n h (subst (λ o. IfNone o (IsPastDigits (rest c.args.cursor.now))) c.in_default.is
-    c.digit.ensures.past)
+    some_digit 10 n (h.0, h.1, h.2.0) (rw c.in_default.is at c.digit.ensures.past)
 
 pub returns-in_default-checked_mul-clause-whole : goal.returns-in_default-checked_mul-clause-whole
 returns-in_default-checked_mul-clause-whole c n u h p =
-    let le : c.loop-next.value * 10 + c.in-Some-digit.next ≤ n =
-    count_over c.loop-next.value n c.in-Some-digit.next
-    (c.loop-next.invariant.1 n u h p) p c.in-Some-digit.ensures.read in
     let small : n < 2 ^ 32 = h.2.1 in
+    let le : c.loop-next.value * 10 + c.in-Some-digit.next ≤ n =
+    over 10 0xFFFF_FFFF c.loop-next.value n c.in-Some-digit.next (λ v. omega arith) (omega (arith, small))
+    (c.loop-next.invariant.1 n u h p) p c.in-Some-digit.ensures.read in
     absurd (c.in_default-checked_mul.ensures (omega (arith, le, small)))
 
 pub returns-in_default-checked_add-clause-whole : goal.returns-in_default-checked_add-clause-whole
 returns-in_default-checked_add-clause-whole c n u h p =
-    let le : c.loop-next.value * 10 + c.in-Some-digit.next ≤ n =
-    count_over c.loop-next.value n c.in-Some-digit.next
-    (c.loop-next.invariant.1 n u h p) p c.in-Some-digit.ensures.read in
     let small : n < 2 ^ 32 = h.2.1 in
-    let tenfold : c.in-Some-checked_mul.tenfold ≡ c.loop-next.value * 10 = c.in-Some-checked_mul.ensures.1 in
-    absurd (c.in_default-checked_add.ensures (omega (arith, le, small, tenfold)))
+    let le : c.loop-next.value * 10 + c.in-Some-digit.next ≤ n =
+    over 10 0xFFFF_FFFF c.loop-next.value n c.in-Some-digit.next (λ v. omega arith) (omega (arith, small))
+    (c.loop-next.invariant.1 n u h p) p c.in-Some-digit.ensures.read in
+    absurd (c.in_default-checked_add.ensures (omega (arith, le, small, c.in-Some-checked_mul.ensures.1)))
 
 pub returns-clause-whole : goal.returns-clause-whole
 returns-clause-whole c n u h p =
-    let past = subst (λ o. IfNone o (IsPastDigits (rest c.loop-next.cursor))) c.in_default-digit.is
-    c.digit-in-loop-next.ensures.past in
-    let same = subst (λ o. IfNone o (c.digit-in-loop-next.new.cursor ≡ c.loop-next.cursor)) c.in_default-digit.is
-    c.digit-in-loop-next.ensures.none in
-    let ended = count_ended c.loop-next.value n (c.loop-next.invariant.1 n u h p) past in
-    (ended.0, ap rest same ∙ ended.1)
+    let small : n < 2 ^ 32 = h.2.1 in
+    let past = rw c.in_default-digit.is at c.digit-in-loop-next.ensures.past in
+    let same = rw c.in_default-digit.is at c.digit-in-loop-next.ensures.none in
+    let x = ended 10 0xFFFF_FFFF c.loop-next.value n (c.loop-next.invariant.1 n u h p) past in
+    (x.0 (omega (arith, small)), ap rest same ∙ x.1)

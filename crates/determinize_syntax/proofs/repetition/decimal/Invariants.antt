@@ -1,16 +1,16 @@
 use Rattle.std.proofs.Common.{◌≡◌, Some, length, ℕ}
+use Rattle.determinize_syntax.specs.Private.Following.{IsCount, NoDigit}
 use Rattle.determinize_syntax.specs.Private.Reading.{Part, Reads, rest}
-use Rattle.determinize_syntax.specs.Private.Following.{IsCount, IsPastDigits}
 use Rattle.determinize_syntax.specs.Spells.{Bytes}
 use Rattle.determinize_syntax.specs.Words.{number}
-use Rattle.determinize_syntax.proofs.Counting.{Left}
+use Rattle.determinize_syntax.proofs.Numbers.{Left}
 use Rattle.determinize_syntax.proofs.repetition.decimal.Given as goal
 
 abbrev pub invariant-loop-next : goal.invariant-loop-next
 invariant-loop-next l =
     Reads l.fn.cursor l.cursor (λ t. number 10 t ≡ Some l.value)
-    × ((n : ℕ) (u : Bytes) → Part (rest l.fn.cursor) u (IsCount n) → IsPastDigits u
-    → Left 10 l.value n u (rest l.cursor))
+    × ((n : ℕ) (u : Bytes) → Part (rest l.fn.cursor) u (IsCount n) → NoDigit 10 u
+    → Left 10 0xFFFF_FFFF l.value n u (rest l.cursor))
 
 abbrev pub decreases-loop-next : goal.decreases-loop-next
 decreases-loop-next l = length (rest l.cursor)

@@ -1,9 +1,12 @@
-use Rattle.std.proofs.Common.{refl, sym}
+use Rattle.std.proofs.Common.{◌≡◌, ◌∙◌, arith, refl, sym, true}
+use Rattle.std.specs.Char.{is_digit}
 use Rattle.determinize_syntax.specs.Private.Reading.{IsDigit}
 use Rattle.determinize_syntax.proofs.Parts.{took}
+use Rattle.determinize_syntax.proofs.Numbers.{value_of}
 use Rattle.determinize_syntax.proofs.repetition.digit.Goals as goal
 
 pub returns-clause-read : goal.returns-clause-read
 returns-clause-read c =
-    took (IsDigit c.from.result) (c.take.ensures.read c.if-not-take.false)
-    (c.in_ok-next.next, refl, sym c.if-not-is_ascii_digit.ensures.value, c.from.ensures)
+    let is : is_digit c.in_ok-next.next 10 ≡ true = grind (arith, c.if-not-is_ascii_digit.ensures.value) in
+    took (IsDigit 10 c.from.result) (c.pass.ensures c.in_ok-next.next (sym c.peek.ensures ∙ c.in_ok-next.was))
+    (c.in_ok-next.next, refl, is, c.from.ensures ∙ sym (value_of c.in_ok-next.next is))

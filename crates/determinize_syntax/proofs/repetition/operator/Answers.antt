@@ -1,65 +1,48 @@
-use Rattle.std.proofs.Common.{◌∙◌, None, Some, ap, refl, subst, sym}
-use Rattle.determinize_syntax.specs.Private.Following.{AfterOperator, FromItem}
-use Rattle.determinize_syntax.specs.Private.Reading.{IsNotAt, rest}
-use Rattle.determinize_syntax.specs.Spells.{Operator, plus, query, star}
-use Rattle.determinize_syntax.proofs.Parts.{took}
-use Rattle.determinize_syntax.proofs.Stepping.{counts_begin, no_sign, passed_on, sign_passed, signs_absent}
+use Rattle.std.proofs.Common.{◌≡◌, ◌∙◌, Some, ap, arith, false, rules, sym, ℕ}
+use Rattle.ordered_reach.proofs.Cases.{some_injective}
+use Rattle.determinize_syntax.specs.Private.Reading.{rest}
+use Rattle.determinize_syntax.specs.Spells.{Operator}
+use Rattle.determinize_syntax.specs.Words.{◌∈◌}
+use Rattle.determinize_syntax.proofs.Parts.{prefixed, took}
+use Rattle.determinize_syntax.proofs.Stepping.{counts_begin, no_sign, sign_passed}
 use Rattle.determinize_syntax.proofs.repetition.operator.Goals as goal
 
-pub returns-then-take-clause-read : goal.returns-then-take-clause-read
-returns-then-take-clause-read c = took (Operator 0 None) (c.take.ensures.read c.if-take.true) star
+pub returns-in-Some-bounds_of-clause-read : goal.returns-in-Some-bounds_of-clause-read
+returns-in-Some-bounds_of-clause-read c =
+    let b = c.in-Some-bounds_of.bounds in
+    took (Operator b.min b.max) (c.pass.ensures c.in-Some.next (sym c.peek.ensures ∙ c.in-Some.is))
+    c.in-Some-bounds_of.ensures.some.0
 
-pub returns-then-take-2-clause-read : goal.returns-then-take-2-clause-read
-returns-then-take-2-clause-read c =
-    took (Operator 1 None) (ap rest (sym (c.take.ensures.left c.if-take.false))
-    ∙ c.take-2.ensures.read c.if-take-2.true) plus
+pub returns-clause-read : goal.returns-clause-read
+returns-clause-read c = prefixed (Operator c.in_ok-bounds.bounds.min c.in_ok-bounds.bounds.max)
+    (c.take.ensures.read c.if-not-take.false) c.in_ok-bounds.ensures.read
 
-pub returns-then-take-3-clause-read : goal.returns-then-take-3-clause-read
-returns-then-take-3-clause-read c =
-    took (Operator 0 (Some 1)) (ap rest (sym (c.take-2.ensures.left c.if-take-2.false
-    ∙ c.take.ensures.left c.if-take.false))
-    ∙ c.take-3.ensures.read c.if-take-3.true) query
+-- neither `*`, `+`, `?` nor a brace
+unsigned : (c : ℕ) → c ∈ "*+?" ≡ false → (c ≡ 0x7B → ⊥) → c ∈ "*+?{" ≡ false
+unsigned c none other = grind (arith, none, other)
 
-pub returns-then-take-clause-whole : goal.returns-then-take-clause-whole
-returns-then-take-clause-whole c k f e h =
-    sign_passed k f e (rest c.args.cursor.now) h 0x2A (rest c.take.new.self) (c.take.ensures.read c.if-take.true) refl
+pub returns-in_default-clause-whole : goal.returns-in_default-clause-whole
+returns-in_default-clause-whole c k f e h =
+    no_sign k f e (rest c.args.cursor.now) h (λ d at. absurd (c.in_default.not-Some d (c.peek.ensures ∙ at)))
 
-pub returns-then-take-2-clause-whole : goal.returns-then-take-2-clause-whole
-returns-then-take-2-clause-whole c k f e h =
-    sign_passed k f e (rest c.args.cursor.now) h 0x2B (rest c.take-2.new.self)
-    (ap rest (sym (c.take.ensures.left c.if-take.false)) ∙ c.take-2.ensures.read c.if-take-2.true) refl
+pub returns-in-Some-bounds_of-clause-whole : goal.returns-in-Some-bounds_of-clause-whole
+returns-in-Some-bounds_of-clause-whole c k f e h =
+    sign_passed k f e c.in-Some.next (rest c.pass.new.self)
+    (rw (c.pass.ensures c.in-Some.next (sym c.peek.ensures ∙ c.in-Some.is)) at h) c.in-Some-bounds_of.ensures.some.1
 
-pub returns-then-take-3-clause-whole : goal.returns-then-take-3-clause-whole
-returns-then-take-3-clause-whole c k f e h =
-    sign_passed k f e (rest c.args.cursor.now) h 0x3F (rest c.take-3.new.self)
-    (ap rest (sym (c.take-2.ensures.left c.if-take-2.false ∙ c.take.ensures.left c.if-take.false))
-    ∙ c.take-3.ensures.read c.if-take-3.true) refl
+pub returns-then-not-take-clause-whole : goal.returns-then-not-take-clause-whole
+returns-then-not-take-clause-whole c k f e h =
+    rw (c.take.ensures.left c.if-not-take.true) (no_sign k f e (rest c.args.cursor.now) h (λ d at.
+    rw (← some_injective c.in-Some.next d (sym c.in-Some.is ∙ c.peek.ensures ∙ at)) (unsigned c.in-Some.next
+    c.in_default-bounds_of.ensures.none (λ same. c.take.ensures.other c.if-not-take.true
+    (sym c.peek.ensures ∙ c.in-Some.is ∙ ap Some same)))))
 
 pub returns-in_err-bounds-clause-whole : goal.returns-in_err-bounds-clause-whole
 returns-in_err-bounds-clause-whole c k f e h =
-    let start = c.take-3.ensures.left c.if-take-3.false ∙ c.take-2.ensures.left c.if-take-2.false
-    ∙ c.take.ensures.left c.if-take.false in
-    let x = counts_begin k f e (rest c.args.cursor.now) h (rest c.take-4.new.self)
-    (ap rest (sym start) ∙ c.take-4.ensures.read c.if-take-4.true) in
-    passed_on _ c.from_residual.result c.in_err-bounds.field-0.0 c.from_residual.ensures.1
-    (c.in_err-bounds.ensures.whole x.3 (x.0, x.1, (x.2, x.4, x.5)))
-
-pub returns-then-take-4-clause-whole : goal.returns-then-take-4-clause-whole
-returns-then-take-4-clause-whole c k f e h =
-    let start = c.take-3.ensures.left c.if-take-3.false ∙ c.take-2.ensures.left c.if-take-2.false
-    ∙ c.take.ensures.left c.if-take.false in
-    let x = counts_begin k f e (rest c.args.cursor.now) h (rest c.take-4.new.self)
-    (ap rest (sym start) ∙ c.take-4.ensures.read c.if-take-4.true) in
-    subst (AfterOperator k f) (sym (c.in_ok-bounds.ensures.whole x.3 (x.0, x.1, (x.2, x.4, x.5)))) x.6
+    let x = counts_begin k f e (rest c.take.new.self) (rw (c.take.ensures.read c.if-not-take.false) at h) in
+    search (rules, c.in_err-bounds.ensures.whole x.0 x.1)
 
 pub returns-clause-whole : goal.returns-clause-whole
 returns-clause-whole c k f e h =
-    let start = c.take-4.ensures.left c.if-take-4.false ∙ c.take-3.ensures.left c.if-take-3.false
-    ∙ c.take-2.ensures.left c.if-take-2.false ∙ c.take.ensures.left c.if-take.false in
-    subst (λ y. FromItem k f (rest y)) (sym start) (no_sign k f e (rest c.args.cursor.now) h
-    (signs_absent (rest c.args.cursor.now) (c.take.ensures.other c.if-take.false)
-    (subst (IsNotAt 0x2B) (c.take.ensures.left c.if-take.false) (c.take-2.ensures.other c.if-take-2.false))
-    (subst (IsNotAt 0x3F) (c.take-2.ensures.left c.if-take-2.false ∙ c.take.ensures.left c.if-take.false)
-    (c.take-3.ensures.other c.if-take-3.false))
-    (subst (IsNotAt 0x7B) (c.take-3.ensures.left c.if-take-3.false ∙ c.take-2.ensures.left c.if-take-2.false
-    ∙ c.take.ensures.left c.if-take.false) (c.take-4.ensures.other c.if-take-4.false))))
+    let x = counts_begin k f e (rest c.take.new.self) (rw (c.take.ensures.read c.if-not-take.false) at h) in
+    rw (c.in_ok-bounds.ensures.whole x.0 x.1) x.2

@@ -5,7 +5,7 @@ use Rattle.determinize_pattern.specs.Classes.{HasBytes, pairs}
 use Rattle.determinize_syntax.specs.Private.Sets.{AddsChars, set_of, turned}
 use Rattle.determinize_syntax.specs.Words.{folded}
 use Rattle.determinize_syntax.proofs.Characters.{all_added, class_added, folded_ascii}
-use Rattle.determinize_syntax.proofs.Listing.{on_ok}
+use Rattle.determinize_syntax.proofs.Parts.{on_ok}
 use Rattle.determinize_syntax.proofs.bracket.Items.add_class.Goals as goal
 
 pub returns-then-not-negated-clause-ranges : goal.returns-then-not-negated-clause-ranges

@@ -1,14 +1,13 @@
-use Rattle.std.proofs.Common.{◌≡◌, ◌<◌, ◌≤◌, ◌∷◌, ◌++◌, ◌∙◌, [], IfNone, List, ap, arith, length, slice_get, subst}
+use Rattle.std.proofs.Common.{◌≡◌, ◌<◌, ◌≤◌, ◌∷◌, ◌++◌, ◌∙◌, [], Some, ap, arith, length, slice_get}
 use Rattle.std.proofs.Common.{sym, ℕ}
 use Rattle.std.specs.Char.{encode_utf8, len_utf8}
-use Rattle.std.specs.Str.{IsUtf8}
 use Rattle.std.specs.Str.Iter.{chars_rest}
 use Rattle.std.proofs.lemmas.List.{append-nil}
 use Rattle.std.proofs.lemmas.Str.{IsUtf8-encode, encode_same, length-encode}
 use Rattle.ordered_reach.proofs.Cases.{some_injective}
 use Rattle.determinize_syntax.specs.Private.Reading.{rest}
-use Rattle.determinize_syntax.specs.Spells.{IsWide}
-use Rattle.determinize_syntax.proofs.Parts.{at_end, at_least_one}
+use Rattle.determinize_syntax.specs.Spells.{Bytes, IsWide}
+use Rattle.determinize_syntax.proofs.Bytes.{at_end}
 use Rattle.determinize_syntax.proofs.Stepping.{encode_starts}
 use Rattle.determinize_syntax.proofs.Munch.{filled}
 use Rattle.determinize_syntax.proofs.Widths.{front_is, long_enough}
@@ -16,10 +15,19 @@ use Rattle.determinize_syntax.proofs.cursor.Cursor.take_wide.Goals.{then-charact
 use Rattle.determinize_syntax.proofs.cursor.Cursor.take_wide.Goals.{then-character-lt128-via-else-character-lt128+then-not-is_empty}
 use Rattle.determinize_syntax.proofs.cursor.Cursor.take_wide.Goals as goal
 
+-- the character begins with the byte that is next
+begins : (d : ℕ) (t a : Bytes) (b : ℕ) → IsWide d → a ≡ encode_utf8 d ++ t → slice_get a 0 ≡ Some b
+    → (w : Bytes) × (encode_utf8 d ≡ b ∷ w)
+begins d t a b is e at =
+    let s = encode_starts d is.0 in
+    let same : s.0 ≡ b = some_injective s.0 b (ap (λ l. slice_get (l ++ t) 0) (sym s.2) ∙ ap (λ l. slice_get l 0)
+    (sym e)
+    ∙ at) in
+    (s.1, s.2 ∙ ap (λ x. x ∷ s.1) same)
+
 pub returns-in_err-peek-clause-other : goal.returns-in_err-peek-clause-other
 returns-in_err-peek-clause-other c =
-    subst (λ o. IfNone o ((d : ℕ) → (t : List ℕ) → IsWide d → rest c.args.self.now ≡ encode_utf8 d ++ t → ⊥))
-    (sym c.from_residual.ensures) (λ d t is e.
+    rw c.from_residual.ensures (λ d t is e.
     let s = encode_starts d is.0 in
     let never : s.0 ∷ (s.1 ++ t) ≡ [] =
     ap (λ l. l ++ t) (sym s.2) ∙ sym e ∙ at_end (rest c.args.self.now) (sym c.peek.ensures ∙ c.in_err-peek.was) in
@@ -27,55 +35,38 @@ returns-in_err-peek-clause-other c =
 
 pub returns-then-self-width-clause-other : goal.returns-then-self-width-clause-other
 returns-then-self-width-clause-other c d t is e =
-    let s = encode_starts d is.0 in
-    let first : c.in_ok-peek.field-0 ≡ s.0 =
-    some_injective c.in_ok-peek.field-0 s.0 (sym c.in_ok-peek.was ∙ c.peek.ensures ∙ ap (λ l. slice_get l 0) e
-    ∙ ap (λ l. slice_get (l ++ t) 0) s.2) in
-    let width : c.width-width.result ≡ len_utf8 d =
-    c.width-width.ensures d s.1 is.0 (s.2 ∙ ap (λ b. b ∷ s.1) (sym first)) in
+    let s = begins d t _ c.in_ok-peek.field-0 is e (sym c.peek.ensures ∙ c.in_ok-peek.was) in
+    let width = c.width-width.ensures d s.0 is.0 s.1 in
     let less : length (rest c.args.self.now) < c.width-width.result = c.if-self-width.true in
     let long : len_utf8 d ≤ length (rest c.args.self.now) = long_enough d (rest c.args.self.now) t e in
     absurd (omega (arith, less, long, width))
 
 pub returns-in_default-clause-other : goal.returns-in_default-clause-other
 returns-in_default-clause-other c d t is e =
-    let s = encode_starts d is.0 in
-    let first : c.in_ok-peek.field-0 ≡ s.0 =
-    some_injective c.in_ok-peek.field-0 s.0 (sym c.in_ok-peek.was ∙ c.peek.ensures ∙ ap (λ l. slice_get l 0) e
-    ∙ ap (λ l. slice_get (l ++ t) 0) s.2) in
-    let width : c.width-width.result ≡ len_utf8 d =
-    c.width-width.ensures d s.1 is.0 (s.2 ∙ ap (λ b. b ∷ s.1) (sym first)) in
+    let s = begins d t _ c.in_ok-peek.field-0 is e (sym c.peek.ensures ∙ c.in_ok-peek.was) in
+    let width = c.width-width.ensures d s.0 is.0 s.1 in
     let front : c.split_at.result.0.now ≡ encode_utf8 d =
     c.split_at.ensures.front ∙ front_is d c.width-width.result (rest c.args.self.now) t e width in
-    absurd (c.in_default.ensures.cases.0 (subst (λ l. IsUtf8 l) (sym front) (IsUtf8-encode d is.1)))
+    absurd (c.in_default.ensures.cases.0 (rw front (IsUtf8-encode d is.1)))
 
 pub returns-in_err-character-clause-other : goal.returns-in_err-character-clause-other
 returns-in_err-character-clause-other c =
-    subst (λ o. IfNone o ((d : ℕ) → (t : List ℕ) → IsWide d → rest c.args.self.now ≡ encode_utf8 d ++ t → ⊥))
-    (sym c.from_residual-in_err-character.ensures) (λ d t is e.
-    let s = encode_starts d is.0 in
-    let first : c.in_ok-peek.field-0 ≡ s.0 =
-    some_injective c.in_ok-peek.field-0 s.0 (sym c.in_ok-peek.was ∙ c.peek.ensures ∙ ap (λ l. slice_get l 0) e
-    ∙ ap (λ l. slice_get (l ++ t) 0) s.2) in
-    let width : c.width-width.result ≡ len_utf8 d =
-    c.width-width.ensures d s.1 is.0 (s.2 ∙ ap (λ b. b ∷ s.1) (sym first)) in
+    rw c.from_residual-in_err-character.ensures (λ d t is e.
+    let s = begins d t _ c.in_ok-peek.field-0 is e (sym c.peek.ensures ∙ c.in_ok-peek.was) in
+    let width = c.width-width.ensures d s.0 is.0 s.1 in
     let front : c.split_at.result.0.now ≡ encode_utf8 d =
     c.split_at.ensures.front ∙ front_is d c.width-width.result (rest c.args.self.now) t e width in
     let text : chars_rest c.chars-chars.result ≡ encode_utf8 d = c.chars-chars.ensures.rest ∙ c.in-Ok.ensures.cases.0
     ∙ front in
     let none : length (encode_utf8 d) ≡ 0 = ap length (sym text) ∙ c.in_err-character.ensures.steps.0.0 in
-    let one : 1 ≤ len_utf8 d = at_least_one d in
+    let one : 1 ≤ len_utf8 d = grind (arith) in
     let len : length (encode_utf8 d) ≡ len_utf8 d = length-encode d in
     absurd (omega (arith, none, one, len)))
 
 pub returns-then-character-lt128-clause-other : goal.returns-then-character-lt128-clause-other
 returns-then-character-lt128-clause-other c d t is e =
-    let s = encode_starts d is.0 in
-    let first : c.in_ok-peek.field-0 ≡ s.0 =
-    some_injective c.in_ok-peek.field-0 s.0 (sym c.in_ok-peek.was ∙ c.peek.ensures ∙ ap (λ l. slice_get l 0) e
-    ∙ ap (λ l. slice_get (l ++ t) 0) s.2) in
-    let width : c.width-width.result ≡ len_utf8 d =
-    c.width-width.ensures d s.1 is.0 (s.2 ∙ ap (λ b. b ∷ s.1) (sym first)) in
+    let s = begins d t _ c.in_ok-peek.field-0 is e (sym c.peek.ensures ∙ c.in_ok-peek.was) in
+    let width = c.width-width.ensures d s.0 is.0 s.1 in
     let front : c.split_at.result.0.now ≡ encode_utf8 d =
     c.split_at.ensures.front ∙ front_is d c.width-width.result (rest c.args.self.now) t e width in
     let text : chars_rest c.chars-chars.result ≡ encode_utf8 d = c.chars-chars.ensures.rest ∙ c.in-Ok.ensures.cases.0

@@ -1,4 +1,4 @@
-use Rattle.std.proofs.Common.{◌≡◌, ◌≤◌, ◌∷◌, ◌∙◌, [], List, Some, ap, arith, ltb-false, ltb-true, nat_lt, refl}
+use Rattle.std.proofs.Common.{◌≡◌, ◌≤◌, ◌∷◌, ◌∙◌, [], List, Some, ap, arith, ltb-false, ltb-true, nat_lt, refl, true}
 use Rattle.std.proofs.Common.{slice_get, subst, sym, ℕ}
 use Rattle.std.specs.Prelude.{codes}
 use Rattle.std.proofs.lemmas.Option.{get_or_from_slice_get}
@@ -39,32 +39,25 @@ pub returns-clause-none : goal.returns-clause-none
 returns-clause-none c =
     by_option (named_class c.args.name.now) (λ e. e)
     (λ s e. let x = named_kind c.args.name.now s e in absurd (never x.0 x.1)) where
+      at : (k : ClassKind) (i : ℕ) → nat_lt i 14 ≡ true → slice_get kinds i ≡ Some k
+          → c.args.name.now ≡ codes (name_of k) → ⊥
+      at k i less here same = c.loop-kind.invariant i k
+          (let over : 14 ≤ c.loop-kind.kind-index = c.loop-kind-test.false in omega (arith, over, ltb-true i 14 less))
+          here
+          same
+
       never : (k : ClassKind) → c.args.name.now ≡ codes (name_of k) → ⊥
-      never Alnum same = c.loop-kind.invariant 0 Alnum
-          (let over : 14 ≤ c.loop-kind.kind-index = c.loop-kind-test.false in omega (arith, over)) refl same
-      never Alpha same = c.loop-kind.invariant 1 Alpha
-          (let over : 14 ≤ c.loop-kind.kind-index = c.loop-kind-test.false in omega (arith, over)) refl same
-      never Ascii same = c.loop-kind.invariant 2 Ascii
-          (let over : 14 ≤ c.loop-kind.kind-index = c.loop-kind-test.false in omega (arith, over)) refl same
-      never Blank same = c.loop-kind.invariant 3 Blank
-          (let over : 14 ≤ c.loop-kind.kind-index = c.loop-kind-test.false in omega (arith, over)) refl same
-      never Cntrl same = c.loop-kind.invariant 4 Cntrl
-          (let over : 14 ≤ c.loop-kind.kind-index = c.loop-kind-test.false in omega (arith, over)) refl same
-      never Digit same = c.loop-kind.invariant 5 Digit
-          (let over : 14 ≤ c.loop-kind.kind-index = c.loop-kind-test.false in omega (arith, over)) refl same
-      never Graph same = c.loop-kind.invariant 6 Graph
-          (let over : 14 ≤ c.loop-kind.kind-index = c.loop-kind-test.false in omega (arith, over)) refl same
-      never Lower same = c.loop-kind.invariant 7 Lower
-          (let over : 14 ≤ c.loop-kind.kind-index = c.loop-kind-test.false in omega (arith, over)) refl same
-      never Print same = c.loop-kind.invariant 8 Print
-          (let over : 14 ≤ c.loop-kind.kind-index = c.loop-kind-test.false in omega (arith, over)) refl same
-      never Punct same = c.loop-kind.invariant 9 Punct
-          (let over : 14 ≤ c.loop-kind.kind-index = c.loop-kind-test.false in omega (arith, over)) refl same
-      never Space same = c.loop-kind.invariant 10 Space
-          (let over : 14 ≤ c.loop-kind.kind-index = c.loop-kind-test.false in omega (arith, over)) refl same
-      never Upper same = c.loop-kind.invariant 11 Upper
-          (let over : 14 ≤ c.loop-kind.kind-index = c.loop-kind-test.false in omega (arith, over)) refl same
-      never Word same = c.loop-kind.invariant 12 Word
-          (let over : 14 ≤ c.loop-kind.kind-index = c.loop-kind-test.false in omega (arith, over)) refl same
-      never Xdigit same = c.loop-kind.invariant 13 Xdigit
-          (let over : 14 ≤ c.loop-kind.kind-index = c.loop-kind-test.false in omega (arith, over)) refl same
+      never Alnum = at Alnum 0 refl refl
+      never Alpha = at Alpha 1 refl refl
+      never Ascii = at Ascii 2 refl refl
+      never Blank = at Blank 3 refl refl
+      never Cntrl = at Cntrl 4 refl refl
+      never Digit = at Digit 5 refl refl
+      never Graph = at Graph 6 refl refl
+      never Lower = at Lower 7 refl refl
+      never Print = at Print 8 refl refl
+      never Punct = at Punct 9 refl refl
+      never Space = at Space 10 refl refl
+      never Upper = at Upper 11 refl refl
+      never Word = at Word 12 refl refl
+      never Xdigit = at Xdigit 13 refl refl
