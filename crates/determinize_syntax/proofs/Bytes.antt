@@ -2,11 +2,9 @@
 -- Main statements: within, apart, chosen, front_of, at_end.
 -- Used by: the proofs of the parser.
 -- Idea: what all listed bytes have is computed for each of them.
-use Rattle.std.proofs.Common.{◌≡◌, ◌∷◌, ◌||◌, [], ap, Bool, List, None, Option, Some, false, if◌then◌else◌, not, refl, slice_get, true, ℕ}
-use Rattle.std.specs.Prelude.{◌==◌}
-use Rattle.std.specs.List.{list_all, list_any}
-use Rattle.std.proofs.lemmas.Bool.{and_parts, eqb-true, not-true}
-use Rattle.ordered_reach.proofs.Cases.{by_test, some_injective}
+use Rattle.determinize_syntax.proofs.Common.{◌==◌, ◌||◌, ◌∷◌, ◌≡◌, Bool, List, None, Option, Some, [], and_parts, ap}
+use Rattle.determinize_syntax.proofs.Common.{by_test, eqb-true, false, if◌then◌else◌, list_all, list_any, not, not-true}
+use Rattle.determinize_syntax.proofs.Common.{refl, slice_get, some_injective, true, ℕ}
 
 -- a test has one result
 pub clash : {A : Type 0} {b : Bool} → b ≡ true → b ≡ false → A
@@ -23,8 +21,7 @@ within p (d ∷ l) c e all =
 pub apart : (p : ℕ → Bool) (l : List ℕ) (c : ℕ) → p c ≡ true → list_all (λ x. not (p x)) l ≡ true
     → list_any (λ d. d == c) l ≡ false
 apart p l c is none =
-    by_test (list_any (λ d. d == c) l)
-    (λ t. clash is (not-true (p c) (within (λ x. not (p x)) l c t none))) (λ t. t)
+    by_test (list_any (λ d. d == c) l) (λ t. clash is (not-true (p c) (within (λ x. not (p x)) l c t none))) (λ t. t)
 
 -- what follows of each branch follows of the choice
 pub chosen : {A P : Type 0} {v : A} (b : Bool) (x y : Option A) → (b ≡ true → x ≡ Some v → P) → (y ≡ Some v → P)

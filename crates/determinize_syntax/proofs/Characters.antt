@@ -2,26 +2,19 @@
 -- Main statements: one_of_listed, folded_ascii, class_added, all_added.
 -- Used by: the proofs of `class`, of brackets and of atoms.
 -- Idea: sets with the same numbers below that of the last character have the same patterns.
-use Rattle.std.proofs.Common.{◌≡◌, ◌<◌, ◌≤◌, ◌∷◌, ◌++◌, ◌∙◌, ◌&&◌, ◌||◌, [], arith, Bool, List, Some, ap, cond, false}
-use Rattle.std.proofs.Common.{ltb-false, ltb-true, nat_lt, not, refl, sym, true, ℕ}
-use Rattle.std.specs.Char.{IsScalar, to_ascii_lowercase, to_ascii_uppercase}
-use Rattle.std.proofs.lemmas.Bool.Decides.{nat_tests}
+use Rattle.determinize_syntax.proofs.Common.{◌&&◌, ◌++◌, ◌<◌, ◌||◌, ◌∙◌, ◌∷◌, ◌≡◌, ◌≤◌, AddsChars, Bool}
+use Rattle.determinize_syntax.proofs.Common.{ClassBytesRange, ClassKind, Flags, HasBytes, IsOneOf, IsScalar, List, Re}
+use Rattle.determinize_syntax.proofs.Common.{Set, Some, [], ap, arith, by_test, char_pairs, cond, false, folded, has}
+use Rattle.determinize_syntax.proofs.Common.{has_char, is_in, ltb-false, ltb-true, nat_lt, nat_tests, not, only, refl}
+use Rattle.determinize_syntax.proofs.Common.{set_of, sym, to_ascii_lowercase, to_ascii_uppercase, true, turned, within}
+use Rattle.determinize_syntax.proofs.Common.{ℕ}
 use Rattle.std.proofs.lemmas.List.Folds.{list_any-append}
-use Rattle.ordered_reach.proofs.Cases.{by_test}
-use Rattle.determinize_below.specs.Semantics.{within}
-use Rattle.determinize_pattern.specs.Characters.{IsCharClass, IsCharFrom, char_pairs}
-use Rattle.determinize_pattern.specs.Classes.{HasBytes}
-use Rattle.determinize_pattern.specs.Meaning.{Re, is_in}
+use Rattle.determinize_pattern.specs.Characters.{IsCharClass, IsCharFrom}
 use Rattle.determinize_pattern.specs.declared.chars.ClassUnicodeRange.{ClassUnicodeRange}
-use Rattle.determinize_pattern.specs.declared.class.ClassBytesRange.{ClassBytesRange}
-use Rattle.determinize_syntax.specs.Private.Sets.{AddsChars, HasChars, has, has_char, set_of, turned}
-use Rattle.determinize_syntax.specs.Spells.{IsOneOf}
-use Rattle.determinize_syntax.specs.Words.{Set, folded, only}
-use Rattle.determinize_syntax.specs.declared.flags.Flags.{Flags}
-use Rattle.determinize_syntax.specs.declared.kind.ClassKind.{ClassKind}
+use Rattle.determinize_syntax.specs.Private.Sets.{HasChars}
 use Rattle.determinize_syntax.specs.declared.kind.ClassKind.TheVariants.{Alnum, Alpha, Ascii, Blank, Cntrl, Digit}
-use Rattle.determinize_syntax.specs.declared.kind.ClassKind.TheVariants.{Graph, Lower, Print, Punct, Space, Upper}
-use Rattle.determinize_syntax.specs.declared.kind.ClassKind.TheVariants.{Word, Xdigit}
+use Rattle.determinize_syntax.specs.declared.kind.ClassKind.TheVariants.{Graph, Lower, Print, Punct, Space, Upper, Word}
+use Rattle.determinize_syntax.specs.declared.kind.ClassKind.TheVariants.{Xdigit}
 use Rattle.determinize_syntax.proofs.Classes.{class_of, folded_same}
 
 scalar_small : (c : ℕ) → IsScalar c → c < 0x11_0000
@@ -111,8 +104,7 @@ class_added true s class old mid new has high added e c small =
       wide_or false = refl
 
       low : nat_lt c 128 ≡ true → ((is_in old (Some c) || (nat_lt c 128 && is_in class (Some c)))
-          || (within 128 0x10_FFFF c || false))
-          ≡ (is_in old (Some c) || not (s c))
+          || (within 128 0x10_FFFF c || false)) ≡ (is_in old (Some c) || not (s c))
       low l =
           let below : c < 128 = ltb-true c 128 l in
           let out : within 128 0x10_FFFF c ≡ false = grind (arith, below) in
@@ -120,8 +112,7 @@ class_added true s class old mid new has high added e c small =
           rw (l, out, in_class) (low_or (is_in old (Some c)) (not (s c)))
 
       wide : nat_lt c 128 ≡ false → ((is_in old (Some c) || (nat_lt c 128 && is_in class (Some c)))
-          || (within 128 0x10_FFFF c || false))
-          ≡ (is_in old (Some c) || not (s c))
+          || (within 128 0x10_FFFF c || false)) ≡ (is_in old (Some c) || not (s c))
       wide l =
           let above : 128 ≤ c = ltb-false c 128 l in
           let out : within 128 0x10_FFFF c ≡ true = grind (arith, above, small) in

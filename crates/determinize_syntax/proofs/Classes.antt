@@ -2,20 +2,13 @@
 -- Main statements: class_of, in_some, has_more, kind_class.
 -- Used by: the proofs of classes and of brackets.
 -- Idea: one more range adds its bytes.
-use Rattle.std.proofs.Common.{◌≡◌, ◌<◌, ◌≤◌, ◌∷◌, ◌++◌, ◌∙◌, ◌&&◌, ◌||◌, ◌⊎◌, inl, inr, nat_eq, [], arith, Bool, List}
-use Rattle.std.proofs.Common.{Some, ap, false, nat_lt, refl, ◌+◌, true, ℕ}
-use Rattle.std.specs.Prelude.{◌==◌}
-use Rattle.std.specs.Prelude.{cond, not}
-use Rattle.std.specs.Char.{to_ascii_lowercase, to_ascii_uppercase}
-use Rattle.std.specs.List.{list_any}
-use Rattle.determinize_below.specs.Semantics.{within}
-use Rattle.determinize_pattern.specs.Classes.{HasBytes, pairs}
-use Rattle.determinize_pattern.specs.Meaning.{Re, is_in}
+use Rattle.determinize_syntax.proofs.Common.{◌&&◌, ◌++◌, ◌+◌, ◌<◌, ◌==◌, ◌||◌, ◌∙◌, ◌∷◌, ◌≡◌, ◌≤◌, ◌⊎◌, Bool}
+use Rattle.determinize_syntax.proofs.Common.{ClassBytesRange, Flags, HasBelow, HasBytes, List, Re, Set, Some, [], ap}
+use Rattle.determinize_syntax.proofs.Common.{arith, cond, false, folded, has, inl, inr, is_in, list_any, nat_lt, not}
+use Rattle.determinize_syntax.proofs.Common.{refl, to_ascii_lowercase, to_ascii_uppercase, true, turned, within, ℕ}
+use Rattle.std.proofs.Common.{nat_eq}
+use Rattle.determinize_pattern.specs.Classes.{pairs}
 use Rattle.determinize_pattern.specs.Patterns.{IsClass}
-use Rattle.determinize_pattern.specs.declared.class.ClassBytesRange.{ClassBytesRange}
-use Rattle.determinize_syntax.specs.Private.Sets.{HasBelow, has, turned}
-use Rattle.determinize_syntax.specs.Words.{Set, folded}
-use Rattle.determinize_syntax.specs.declared.flags.Flags.{Flags}
 
 -- a class of one set is one of a set with the same bytes
 pub class_of : (s t : Set) (re : Re) → IsClass s re → ((b : ℕ) → b < 256 → s b ≡ t b) → IsClass t re

@@ -2,16 +2,12 @@
 -- Main statements: first_count, exactly_passed, at_least_passed, counted, counted_twice.
 -- Used by: the proofs that `counts` rejects no operator.
 -- Idea: what follows after the first count says which operator it is.
-use Rattle.std.proofs.Common.{◌≡◌, ◌≤◌, ◌∷◌, ◌++◌, ◌∙◌, arith, Option, Some, false, refl, slice_get, ℕ}
-use Rattle.std.specs.Prelude.{codes}
-use Rattle.std.specs.Char.{is_digit}
-use Rattle.std.proofs.lemmas.List.{append_assoc}
-use Rattle.ordered_reach.proofs.Cases.{some_injective}
-use Rattle.determinize_syntax.specs.Private.Following.{CountsTo, IsCount, NoDigit}
-use Rattle.determinize_syntax.specs.Private.Reading.{Part}
-use Rattle.determinize_syntax.specs.Spells as s
-use Rattle.determinize_syntax.specs.Spells.{Bytes, Operator}
+use Rattle.determinize_syntax.proofs.Common.{◌++◌, ◌∙◌, ◌∷◌, ◌≡◌, ◌≤◌, Bytes, NoDigit, Operator, Option, Part, Some}
+use Rattle.determinize_syntax.proofs.Common.{append_assoc, arith, codes, false, is_digit, refl, slice_get}
+use Rattle.determinize_syntax.proofs.Common.{some_injective, ℕ}
+use Rattle.determinize_syntax.specs.Private.Following.{CountsTo, IsCount}
 use Rattle.determinize_syntax.proofs.Numbers.{some_digit}
+use Rattle.determinize_syntax.specs.Spells as s
 
 pub past_sign : (c : ℕ) (u : Bytes) → is_digit c 10 ≡ false → NoDigit 10 (c ∷ u)
 past_sign c u other d e = rw (some_injective c d e) at other

@@ -3,33 +3,27 @@
 --   past_boundary.
 -- Used by: the proofs that the parser rejects no escape.
 -- Idea: the byte after the backslash decides which escape it is, since no two kinds have one in common.
-use Rattle.std.proofs.Common.{◌≡◌, ◌∷◌, ◌++◌, ◌∙◌, ◌⊎◌, [], ap, arith, inl, inr, Bool, List, None, Option, Some, false, if◌then◌else◌, refl, sym, true, ℕ}
-use Rattle.std.specs.Prelude.{codes, is_some}
-use Rattle.std.specs.Char.{encode_utf8}
-use Rattle.std.specs.List.{list_all}
+use Rattle.determinize_syntax.proofs.Common.{◌++◌, ◌∈◌, ◌∙◌, ◌∷◌, ◌≡◌, ◌⊎◌, AtEscape, Bool, Bound, Bytes, ClassKind}
+use Rattle.determinize_syntax.proofs.Common.{Escape, Escaped, Flags, FromOperator, IsEscape, IsWideAt, List, Look, None}
+use Rattle.determinize_syntax.proofs.Common.{Option, Part, Set, Some, String, Wide, [], ap, append_assoc, arith}
+use Rattle.determinize_syntax.proofs.Common.{assertion, by_cases, by_test, codes, encode_utf8, false, if◌then◌else◌}
+use Rattle.determinize_syntax.proofs.Common.{inl, inr, is_some, list_all, refl, set_of, some_injective, sym, true}
+use Rattle.determinize_syntax.proofs.Common.{turned, ℕ}
 use Rattle.std.specs.Option.{option_map}
-use Rattle.std.proofs.lemmas.List.{append_assoc}
-use Rattle.ordered_reach.proofs.Cases.{by_cases, by_test, some_injective}
-use Prim.Native.String.{String}
-use Rattle.determinize_below.specs.declared.look.Look.{Look}
-use Rattle.determinize_syntax.specs.Private.Following.{FromOperator, IsPastBoundary}
-use Rattle.determinize_syntax.specs.Private.Letters as to
-use Rattle.determinize_syntax.specs.Private.Letters.{AtBound, AtEscape, AtNumber, IsWideAt}
-use Rattle.determinize_syntax.specs.Private.Reading.{IsEscape, Part, one_byte}
-use Rattle.determinize_syntax.specs.Private.Sets.{perl_of, set_of, turned}
-use Rattle.determinize_syntax.specs.Spells as s
-use Rattle.determinize_syntax.specs.Spells.{Bound, Bytes, Escaped, Wide}
-use Rattle.determinize_syntax.specs.Words.{Set, ◌∈◌, assertion, escaped_byte, perl_class}
-use Rattle.determinize_syntax.specs.declared.escape.Escape.{Escape}
-use Rattle.determinize_syntax.specs.declared.escape.Escape.TheVariants as escape
-use Rattle.determinize_syntax.specs.declared.flags.Flags.{Flags}
-use Rattle.determinize_syntax.specs.declared.kind.ClassKind.{ClassKind}
+use Rattle.determinize_syntax.specs.Private.Following.{IsPastBoundary}
+use Rattle.determinize_syntax.specs.Private.Letters.{AtBound, AtNumber}
+use Rattle.determinize_syntax.specs.Private.Reading.{one_byte}
+use Rattle.determinize_syntax.specs.Private.Sets.{perl_of}
+use Rattle.determinize_syntax.specs.Words.{escaped_byte, perl_class}
 use Rattle.determinize_syntax.specs.declared.kind.ClassKind.TheVariants.{Digit, Space, Word}
 use Rattle.determinize_syntax.proofs.Bytes.{apart, chosen, within}
 use Rattle.determinize_syntax.proofs.Counting.{first_count}
 use Rattle.determinize_syntax.proofs.Munch.{looks}
 use Rattle.determinize_syntax.proofs.Numbers.{number_begins}
 use Rattle.determinize_syntax.proofs.Stepping.{counts_begin, encode_starts}
+use Rattle.determinize_syntax.specs.Private.Letters as to
+use Rattle.determinize_syntax.specs.Spells as s
+use Rattle.determinize_syntax.specs.declared.escape.Escape.TheVariants as escape
 
 -- each class by a letter is that of its kind
 module _ (f : ClassKind × Bool → Set) where

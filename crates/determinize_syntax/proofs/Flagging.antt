@@ -2,22 +2,17 @@
 -- Main statements: letters_end, one_letter, one_cleared, next_setting, no_setting, opening_next, set_or_group.
 -- Used by: the proofs that the parser rejects no flags and no opening of a group.
 -- Idea: the letters of flags are none of the signs that may be in their place.
-use Rattle.std.proofs.Common.{◌≡◌, ◌∷◌, ◌++◌, ◌∙◌, ◌⊎◌, [], ap, inl, inr, Bool, List, Some, false, refl, slice_get, sym, true, ℕ}
-use Rattle.std.specs.Prelude.{◌==◌, codes}
-use Rattle.std.specs.List.{list_all, list_any}
-use Rattle.std.proofs.lemmas.Bool.{eqb-true}
-use Rattle.ordered_reach.proofs.Cases.{by_cases, by_test, some_injective}
-use Prim.Native.String.{String}
-use Rattle.determinize_syntax.specs.Private.Following as to
-use Rattle.determinize_syntax.specs.Private.Following.{Enters, FromAtom, FromItem, IsAfterLetters, IsBranchEnd}
-use Rattle.determinize_syntax.specs.Private.Letters as letters
-use Rattle.determinize_syntax.specs.Private.Letters.{Letters}
-use Rattle.determinize_syntax.specs.Spells.{Bytes, Sets}
-use Rattle.determinize_syntax.specs.Words.{◌∈◌, is_name, set_flag}
-use Rattle.determinize_syntax.specs.declared.flags.Flags.{Flags}
+use Rattle.determinize_syntax.proofs.Common.{◌++◌, ◌==◌, ◌∈◌, ◌∙◌, ◌∷◌, ◌≡◌, ◌⊎◌, Bool, Bytes, Flags, FromAtom}
+use Rattle.determinize_syntax.proofs.Common.{FromItem, Letters, List, Sets, Some, String, [], ap, by_cases, by_test}
+use Rattle.determinize_syntax.proofs.Common.{codes, eqb-true, false, inl, inr, is_name, list_all, list_any, refl}
+use Rattle.determinize_syntax.proofs.Common.{slice_get, some_injective, sym, true, ℕ}
+use Rattle.determinize_syntax.specs.Private.Following.{Enters, IsAfterLetters, IsBranchEnd}
+use Rattle.determinize_syntax.specs.Words.{set_flag}
 use Rattle.determinize_syntax.proofs.Bytes.{apart, chosen, clash, front_of, within}
 use Rattle.determinize_syntax.proofs.Inner.{letters_follow}
 use Rattle.determinize_syntax.proofs.Stepping.{no_operator, opened}
+use Rattle.determinize_syntax.specs.Private.Following as to
+use Rattle.determinize_syntax.specs.Private.Letters as letters
 
 -- the letter of a flag is one of six
 pub is_letter : (f : Flags) (c : ℕ) (on : Bool) (h : Flags) → set_flag f c on ≡ Some h → c ∈ "imsURu" ≡ true
@@ -111,8 +106,7 @@ OneLetter g u seen on f t = (c : ℕ) × (h : Flags) × (w : Bytes) × (t ≡ c 
     × (set_flag f c on ≡ Some h) × Letters g u (seen ++ c ∷ []) on h w
 
 pub one_letter : (g : Flags) (u seen : Bytes) (on : Bool) (f : Flags) (t : Bytes) → Letters g u seen on f t
-    → (t ≡ u → ⊥)
-    → (slice_get t 0 ≡ Some 0x2D → ⊥) → OneLetter g u seen on f t
+    → (t ≡ u → ⊥) → (slice_get t 0 ≡ Some 0x2D → ⊥) → OneLetter g u seen on f t
 one_letter g u seen on f t (letters.no_letter _ _) more other = absurd (more refl)
 one_letter g u seen on f t (letters.flag _ _ _ h c w new is rest) more other = (c, h, w, refl, new, is, rest)
 one_letter g u seen on f t (letters.cleared _ _ h c w new is rest) more other = absurd (other refl)

@@ -2,21 +2,17 @@
 -- Main statements: choice_follows, text_follows.
 -- Used by: the proofs that the parser rejects no pattern.
 -- Idea: a rule that appends at the right is, before a text that follows, a step to the right.
-use Rattle.std.proofs.Common.{◌≡◌, ◌∷◌, ◌++◌, ap, inl, inr, arith, refl, sym, subst, [], Bool, List, Option, Some, false, not, slice_get, true, ℕ}
-use Rattle.std.specs.Prelude.{codes}
-use Rattle.std.proofs.lemmas.List.{append_assoc, append-nil}
-use Rattle.ordered_reach.proofs.Cases.{by_cases, some_injective}
-use Rattle.determinize_pattern.specs.Meaning.{Re}
-use Rattle.determinize_syntax.specs.Spells as s
-use Rattle.determinize_syntax.specs.Spells.{Atom, Branches, Bytes, Choice, Items, Operator, Repeated, SpellsUnder}
-use Rattle.determinize_syntax.specs.Words.{◌∈◌}
-use Rattle.determinize_syntax.specs.Private.Following as to
-use Rattle.determinize_syntax.specs.Private.Following.{AfterOperator, FromAtom, FromItem, FromOperator}
-use Rattle.determinize_syntax.specs.Private.Letters.{Inner}
-use Rattle.determinize_syntax.specs.declared.escape.Escape.TheVariants as escape
-use Rattle.determinize_syntax.specs.declared.flags.Flags.{Flags}
+use Rattle.determinize_syntax.proofs.Common.{◌++◌, ◌∈◌, ◌∷◌, ◌≡◌, Atom, Bool, Branches, Bytes, Flags, FromAtom}
+use Rattle.determinize_syntax.proofs.Common.{FromItem, FromOperator, Inner, List, Operator, Option, Re, Repeated, Some}
+use Rattle.determinize_syntax.proofs.Common.{SpellsUnder, [], ap, append-nil, append_assoc, arith, by_cases, codes}
+use Rattle.determinize_syntax.proofs.Common.{false, inl, inr, not, refl, slice_get, some_injective, subst, sym, true, ℕ}
+use Rattle.determinize_syntax.specs.Spells.{Choice, Items}
+use Rattle.determinize_syntax.specs.Private.Following.{AfterOperator}
 use Rattle.determinize_syntax.proofs.Escapes.{asserted_at, class_at, escaped_at, wide_at}
 use Rattle.determinize_syntax.proofs.Inner.{inside_follows}
+use Rattle.determinize_syntax.specs.Spells as s
+use Rattle.determinize_syntax.specs.Private.Following as to
+use Rattle.determinize_syntax.specs.declared.escape.Escape.TheVariants as escape
 
 operator_follows : (k : List Flags) (f : Flags) (e : Bool) (min : ℕ) (max : Option ℕ) (v w : Bytes) → Operator min max v
     → (e ≡ true → v ≡ codes "?" → ⊥) → AfterOperator k f w → FromOperator k f e (v ++ w)

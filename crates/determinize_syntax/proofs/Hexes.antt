@@ -2,20 +2,17 @@
 -- Main statements: two_read, braced_read, wide_read, two_next, braces_next, numbered_byte, numbered_wide.
 -- Used by: the proofs of `hex` and `braces`.
 -- Idea: a brace decides whether two digits follow, and the number is small enough that its digits are counted.
-use Rattle.std.proofs.Common.{◌≡◌, ◌<◌, ◌≤◌, ◌*◌, ◌+◌, ◌∷◌, [], arith, inl, inr, Some, refl, slice_get, true, ℕ}
-use Rattle.std.specs.Char.{InScalarRange, IsScalar, digit_value, is_digit}
-use Rattle.std.proofs.lemmas.Bool.{and_parts}
-use Rattle.std.proofs.lemmas.Bool.Decides.{nat_tests}
-use Rattle.determinize_syntax.specs.Private.Letters as to
+use Rattle.determinize_syntax.proofs.Common.{◌*◌, ◌+◌, ◌<◌, ◌∷◌, ◌≡◌, ◌≤◌, Bytes, Escape, Escaped, IsDigit, IsDigits}
+use Rattle.determinize_syntax.proofs.Common.{IsScalar, Part, Some, Wide, [], and_parts, arith, digit_value, inl, inr}
+use Rattle.determinize_syntax.proofs.Common.{is_digit, nat_tests, number, refl, slice_get, true, ℕ}
+use Rattle.std.specs.Char.{InScalarRange}
 use Rattle.determinize_syntax.specs.Private.Letters.{AtNumber}
-use Rattle.determinize_syntax.specs.Private.Reading.{IsDigit, IsDigits, Part}
-use Rattle.determinize_syntax.specs.Spells as s
-use Rattle.determinize_syntax.specs.Spells.{Bytes, Escaped, IsWide, Wide}
-use Rattle.determinize_syntax.specs.Words.{number}
-use Rattle.determinize_syntax.specs.declared.escape.Escape.{Escape}
-use Rattle.determinize_syntax.specs.declared.escape.Escape.TheVariants as escape
+use Rattle.determinize_syntax.specs.Spells.{IsWide}
 use Rattle.determinize_syntax.proofs.Numbers.{number_begins, number_more, number_one}
 use Rattle.determinize_syntax.proofs.Parts.{closed, onward}
+use Rattle.determinize_syntax.specs.Private.Letters as to
+use Rattle.determinize_syntax.specs.Spells as s
+use Rattle.determinize_syntax.specs.declared.escape.Escape.TheVariants as escape
 
 -- two hexadecimal digits
 pub two_read : {a b d : Bytes} (n m : ℕ) → Part a b (IsDigit 16 n) → Part b d (IsDigit 16 m)

@@ -2,23 +2,16 @@
 -- Main statements: sets_follow, inside_follows.
 -- Used by: the proofs that the parser rejects no pattern.
 -- Idea: a rule that appends at the right is, before a text that follows, a step to the right.
-use Rattle.std.proofs.Common.{◌≡◌, ◌∷◌, ◌++◌, ◌&&◌, inl, inr, refl, [], Bool, false, not, true, ℕ}
-use Rattle.std.specs.Prelude.{◌==◌}
-use Rattle.std.specs.Char.{is_ascii}
-use Rattle.std.proofs.lemmas.Bool.{and_parts, not-true}
-use Rattle.std.proofs.lemmas.List.{append_assoc}
-use Rattle.ordered_reach.proofs.Cases.{by_cases}
-use Rattle.determinize_syntax.specs.Spells as s
-use Rattle.determinize_syntax.specs.Spells.{Bytes, Inside, Lists, Sets, stands}
-use Rattle.determinize_syntax.specs.Words.{Set, ◌∈◌}
-use Rattle.determinize_syntax.specs.Private.Letters as to
-use Rattle.determinize_syntax.specs.Private.Letters.{Inner, Item, Letters, Listing}
-use Rattle.determinize_syntax.specs.declared.bracket.Before.{Before}
-use Rattle.determinize_syntax.specs.declared.bracket.Before.TheVariants.{AfterClass, AfterHyphen, AfterOne}
-use Rattle.determinize_syntax.specs.declared.bracket.Before.TheVariants.{AfterRange, First}
-use Rattle.determinize_syntax.specs.declared.escape.Escape.TheVariants as escape
-use Rattle.determinize_syntax.specs.declared.flags.Flags.{Flags}
+use Rattle.determinize_syntax.proofs.Common.{◌&&◌, ◌++◌, ◌==◌, ◌∈◌, ◌∷◌, ◌≡◌, Before, Bool, Bytes, Flags, Inner, Item}
+use Rattle.determinize_syntax.proofs.Common.{Letters, Listing, Set, Sets, [], and_parts, append_assoc, by_cases, false}
+use Rattle.determinize_syntax.proofs.Common.{inl, inr, is_ascii, not, not-true, refl, true, ℕ}
+use Rattle.determinize_syntax.specs.Spells.{Inside, Lists, stands}
+use Rattle.determinize_syntax.specs.declared.bracket.Before.TheVariants.{AfterClass, AfterHyphen, AfterOne, AfterRange}
+use Rattle.determinize_syntax.specs.declared.bracket.Before.TheVariants.{First}
 use Rattle.determinize_syntax.proofs.Escapes.{bound_at, class_at, escaped_at, wide_at}
+use Rattle.determinize_syntax.specs.Spells as s
+use Rattle.determinize_syntax.specs.Private.Letters as to
+use Rattle.determinize_syntax.specs.declared.escape.Escape.TheVariants as escape
 
 pub sets_follow : (f : Flags) (on : Bool) (g : Flags) (t : Bytes) → Sets f on g t → (i : Flags) (after w : Bytes)
     → Letters i after t on g w → Letters i after [] true f (t ++ w)
@@ -66,8 +59,7 @@ lists_follow f p set t (s.escaped q r v x c lists is) u w h first =
     let i : Item f u q (x ++ w) = rw at.1 (to.escaped q (AfterOne true c) (escape.Byte c) at.0 w at.2 refl h) in
     simp append_assoc (lists_follow f q r v lists u (x ++ w) (to.item q (x ++ w) i) (λ e is. i))
 lists_follow f p set t (s.character q r v x c lists unicode is) u w h first =
-    let i : Item f u q (x ++ w) = by_cases (wide_at c x is w)
-    (λ at. rw at.2 (to.wide q c at.0 at.1 w unicode at.3 h))
+    let i : Item f u q (x ++ w) = by_cases (wide_at c x is w) (λ at. rw at.2 (to.wide q c at.0 at.1 w unicode at.3 h))
     (λ at. rw at.1 (to.escaped q (AfterOne true c) (escape.Wide c) at.0 w at.2 (unicode, refl) h)) in
     simp append_assoc (lists_follow f q r v lists u (x ++ w) (to.item q (x ++ w) i) (λ e is. i))
 lists_follow f p set t (s.class q r v c k lists bytes is) u w h first =

@@ -2,32 +2,29 @@
 -- Main statements: operator_opens, passes_part, passes_then, right_after, local_limits, name_added, name_twice.
 -- Used by: the proofs that the errors at a limit are right.
 -- Idea: openings are counted, so those of two parts are added; a name that was read is in the part before the place.
-use Rattle.std.proofs.Common.{◌≡◌, ◌<◌, ◌≤◌, ◌+◌, ◌-◌, ◌∷◌, ◌++◌, ◌∙◌, [], arith, All, Bool, List, Option, ap, cond, false}
-use Rattle.std.proofs.Common.{refl, subst, sym, true, ℕ}
-use Rattle.std.specs.Prelude.{Err, IfErr, IfOk, MatchResult, Ok, Result, codes, max, not}
+use Rattle.determinize_syntax.proofs.Common.{◌++◌, ◌+◌, ◌<◌, ◌∈◌, ◌∙◌, ◌∷◌, ◌≡◌, ◌≤◌, Bool, Bytes, List, Operator}
+use Rattle.determinize_syntax.proofs.Common.{Option, Part, Passes, [], ap, append-nil, append_assoc, arith, codes, cond}
+use Rattle.determinize_syntax.proofs.Common.{false, is_name, list_any, not, refl, subst, sym, true, ℕ}
+use Rattle.std.proofs.Common.{◌-◌, All}
+use Rattle.std.specs.Prelude.{Err, IfErr, IfOk, MatchResult, Ok, Result, max}
 use Rattle.std.specs.Bool.{⊤}
 use Rattle.std.specs.Cmp.Lexicographic.{slice_cmp}
 use Rattle.std.specs.declared.cmp.Ordering.{Ordering}
 use Rattle.std.specs.declared.cmp.Ordering.TheVariants.{Equal, Greater, Less}
-use Rattle.std.specs.List.{list_any}
 use Rattle.std.specs.BTreeSet.{insert_key}
 use Rattle.std.specs.Ordering.{is_eq, nat_cmp}
-use Rattle.std.proofs.lemmas.List.{append_assoc, append-nil}
 use Rattle.std.proofs.lemmas.List.Elements.{All-nil, All-weaker}
 use Rattle.std.proofs.lemmas.List.Folds.{Any-from_list_any}
 use Rattle.std.proofs.lemmas.List.Sums.{sum_by-append}
 use Rattle.std.proofs.lemmas.Map.Lookups.{exact_bytes}
 use Rattle.std.proofs.lemmas.Map.Views.{All-insert_key}
 use Rattle.determinize_syntax.specs.Limits.{HasNameTwice, bracketed, openings}
-use Rattle.determinize_syntax.specs.Private.Names.{HasName, HasNames, IsRight, Passes, is_local}
-use Rattle.determinize_syntax.specs.Private.Reading.{Part}
-use Rattle.determinize_syntax.specs.Spells as s
-use Rattle.determinize_syntax.specs.Spells.{Bytes, Operator}
-use Rattle.determinize_syntax.specs.Words.{◌∈◌, is_name}
+use Rattle.determinize_syntax.specs.Private.Names.{HasName, HasNames, IsRight, is_local}
 use Rattle.determinize_syntax.specs.declared.error.ErrorKind.TheVariants.{GroupNameDuplicate, NestLimitExceeded}
 use Rattle.determinize_syntax.specs.declared.error.ParseError.{ParseError}
 use Rattle.determinize_syntax.specs.declared.group.Context.{Context}
 use Rattle.determinize_syntax.specs.declared.parser.TheConstants.{NEST_LIMIT}
+use Rattle.determinize_syntax.specs.Spells as s
 
 -- an error that is local is none of a limit
 pub local_right : (levels : ℕ) (c : Context) (a : Bytes) (e : ParseError) → is_local e.kind ≡ true
@@ -115,8 +112,7 @@ passes_operator min max h part same = record {
 
 -- an error after what was read
 pub right_after : {x y : Context} {a b : Bytes} {n levels : ℕ} {e : ParseError} → Passes x a n y b
-    → IsRight levels y b e
-    → IsRight levels x a e
+    → IsRight levels y b e → IsRight levels x a e
 right_after h right = record {
   nested = λ is few. (let deep = right.nested is few in let before = h.deep in omega (arith, deep, before));
   twice = λ is text names. right.twice is text (h.named text names);

@@ -2,27 +2,23 @@
 -- Main statements: a lemma for each rule, and inside_closed, inside_hyphen, bracket_read.
 -- Used by: the proofs of `bracket`.
 -- Idea: a part extends what is listed, and ranges that are added have the bytes that it lists.
-use Rattle.std.proofs.Common.{◌≡◌, ◌<◌, ◌≤◌, ◌∷◌, ◌++◌, ◌∙◌, ◌||◌, [], arith, Bool, List, Some, ap, false, length, not, refl, subst, sym, true, ℕ}
-use Rattle.std.specs.Prelude.{codes, slice_get}
+use Rattle.determinize_syntax.proofs.Common.{◌++◌, ◌<◌, ◌||◌, ◌∈◌, ◌∙◌, ◌∷◌, ◌≡◌, ◌≤◌, AddsChars, Atom, Before, Bool}
+use Rattle.determinize_syntax.proofs.Common.{Bound, ClassKind, Escaped, Flags, IsEscape, IsOneOf, List, Part, Re, Set}
+use Rattle.determinize_syntax.proofs.Common.{Some, Wide, [], ap, append_assoc, arith, codes, false, folded, is_in}
+use Rattle.determinize_syntax.proofs.Common.{knows_cases, length, named_class, not, only, refl, set_of, slice_get}
+use Rattle.determinize_syntax.proofs.Common.{subst, sym, true, turned, within, ℕ}
 use Rattle.std.specs.Int.{is_in_range}
-use Rattle.std.proofs.lemmas.List.{append_assoc}
 use Rattle.std.proofs.lemmas.List.Folds.{list_any-append}
-use Rattle.determinize_below.specs.Semantics.{within}
-use Rattle.determinize_pattern.specs.Meaning.{Re, is_in}
 use Rattle.determinize_syntax.specs.Private.Brackets.{Extends, IsInside}
-use Rattle.determinize_syntax.specs.Private.Reading.{IsEscape, Part}
-use Rattle.determinize_syntax.specs.Private.Sets.{AddsChars, HasChars, set_of, turned}
-use Rattle.determinize_syntax.specs.Spells as s
-use Rattle.determinize_syntax.specs.Spells.{Atom, Bound, Escaped, Inside, IsOneOf, Lists, Wide}
-use Rattle.determinize_syntax.specs.Words.{Set, ◌∈◌, complement, folded, joined, knows_cases, named_class, only}
-use Rattle.determinize_syntax.specs.declared.bracket.Before.{Before}
-use Rattle.determinize_syntax.specs.declared.bracket.Before.TheVariants.{AfterClass, AfterHyphen, AfterOne}
-use Rattle.determinize_syntax.specs.declared.bracket.Before.TheVariants.{AfterRange, First}
+use Rattle.determinize_syntax.specs.Private.Sets.{HasChars}
+use Rattle.determinize_syntax.specs.Spells.{Inside, Lists}
+use Rattle.determinize_syntax.specs.Words.{complement, joined}
+use Rattle.determinize_syntax.specs.declared.bracket.Before.TheVariants.{AfterClass, AfterHyphen, AfterOne, AfterRange}
+use Rattle.determinize_syntax.specs.declared.bracket.Before.TheVariants.{First}
 use Rattle.determinize_syntax.specs.declared.escape.Escape.TheVariants.{Class}
-use Rattle.determinize_syntax.specs.declared.flags.Flags.{Flags}
-use Rattle.determinize_syntax.specs.declared.kind.ClassKind.{ClassKind}
 use Rattle.determinize_syntax.proofs.Escapes.{class_of, perl_class_of}
 use Rattle.determinize_syntax.proofs.Parts.{Text, closed, onward, prefixed, renamed}
+use Rattle.determinize_syntax.specs.Spells as s
 
 abbrev pub Pairs : Type 0
 Pairs = List (ℕ × ℕ)
@@ -82,8 +78,7 @@ class_listed f p kind negated ranges all t bytes x more r u lists has =
 pub any_name_read : {a b c d e g : Text} (f : Flags) (p : Before) (n : Text) (k : Set) (negated : Bool)
     (ranges all : Pairs) → a ≡ 0x3A ∷ b → (negated ≡ true → b ≡ 0x5E ∷ c) → (negated ≡ false → c ≡ b)
     → c ≡ n ++ d → d ≡ 0x3A ∷ e → e ≡ 0x5D ∷ g → named_class n ≡ Some k
-    → AddsChars (turned negated (folded f k)) ranges all
-    → Part a g (λ t. Extends f p ranges AfterRange all (0x5B ∷ t))
+    → AddsChars (turned negated (folded f k)) ranges all → Part a g (λ t. Extends f p ranges AfterRange all (0x5B ∷ t))
 any_name_read {a} {b} {c} {d} {e} {g} f p n k negated ranges all r1 r0 same r2 r3 r4 is =
     name negated r0 same where
       ending : Part c g (λ t. t ≡ n ++ codes ":]")
@@ -156,8 +151,7 @@ inside_closed {b = b} f p ranges h r = closed (Begun f p ranges b) (IsInside f r
 pub inside_hyphen : {a b d : Text} (f : Flags) (p : Before) (ranges all : Pairs) → Part a b (Begun f p ranges b)
     → b ≡ 0x2D ∷ 0x5D ∷ d → s.may_end p ≡ true → all ≡ ranges ++ (0x2D, 0x2D) ∷ [] → Part a d (IsInside f all)
 inside_hyphen {b = b} f p ranges all h r may e =
-    onward (Begun f p ranges b) (λ v. v ≡ 0x2D ∷ 0x5D ∷ []) (IsInside f all) h (0x2D ∷ 0x5D ∷ [], r, refl)
-    (λ t v x y. (
+    onward (Begun f p ranges b) (λ v. v ≡ 0x2D ∷ 0x5D ∷ []) (IsInside f all) h (0x2D ∷ 0x5D ∷ [], r, refl) (λ t v x y. (
       joined x.0 (only 0x2D),
       t ++ codes "-",
       s.hyphen_last p x.0 t x.1 may,

@@ -2,30 +2,23 @@
 -- Main statements: munch, names_same, looks, named_boundary, named_letters, name_passed.
 -- Used by: the proofs that the parser rejects no name and no boundary.
 -- Idea: two runs of bytes of a kind, both followed by none of the kind, are the same.
-use Rattle.std.proofs.Common.{◌≡◌, ◌∷◌, ◌++◌, ◌∙◌, ◌&&◌, ◌||◌, ◌⊎◌, [], ap, arith, inl, inr, length, nat_eq, not, Bool}
-use Rattle.std.proofs.Common.{None, Some, false, refl, slice_get, subst, sym, true, ℕ}
+use Rattle.determinize_syntax.proofs.Common.{◌&&◌, ◌++◌, ◌==◌, ◌||◌, ◌∈◌, ◌∙◌, ◌∷◌, ◌≡◌, ◌⊎◌, Bool, Bytes, ClassKind}
+use Rattle.determinize_syntax.proofs.Common.{Look, None, Part, Set, Some, String, [], and_parts, ap, append_assoc}
+use Rattle.determinize_syntax.proofs.Common.{arith, assertion, by_cases, codes, eqb-true, false, inl, inr}
+use Rattle.determinize_syntax.proofs.Common.{is_in_boundary, is_name, length, list_all, list_all-append, name_of}
+use Rattle.determinize_syntax.proofs.Common.{named_class, nat_tests, not, refl, slice_get, some_injective, subst, sym}
+use Rattle.determinize_syntax.proofs.Common.{true, ℕ}
+use Rattle.std.proofs.Common.{nat_eq}
 use Rattle.std.specs.Char.{is_ascii_digit}
-use Rattle.std.specs.List.{list_all}
-use Rattle.std.proofs.lemmas.Bool.Decides.{nat_tests}
-use Rattle.std.specs.Prelude.{◌==◌, codes}
-use Rattle.std.proofs.lemmas.Bool.{and_parts, eqb-true}
 use Rattle.std.proofs.lemmas.Slice.Eq.{bytes_eq-Decides}
-use Rattle.std.proofs.lemmas.List.{append_assoc, append_cancel_right}
-use Rattle.std.proofs.lemmas.List.Folds.{list_all-append}
-use Rattle.ordered_reach.proofs.Cases.{by_cases, some_injective}
-use Rattle.determinize_below.specs.declared.look.Look.{Look}
-use Rattle.determinize_syntax.specs.declared.kind.ClassKind.{ClassKind}
+use Rattle.std.proofs.lemmas.List.{append_cancel_right}
 use Rattle.determinize_syntax.specs.declared.kind.ClassKind.TheVariants.{Alnum, Alpha, Ascii, Blank, Cntrl, Digit}
-use Rattle.determinize_syntax.specs.declared.kind.ClassKind.TheVariants.{Graph, Lower, Print, Punct, Space, Upper}
-use Rattle.determinize_syntax.specs.declared.kind.ClassKind.TheVariants.{Word, Xdigit}
+use Rattle.determinize_syntax.specs.declared.kind.ClassKind.TheVariants.{Graph, Lower, Print, Punct, Space, Upper, Word}
+use Rattle.determinize_syntax.specs.declared.kind.ClassKind.TheVariants.{Xdigit}
 use lib.Pointwise.{pointwise}
-use Prim.Native.String.{String}
-use Rattle.determinize_syntax.specs.Private.Following.{IsPastBoundary, is_in_boundary}
+use Rattle.determinize_syntax.specs.Private.Following.{IsPastBoundary}
 use Rattle.determinize_syntax.specs.Private.Letters.{NamedTo}
-use Rattle.determinize_syntax.specs.Private.Reading.{Part}
-use Rattle.determinize_syntax.specs.Private.Sets.{name_of}
-use Rattle.determinize_syntax.specs.Spells.{Bytes}
-use Rattle.determinize_syntax.specs.Words.{◌∈◌, Set, assertion, begins_name, is_in_name, is_name, is_text, named_class}
+use Rattle.determinize_syntax.specs.Words.{begins_name, is_in_name, is_text}
 use Rattle.determinize_syntax.proofs.Bytes.{chosen, clash, either, heads, tails, within}
 
 -- the text does not begin with a byte of the kind
@@ -45,8 +38,7 @@ munch p (c ∷ t) [] x y at an e px py =
     let yes : p c ≡ true = (and_parts (p c) (list_all p t) at).0 in
     let never : p c ≡ false = py c (ap (λ l. slice_get l 0) (sym e)) in absurd (cc)
 munch p (c ∷ t) (d ∷ n) x y at an e px py =
-    let same = munch p t n x y (and_parts (p c) (list_all p t) at).1 (and_parts (p d) (list_all p n) an).1
-    (cc) px py in
+    let same = munch p t n x y (and_parts (p c) (list_all p t) at).1 (and_parts (p d) (list_all p n) an).1 (cc) px py in
     let first : c ≡ d = (cc) in (rw (first, same.0) refl, same.1)
 
 -- a letter that begins a name is in names
@@ -91,8 +83,7 @@ pub looks : (look : Look) (t : Bytes) → assertion t ≡ Some look
 looks look t =
     chosen (is_text "A" t) _ _ (sign 0x41 refl) (chosen (is_text "z" t) _ _ (sign 0x7A refl)
     (chosen (is_text "b" t) _ _ (λ h e. inr ([], inl refl, text_is t (codes "b") h))
-    (chosen (is_text "B" t) _ _ (sign 0x42 refl)
-    (chosen (is_text "<" t || is_text "b{start}" t) _ _
+    (chosen (is_text "B" t) _ _ (sign 0x42 refl) (chosen (is_text "<" t || is_text "b{start}" t) _ _
     (λ h e. either (is_text "<" t) _ (λ i. sign 0x3C refl i e) (λ i. named 0x73 (codes "tart") refl i e) h)
     (chosen (is_text ">" t || is_text "b{end}" t) _ _
     (λ h e. either (is_text ">" t) _ (λ i. sign 0x3E refl i e) (λ i. named 0x65 (codes "nd") refl i e) h)

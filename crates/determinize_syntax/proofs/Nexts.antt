@@ -2,21 +2,16 @@
 -- Main statements: closed_by, ended_by, item_next, hyphen_next, escape_next, name_next, plain_next, bound_escape.
 -- Used by: the proofs that the parser rejects no brackets.
 -- Idea: the first byte, and of a hyphen what is before it, decides which item it is.
-use Rattle.std.proofs.Common.{◌≡◌, ◌≤◌, ◌∷◌, ◌&&◌, ◌⊎◌, [], inl, inr, Bool, Some, false, not, refl, slice_get, true, ℕ}
-use Rattle.std.specs.Char.{is_ascii}
-use Rattle.std.proofs.lemmas.Bool.{and_parts}
-use Rattle.determinize_syntax.specs.Private.Letters as to
-use Rattle.determinize_syntax.specs.Private.Letters.{AtBound, AtEscape, Inner, IsEndOf, IsWideAt, Item, Listed, Listing}
-use Rattle.determinize_syntax.specs.Private.Letters.{NamedTo}
-use Rattle.determinize_syntax.specs.Spells.{Bytes, may_end, stands}
-use Rattle.determinize_syntax.specs.Words.{Set, ◌∈◌, named_class}
-use Rattle.determinize_syntax.specs.declared.bracket.Before.{Before}
-use Rattle.determinize_syntax.specs.declared.bracket.Before.TheVariants.{AfterClass, AfterHyphen, AfterOne}
-use Rattle.determinize_syntax.specs.declared.bracket.Before.TheVariants.{AfterRange, First}
-use Rattle.determinize_syntax.specs.declared.escape.Escape.{Escape}
-use Rattle.determinize_syntax.specs.declared.escape.Escape.TheVariants as escape
-use Rattle.determinize_syntax.specs.declared.flags.Flags.{Flags}
+use Rattle.determinize_syntax.proofs.Common.{◌&&◌, ◌∈◌, ◌∷◌, ◌≡◌, ◌≤◌, ◌⊎◌, AtEscape, Before, Bool, Bytes, Escape}
+use Rattle.determinize_syntax.proofs.Common.{Flags, Inner, IsWideAt, Item, Listing, Set, Some, [], and_parts, false}
+use Rattle.determinize_syntax.proofs.Common.{inl, inr, is_ascii, named_class, not, refl, slice_get, true, ℕ}
+use Rattle.determinize_syntax.specs.Private.Letters.{AtBound, IsEndOf, Listed, NamedTo}
+use Rattle.determinize_syntax.specs.Spells.{may_end, stands}
+use Rattle.determinize_syntax.specs.declared.bracket.Before.TheVariants.{AfterClass, AfterHyphen, AfterOne, AfterRange}
+use Rattle.determinize_syntax.specs.declared.bracket.Before.TheVariants.{First}
 use Rattle.determinize_syntax.proofs.Bytes.{clash}
+use Rattle.determinize_syntax.specs.Private.Letters as to
+use Rattle.determinize_syntax.specs.declared.escape.Escape.TheVariants as escape
 
 -- no item and no end of a range begins with the last bracket
 no_close : {A : Type 0} (f : Flags) (u : Bytes) (p : Before) (r : Bytes) → Item f u p (0x5D ∷ r) → A

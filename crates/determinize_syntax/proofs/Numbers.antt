@@ -3,17 +3,12 @@
 -- Used by: the proofs of `decimal` and of numbers in escapes.
 -- Idea: a digit more multiplies the number by the radix, and adds its value; a digit that is next is one of the number,
 -- since none follows after it.
-use Rattle.std.proofs.Common.{◌≡◌, ◌≤◌, ◌∷◌, ◌++◌, ◌∙◌, ◌&&◌, ◌*◌, ◌+◌, ◌-◌, [], arith, Bool, None, Some, ap, false, if◌then◌else◌}
-use Rattle.std.proofs.Common.{refl, slice_get, sym, true, ℕ}
-use Rattle.std.specs.Char.{digit_value, is_digit}
-use Rattle.std.specs.List.{list_all}
-use Rattle.std.proofs.lemmas.Bool.{and_parts}
-use Rattle.std.proofs.lemmas.List.Folds.{list_all-append}
-use Rattle.ordered_reach.proofs.Cases.{some_injective}
-use Rattle.determinize_syntax.specs.Private.Following.{NoDigit}
-use Rattle.determinize_syntax.specs.Private.Reading.{IsDigit, IsDigits, Part}
-use Rattle.determinize_syntax.specs.Spells.{Bytes}
-use Rattle.determinize_syntax.specs.Words.{number, number_after}
+use Rattle.determinize_syntax.proofs.Common.{◌&&◌, ◌*◌, ◌++◌, ◌+◌, ◌∙◌, ◌∷◌, ◌≡◌, ◌≤◌, Bool, Bytes, IsDigit, IsDigits}
+use Rattle.determinize_syntax.proofs.Common.{NoDigit, None, Part, Some, [], and_parts, ap, arith, digit_value, false}
+use Rattle.determinize_syntax.proofs.Common.{if◌then◌else◌, is_digit, list_all, list_all-append, number, refl}
+use Rattle.determinize_syntax.proofs.Common.{slice_get, some_injective, sym, true, ℕ}
+use Rattle.std.proofs.Common.{◌-◌}
+use Rattle.determinize_syntax.specs.Words.{number_after}
 use Rattle.determinize_syntax.proofs.Bytes.{clash, heads, tails}
 use Rattle.determinize_syntax.proofs.Parts.{onward, renamed}
 
@@ -94,8 +89,7 @@ not_smaller radix larger v (d ∷ t) =
     omega (arith, larger v)
 
 pub grown : {a b u : Bytes} (radix limit v n m w : ℕ) → ((v : ℕ) → v ≤ v * radix) → Left radix limit v n u a
-    → NoDigit radix u
-    → Part a b (IsDigit radix m) → (v ≤ limit → w ≡ v * radix + m) → Left radix limit w n u b
+    → NoDigit radix u → Part a b (IsDigit radix m) → (v ≤ limit → w ≡ v * radix + m) → Left radix limit w n u b
 grown radix limit v n m w larger ([], e, (all, whole)) past h grows =
     clash h.2.2 (past h.2.0 (ap (λ l. slice_get l 0) (sym e ∙ digit_front radix m h)))
 grown {a} {b} {u} radix limit v n m w larger (c ∷ t, e, (all, whole)) past h grows =
@@ -114,8 +108,7 @@ grown {a} {b} {u} radix limit v n m w larger (c ∷ t, e, (all, whole)) past h g
 
 -- with one more digit the number is still no larger than the whole
 pub over : {a b u : Bytes} (radix limit v n m : ℕ) → ((v : ℕ) → v ≤ v * radix) → n ≤ limit → Left radix limit v n u a
-    → NoDigit radix u
-    → Part a b (IsDigit radix m) → v * radix + m ≤ n
+    → NoDigit radix u → Part a b (IsDigit radix m) → v * radix + m ≤ n
 over radix limit v n m larger small left past h =
     let x = grown radix limit v n m (v * radix + m) larger left past h (λ below. refl) in
     let is : number_after radix (v * radix + m) x.0 ≡ n = x.2.1 small in
@@ -125,8 +118,7 @@ pub ended : {a u : Bytes} (radix limit v n : ℕ) → Left radix limit v n u a �
     × (a ≡ u)
 ended radix limit v n ([], e, (all, whole)) past = (whole, e)
 ended radix limit v n (d ∷ t, e, (all, whole)) past =
-    clash (and_parts (is_digit d radix) (list_all (λ y. is_digit y radix) t) all).0
-    (past d (ap (λ l. slice_get l 0) e))
+    clash (and_parts (is_digit d radix) (list_all (λ y. is_digit y radix) t) all).0 (past d (ap (λ l. slice_get l 0) e))
 
 -- a brace is no digit
 pub past_brace : (s : Bytes) → slice_get s 0 ≡ Some 0x7D → NoDigit 16 s

@@ -2,23 +2,22 @@
 -- Main statements: took, onward, closed, and a lemma for each rule.
 -- Used by: the proofs of the parser.
 -- Idea: a part after a part is a part; what ends with a byte is a part and the byte.
-use Rattle.std.proofs.Common.{◌≡◌, ◌<◌, ◌≤◌, ◌+◌, ◌∷◌, ◌++◌, ◌∙◌, ◌^◌, ◌&&◌, [], arith, Bool, List}
-use Rattle.std.proofs.Common.{None, Option, Some, ap, cond, false, length, map, not, refl, slice_get, subst, sym, true, ℕ}
-use Rattle.std.specs.Prelude.{Err, IfOk, Ok, OnOk, Result, codes, is_some}
-use Rattle.std.specs.Char.{encode_utf8, len_utf8}
-use Rattle.std.proofs.lemmas.List.Folds.{list_all-append}
-use Rattle.std.proofs.lemmas.List.{append_assoc, append-nil, length-append, map-append}
-use Rattle.std.proofs.lemmas.Str.{length-encode}
-use Rattle.determinize_below.specs.declared.look.Look.{Look}
-use Rattle.determinize_pattern.specs.Meaning.{Re}
-use Rattle.determinize_pattern.specs.Patterns.{choice_of, meaning, repeated}
+use Rattle.determinize_syntax.proofs.Common.{◌&&◌, ◌++◌, ◌+◌, ◌<◌, ◌∙◌, ◌∷◌, ◌≡◌, ◌≤◌, Atom, Bool, Branches, Flags}
+use Rattle.determinize_syntax.proofs.Common.{List, Look, None, Operator, Option, Part, Re, Repeated, Sets, Some}
+use Rattle.determinize_syntax.proofs.Common.{SpellsUnder, [], ap, append-nil, append_assoc, arith, assertion, codes}
+use Rattle.determinize_syntax.proofs.Common.{cond, encode_utf8, false, is_name, is_some, len_utf8, length}
+use Rattle.determinize_syntax.proofs.Common.{length-encode, list_all-append, map, meaning, not, number, refl, slice_get}
+use Rattle.determinize_syntax.proofs.Common.{subst, sym, true, ℕ}
+use Rattle.std.proofs.Common.{◌^◌}
+use Rattle.std.specs.Prelude.{Err, IfOk, Ok, OnOk, Result}
+use Rattle.std.proofs.lemmas.List.{length-append, map-append}
+use Rattle.determinize_pattern.specs.Patterns.{choice_of, repeated}
 use Rattle.determinize_pattern.specs.declared.pattern.Pattern.{Pattern}
-use Rattle.determinize_syntax.specs.Private.Reading.{IsFlag, IsNamed, IsSetting, Opens, Part, SetsMore}
-use Rattle.determinize_syntax.specs.Spells as s
-use Rattle.determinize_syntax.specs.Spells.{Atom, Branches, Items, Operator, Repeated, Sets, SpellsUnder, sequence_of}
-use Rattle.determinize_syntax.specs.Words.{assertion, begins_name, is_in_name, is_name, number}
-use Rattle.determinize_syntax.specs.declared.flags.Flags.{Flags}
+use Rattle.determinize_syntax.specs.Private.Reading.{IsFlag, IsNamed, IsSetting, Opens, SetsMore}
+use Rattle.determinize_syntax.specs.Spells.{Items, sequence_of}
+use Rattle.determinize_syntax.specs.Words.{begins_name, is_in_name}
 use Rattle.determinize_syntax.proofs.Bytes.{at_end}
+use Rattle.determinize_syntax.specs.Spells as s
 
 abbrev pub Text : Type 0
 Text = List ℕ
@@ -69,8 +68,7 @@ pub between_read : {a d y e x : Text} (n m : ℕ) → Part a d (λ t. number 10 
     → Part y e (λ t. number 10 t ≡ Some m) → e ≡ 0x7D ∷ x → n ≤ m → m < 2 ^ 32
     → Part a x (λ t. Operator n (Some m) (0x7B ∷ t))
 between_read n m h r1 k r2 le small =
-    closed _ (λ t. Operator n (Some m) (0x7B ∷ t))
-    (onward _ (λ v. (u : Text) × (v ≡ 0x2C ∷ u) × (number 10 u ≡ Some m))
+    closed _ (λ t. Operator n (Some m) (0x7B ∷ t)) (onward _ (λ v. (u : Text) × (v ≡ 0x2C ∷ u) × (number 10 u ≡ Some m))
     (λ v. (t u : Text) × (v ≡ t ++ codes "," ++ u) × (number 10 t ≡ Some n) × (number 10 u ≡ Some m)) h
     (0x2C ∷ k.0, r1 ∙ ap (λ w. 0x2C ∷ w) k.1, (k.0, refl, k.2))
     (λ t v p q. (t, q.0, ap (λ w. t ++ w) q.1 ∙ sym (append_assoc t (codes ",") q.0), p, q.2))) r2
@@ -177,8 +175,7 @@ pub letters_read : {a b d : Text} (f g h : Flags) (on later : Bool) (seen : Text
     → Part a d (Sets f later h)
 letters_read f g h on later seen is before k =
     onward (λ t. Sets f on g t × (seen ≡ t)) (SetsMore seen on g later h) (Sets f later h)
-    (before.0, before.1, (before.2, is before.0 before.1)) k
-    (λ t u x more. rw (← x.1) (more f (rw (← x.1) at x.0)))
+    (before.0, before.1, (before.2, is before.0 before.1)) k (λ t u x more. rw (← x.1) (more f (rw (← x.1) at x.0)))
 
 -- names
 pub name_begun : (c : ℕ) → begins_name c ≡ true → is_name (c ∷ []) ≡ true
@@ -195,8 +192,7 @@ name_more (c ∷ t) d h e = rw (list_all-append is_in_name t (d ∷ []), e) (wit
 -- an operator after what it repeats
 pub again_read : (a b d x : Text) (f : Flags) (re new : Re) (min : ℕ) (max : Option ℕ) (is_lazy : Bool)
     → Part a b (λ t. (e : Bool) × Repeated f e re t × (e ≡ true → slice_get b 0 ≡ Some 0x3F → ⊥))
-    → Part b d (Operator min max)
-    → (is_lazy ≡ true → d ≡ 0x3F ∷ x) → (is_lazy ≡ false → x ≡ d)
+    → Part b d (Operator min max) → (is_lazy ≡ true → d ≡ 0x3F ∷ x) → (is_lazy ≡ false → x ≡ d)
     → (is_lazy ≡ false → slice_get d 0 ≡ Some 0x3F → ⊥)
     → new ≡ repeated min max (cond is_lazy f.swap_greed (not f.swap_greed)) re
     → Part a x (λ t. (e : Bool) × Repeated f e new t × (e ≡ true → slice_get x 0 ≡ Some 0x3F → ⊥))

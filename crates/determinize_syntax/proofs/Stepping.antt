@@ -4,24 +4,16 @@
 -- Used by: the proofs that the parser rejects no pattern.
 -- Idea: the first byte decides by which rule a text follows, since no two rules have one in common but those of a group
 -- and a setting.
-use Rattle.std.proofs.Common.{◌≡◌, ◌<◌, ◌≤◌, ◌∷◌, ◌∙◌, ◌&&◌, ◌⊎◌, ap, arith, inl, inr, length}
-use Rattle.std.proofs.Common.{refl, sym, [], Bool, List, Some, false, true, not, slice_get, ℕ}
-use Rattle.std.specs.Prelude.{◌==◌, codes}
-use Rattle.std.specs.Char.{encode_utf8, is_ascii, len_utf8}
-use Rattle.std.proofs.lemmas.List.{append-nil}
-use Rattle.std.proofs.lemmas.Str.{inside_one, length-encode}
-use Rattle.std.proofs.lemmas.Bool.{and_parts, eqb-true, not-true}
-use Rattle.ordered_reach.proofs.Cases.{by_test}
-use Rattle.determinize_syntax.specs.Spells.{Bytes}
-use Rattle.determinize_syntax.specs.Words.{◌∈◌, knows_cases}
-use Rattle.determinize_syntax.specs.Private.Following as to
-use Rattle.determinize_syntax.specs.Private.Following.{AfterOperator, Bracketed, CountsTo, Enters, FromAtom, FromItem}
-use Rattle.determinize_syntax.specs.Private.Following.{FromOperator, IsBranchEnd, IsEnd}
-use Rattle.determinize_syntax.specs.Private.Letters.{AtEscape, IsWideAt}
+use Rattle.determinize_syntax.proofs.Common.{◌&&◌, ◌<◌, ◌==◌, ◌∈◌, ◌∙◌, ◌∷◌, ◌≡◌, ◌≤◌, ◌⊎◌, AtEscape, Bool, Bytes}
+use Rattle.determinize_syntax.proofs.Common.{Escape, Flags, FromAtom, FromItem, FromOperator, IsWideAt, List, Some, []}
+use Rattle.determinize_syntax.proofs.Common.{and_parts, ap, append-nil, arith, by_test, codes, encode_utf8, eqb-true}
+use Rattle.determinize_syntax.proofs.Common.{false, inl, inr, is_ascii, knows_cases, len_utf8, length, length-encode}
+use Rattle.determinize_syntax.proofs.Common.{not, not-true, refl, slice_get, sym, true, ℕ}
+use Rattle.std.proofs.lemmas.Str.{inside_one}
+use Rattle.determinize_syntax.specs.Private.Following.{AfterOperator, Bracketed, CountsTo, Enters, IsBranchEnd, IsEnd}
 use Rattle.determinize_syntax.specs.Private.Reading.{is_available}
-use Rattle.determinize_syntax.specs.declared.escape.Escape.{Escape}
-use Rattle.determinize_syntax.specs.declared.flags.Flags.{Flags}
 use Rattle.determinize_syntax.proofs.Bytes.{apart, clash, within}
+use Rattle.determinize_syntax.specs.Private.Following as to
 
 -- a character beyond ASCII begins with a byte beyond ASCII
 pub encode_starts : (c : ℕ) → 128 ≤ c → (d : ℕ) × (w : Bytes) × (encode_utf8 c ≡ d ∷ w) × (is_ascii d ≡ false)
@@ -186,8 +178,7 @@ stop_is_end t (inr x) other = absurd (other (ap (λ l. slice_get l 0) x.1))
 -- a byte that ends a branch is next, or it is not
 pub stop_here : (r : Bytes) (b : ℕ) → b ∈ "|)" ≡ true → IsBranchEnd (b ∷ r)
 stop_here r b sign =
-    by_test (0x7C == b) (λ i. inr (r, ap (λ y. y ∷ r) (sym (eqb-true 0x7C b i))))
-    (λ i. inl (inr (
+    by_test (0x7C == b) (λ i. inr (r, ap (λ y. y ∷ r) (sym (eqb-true 0x7C b i)))) (λ i. inl (inr (
       r,
       ap (λ y. y ∷ r) (sym (eqb-true 0x29 b (by_test (0x29 == b) (λ j. j) (λ j.
           let never : false ≡ true = simp (i, j) at sign in absurd (cc))))),

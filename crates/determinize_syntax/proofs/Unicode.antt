@@ -2,28 +2,24 @@
 -- Main statements: choice_reads_characters.
 -- Used by: characters_law.
 -- Idea: what clears `u` in a part clears it in the whole, so the flag holds at each atom, and each atom matches UTF-8.
-use Rattle.std.proofs.Common.{◌≡◌, ◌<◌, ◌∷◌, ◌++◌, ◌∙◌, ◌&&◌, ◌||◌, ◌⊎◌, [], arith, inl, inr, Bool, List, Option}
-use Rattle.std.proofs.Common.{Some, ap, cond, false, not, refl, subst, sym, true, ℕ}
-use Rattle.std.specs.Prelude.{codes, if◌then◌else◌}
-use Rattle.std.proofs.lemmas.Bool.{and_from, and_parts, false≢true, not-true, or_from, or_left, or_parts, or_right}
-use Rattle.std.proofs.lemmas.List.{append_assoc}
+use Rattle.determinize_syntax.proofs.Common.{◌&&◌, ◌++◌, ◌<◌, ◌||◌, ◌∈◌, ◌∙◌, ◌∷◌, ◌≡◌, ◌⊎◌, Atom, Bool, Branches}
+use Rattle.determinize_syntax.proofs.Common.{Bytes, Flags, IsOneOf, IsScalar, List, Option, Re, Repeated, Set, Sets}
+use Rattle.determinize_syntax.proofs.Common.{Some, Wide, [], and_parts, ap, append_assoc, arith, by_cases, codes, cond}
+use Rattle.determinize_syntax.proofs.Common.{encode_utf8, false, folded, if◌then◌else◌, inl, inr, is_ascii, knows_cases}
+use Rattle.determinize_syntax.proofs.Common.{not, not-true, only, refl, some_injective, subst, sym, true, ℕ}
+use Rattle.std.proofs.lemmas.Bool.{and_from, false≢true, or_from, or_left, or_parts, or_right}
 use Rattle.std.proofs.lemmas.List.Elements.{All-head, All-nil, All-push}
 use Rattle.std.proofs.lemmas.Str.{IsUtf8-encode}
-use Rattle.std.specs.Char.{IsScalar, encode_utf8, is_ascii}
 use Rattle.std.specs.List.{All}
-use Rattle.ordered_reach.proofs.Cases.{by_cases, some_injective}
 use Rattle.determinize_pattern.proofs.characters.Ascii.{ascii_reads}
 use Rattle.determinize_pattern.proofs.characters.Boundaries.{choice_reads, class_reads, literal_reads, look_reads}
 use Rattle.determinize_pattern.proofs.characters.Boundaries.{repeated_reads, sequence_reads}
 use Rattle.determinize_pattern.specs.Characters.{ReadsCharacters}
-use Rattle.determinize_pattern.specs.Meaning.{Re}
 use Rattle.determinize_pattern.specs.Patterns.{IsClass, choice_of}
-use Rattle.determinize_syntax.specs.Spells as s
-use Rattle.determinize_syntax.specs.Spells.{Atom, Branches, Bytes, Choice, IsOneOf, Items, Repeated, Sets, Wide}
-use Rattle.determinize_syntax.specs.Spells.{sequence_of}
+use Rattle.determinize_syntax.specs.Spells.{Choice, Items, sequence_of}
 use Rattle.determinize_syntax.specs.Unicode.{group_clears_u, clears_u, clears_unicode, has_u}
-use Rattle.determinize_syntax.specs.Words.{Set, ◌∈◌, folded, knows_cases, only, set_flag}
-use Rattle.determinize_syntax.specs.declared.flags.Flags.{Flags}
+use Rattle.determinize_syntax.specs.Words.{set_flag}
+use Rattle.determinize_syntax.specs.Spells as s
 
 -- where the second does not hold, neither does the first
 unless : (x y : Bool) → (x ≡ true → y ≡ true) → y ≡ false → x ≡ false

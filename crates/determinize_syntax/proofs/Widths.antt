@@ -2,13 +2,12 @@
 -- Main statements: width_of, front_is, wide_parts.
 -- Used by: the proofs of `take_wide`.
 -- Idea: the first byte of a character decides how many it has.
-use Rattle.std.proofs.Common.{◌≡◌, ◌<◌, ◌≤◌, ◌+◌, ◌/◌, ◌∷◌, ◌++◌, ◌∙◌, ◌⊎◌, [], ap, arith, inl, inr, le-ltb, length}
-use Rattle.std.proofs.Common.{length-append, lt-ltb, ltb-false, ltb-true, nat_lt, refl, sym, take, ℕ}
-use Rattle.std.specs.Char.{encode_utf8, len_utf8}
+use Rattle.determinize_syntax.proofs.Common.{◌++◌, ◌+◌, ◌<◌, ◌∙◌, ◌∷◌, ◌≡◌, ◌≤◌, ◌⊎◌, Bytes, [], ap, arith, by_test}
+use Rattle.determinize_syntax.proofs.Common.{inl, inr, len_utf8, length, length-encode, ltb-false, ltb-true, nat_lt}
+use Rattle.determinize_syntax.proofs.Common.{refl, sym, ℕ}
+use Rattle.std.proofs.Common.{◌/◌, le-ltb, length-append, lt-ltb, take}
+use Rattle.std.specs.Char.{encode_utf8}
 use Rattle.std.proofs.lemmas.Bool.{cond-false, cond-true}
-use Rattle.std.proofs.lemmas.Str.{length-encode}
-use Rattle.ordered_reach.proofs.Cases.{by_test}
-use Rattle.determinize_syntax.specs.Spells.{Bytes}
 use Rattle.determinize_syntax.proofs.Bytes.{heads}
 
 -- the first byte, and how many there are

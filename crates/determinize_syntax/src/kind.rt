@@ -1,9 +1,9 @@
 //! Classes that have a name or a letter.
 
-ghost use Rattle.std.specs.Prelude.{◌≡◌, IfNone, IfOk, IfSome, None, Some, codes};
+ghost use Rattle.std.specs.Prelude.{◌≡◌, IfNone, IfOk, IfSome, None, Some, true};
 ghost use Rattle.determinize_pattern.specs.Classes.{HasBytes, pairs};
 ghost use Rattle.determinize_syntax.specs.Private.Sets.{name_of, perl_of, set_of, turned};
-ghost use Rattle.determinize_syntax.specs.Words.{folded, named_class};
+ghost use Rattle.determinize_syntax.specs.Words.{folded, is_text, named_class};
 
 use crate::class::class;
 use crate::flags::Flags;
@@ -64,7 +64,7 @@ impl ClassKind {
     /// Returns the name of the class.
     fn name(self) -> &'static str
         ensures class { named_class result.now ≡ Some (set_of self) }
-        ensures text { result.now ≡ codes (name_of self) }
+        ensures text { is_text (name_of self) result.now ≡ true }
     {
         match self {
             ClassKind::Alnum => "alnum",

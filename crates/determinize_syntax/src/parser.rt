@@ -12,7 +12,7 @@ ghost use Rattle.determinize_pattern.specs.Characters.{IsCharClass};
 ghost use Rattle.determinize_pattern.specs.Patterns.{IsClass, choice_of, literal, meaning, repeated};
 ghost use Rattle.determinize_syntax.specs.Limits.{HasNameTwice, openings};
 ghost use Rattle.determinize_syntax.specs.Private.Names.{IsRight, Passes, is_local};
-ghost use Rattle.determinize_syntax.specs.Private.Reading.{IsNotAt, Reads, rest};
+ghost use Rattle.determinize_syntax.specs.Private.Reading.{IsEscape, IsNotAt, Reads, is_available, rest};
 ghost use Rattle.determinize_syntax.specs.Spells as spells;
 ghost use Rattle.determinize_syntax.specs.Spells.{Atom, Choice, IsOneOf, Items, Repeated, Spells, SpellsUnder, is_limit};
 ghost use Rattle.determinize_syntax.specs.Words.{◌∈◌, at_line, dot_set, folded, knows_cases, only};
@@ -249,10 +249,18 @@ fn escaped_atom(
     if let Some(kind) = escape.unavailable(flags) {
         return Err(cursor.error_since(start, kind));
     }
+    Ok(of_escape(alloc, escape, flags)?)
+}
+
+/// Returns the pattern of an escape that needs no tables of Unicode under these flags.
+fn of_escape(alloc: Global, escape: Escape, flags: Flags) -> Result<Pattern, AllocError>
+    requires { is_available flags escape ≡ true }
+    ensures { IfOk result (λ p. (t : List ℕ) → IsEscape escape t → Atom flags (meaning p) t) }
+{
     match escape {
-        Escape::Byte(escaped) => Ok(numbered(alloc, escaped, flags)?),
-        Escape::Wide(character) => Ok(wide(alloc, character)?),
-        Escape::Class(kind, negated) => { Ok(of_class(kind.class(alloc, Flags::new(), negated)?)) }
+        Escape::Byte(escaped) => numbered(alloc, escaped, flags),
+        Escape::Wide(character) => wide(alloc, character),
+        Escape::Class(kind, negated) => Ok(of_class(kind.class(alloc, Flags::new(), negated)?)),
         Escape::Look(look) => Ok(assertion(look)),
     }
 }
@@ -338,10 +346,18 @@ fn group<'a>(
         return Err(ParseError::at(ErrorKind::NestLimitExceeded, start));
     }
     context.depth += 1;
-    if opening.captures {
-        return Ok(sub.capture(context.alloc)?);
+    Ok(grouped(context.alloc, sub, opening.captures)?)
+}
+
+/// Returns the pattern, as a group that is kept for printing if `captures` is set.
+fn grouped(alloc: Global, sub: Pattern, captures: bool) -> Result<Pattern, AllocError>
+    ensures { IfOk result (λ p. meaning p ≡ meaning sub) }
+{
+    if captures {
+        sub.capture(alloc)
+    } else {
+        Ok(sub)
     }
-    Ok(sub)
 }
 
 /// Returns the patterns one after the other, or the single one.

@@ -1,12 +1,6 @@
-use Rattle.std.proofs.Common.{◌≡◌, ◌∷◌, ◌∙◌, Bool, Some, ap, false, refl, rules, slice_get, sym, true}
-use Rattle.ordered_reach.proofs.Cases.{by_cases}
-use Rattle.determinize_pattern.specs.Characters.{char_pairs}
-use Rattle.determinize_pattern.specs.Patterns.{meaning}
+use Rattle.determinize_syntax.proofs.Common.{◌∙◌, ◌∷◌, ◌≡◌, Bool, Bytes, Flags, Inner, Some, ap, by_cases, char_pairs}
+use Rattle.determinize_syntax.proofs.Common.{false, meaning, refl, rest, rules, slice_get, sym, true}
 use Rattle.determinize_syntax.specs.Private.Following.{Bracketed}
-use Rattle.determinize_syntax.specs.Private.Letters.{Inner}
-use Rattle.determinize_syntax.specs.Private.Reading.{rest}
-use Rattle.determinize_syntax.specs.Spells.{Bytes}
-use Rattle.determinize_syntax.specs.declared.flags.Flags.{Flags}
 use Rattle.determinize_syntax.proofs.Bytes.{clash, tails}
 use Rattle.determinize_syntax.proofs.Characters.{one_of_listed}
 use Rattle.determinize_syntax.proofs.Listing.{any_bracket_read}
@@ -28,19 +22,16 @@ returns-clause-read c =
 inner : (f : Flags) (w r new : Bytes) (negated : Bool) → Bracketed f w r → (negated ≡ true → r ≡ 0x5E ∷ new)
     → (negated ≡ false → new ≡ r) → (negated ≡ false → slice_get r 0 ≡ Some 0x5E → ⊥) → Inner f w new
 inner f w r new true x read same other =
-    by_cases x (λ y. rw (tails (sym y.1 ∙ read refl)) at y.2)
-    (λ y. absurd (y.0 (ap (λ l. slice_get l 0) (read refl))))
+    by_cases x (λ y. rw (tails (sym y.1 ∙ read refl)) at y.2) (λ y. absurd (y.0 (ap (λ l. slice_get l 0) (read refl))))
 inner f w r new false x read same other =
     by_cases x (λ y. absurd (other refl (ap (λ l. slice_get l 0) y.1))) (λ y. rw (same refl) y.1)
 
 pub returns-in_err-ranges-clause-whole : goal.returns-in_err-ranges-clause-whole
 returns-in_err-ranges-clause-whole c k h =
     let x = bracket_next k c.args.flags _ h in
-    search (
-      rules,
-      c.in_err-ranges.ensures.whole x.0 (inner c.args.flags x.0 (rest c.args.cursor.now) _ _ x.1
-          c.take-negated.ensures.read (λ e. ap rest (c.take-negated.ensures.left e)) c.take-negated.ensures.other) x.2,
-    )
+    let limit = c.in_err-ranges.ensures.whole x.0 (inner c.args.flags x.0 (rest c.args.cursor.now) _ _ x.1
+    c.take-negated.ensures.read (λ e. ap rest (c.take-negated.ensures.left e)) c.take-negated.ensures.other) x.2 in
+    search (rules, limit)
 
 pub returns-then-not-know_cases-clause-whole : goal.returns-then-not-know_cases-clause-whole
 returns-then-not-know_cases-clause-whole c k h =

@@ -1,11 +1,7 @@
-use Rattle.std.proofs.Common.{◌∷◌, ◌++◌, ◌∙◌, [], Some, ap, false, sym}
-use Rattle.determinize_pattern.specs.Characters.{char_pairs}
-use Rattle.determinize_pattern.specs.Meaning.{is_in}
-use Rattle.determinize_syntax.specs.Private.Reading.{rest}
-use Rattle.determinize_syntax.specs.Spells as s
-use Rattle.determinize_syntax.specs.Words.{only}
+use Rattle.determinize_syntax.proofs.Common.{◌++◌, ◌∙◌, ◌∷◌, Some, [], ap, char_pairs, false, is_in, only, rest, sym}
 use Rattle.determinize_syntax.proofs.Listing.{has_only}
 use Rattle.determinize_syntax.proofs.Nexts.{front_next, items_next}
+use Rattle.determinize_syntax.specs.Spells as s
 use Rattle.determinize_syntax.proofs.bracket.front.Goals as goal
 
 pub returns-then-not-take-clause-read : goal.returns-then-not-take-clause-read

@@ -1,11 +1,9 @@
-use Rattle.std.proofs.Common.{◌≡◌, ◌∷◌, ◌∙◌, ap, rules, sym, true}
-use Rattle.determinize_pattern.specs.Characters.{char_pairs}
-use Rattle.determinize_syntax.specs.Private.Letters.{Item, Listing}
-use Rattle.determinize_syntax.specs.Private.Reading.{IsNotAt, Part, rest}
-use Rattle.determinize_syntax.specs.Spells.{Bytes, may_end}
+use Rattle.determinize_syntax.proofs.Common.{◌∙◌, ◌∷◌, ◌≡◌, Bytes, Flags, Item, Listing, Part, ap, char_pairs, rest}
+use Rattle.determinize_syntax.proofs.Common.{rules, sym, true}
+use Rattle.determinize_syntax.specs.Private.Reading.{IsNotAt}
+use Rattle.determinize_syntax.specs.Spells.{may_end}
 use Rattle.determinize_syntax.specs.declared.bracket.Items.{Items}
 use Rattle.determinize_syntax.specs.declared.cursor.Cursor.{Cursor}
-use Rattle.determinize_syntax.specs.declared.flags.Flags.{Flags}
 use Rattle.determinize_syntax.proofs.Listing.{Begun, begun_more, inside_closed, inside_hyphen}
 use Rattle.determinize_syntax.proofs.Nexts.{closed_by, ended_by, item_next}
 use Rattle.determinize_syntax.proofs.bracket.inside.Goals as goal
@@ -38,12 +36,10 @@ loop-alloc-preserved c =
 pub returns-in_err-item-clause-whole : goal.returns-in_err-item-clause-whole
 returns-in_err-item-clause-whole c u h known =
     let left = c.in_ok-ends_with_hyphen.ensures.left c.if-branch.false in
-    search (
-      rules,
-      c.in_err-item.ensures.whole u (item_here c.args.flags u c.loop-alloc.items _ c.loop-alloc.cursor _ _
-          (c.take.ensures.left c.if-take.false) left.0 left.1 (c.loop-alloc.invariant.1 u h known)
-          (c.take.ensures.other c.if-take.false) (c.in_ok-ends_with_hyphen.ensures.other c.if-branch.false)) known,
-    )
+    let limit = c.in_err-item.ensures.whole u (item_here c.args.flags u c.loop-alloc.items _ c.loop-alloc.cursor _ _
+    (c.take.ensures.left c.if-take.false) left.0 left.1 (c.loop-alloc.invariant.1 u h known)
+    (c.take.ensures.other c.if-take.false) (c.in_ok-ends_with_hyphen.ensures.other c.if-branch.false)) known in
+    search (rules, limit)
 
 pub returns-then-take-clause-whole : goal.returns-then-take-clause-whole
 returns-then-take-clause-whole c u h known =

@@ -1,10 +1,6 @@
-use Rattle.std.proofs.Common.{◌≡◌, length, true}
-use Rattle.determinize_pattern.specs.Characters.{char_pairs}
+use Rattle.determinize_syntax.proofs.Common.{◌≡◌, Bytes, Inner, Listing, Reads, char_pairs, knows_cases, length, rest}
+use Rattle.determinize_syntax.proofs.Common.{true}
 use Rattle.determinize_syntax.specs.Private.Brackets.{IsBegun}
-use Rattle.determinize_syntax.specs.Private.Letters.{Inner, Listing}
-use Rattle.determinize_syntax.specs.Private.Reading.{Reads, rest}
-use Rattle.determinize_syntax.specs.Spells.{Bytes}
-use Rattle.determinize_syntax.specs.Words.{knows_cases}
 use Rattle.determinize_syntax.proofs.bracket.inside.Given as goal
 
 abbrev pub invariant-loop-alloc : goal.invariant-loop-alloc

@@ -1,10 +1,7 @@
-use Rattle.std.specs.Prelude.{encode_utf8}
-use Rattle.determinize_syntax.specs.Private.Reading.{rest}
+use Rattle.determinize_syntax.proofs.Common.{◌∙◌, encode_same, encode_utf8, rest, sym}
 use Rattle.determinize_syntax.specs.Spells.{itself}
 use Rattle.determinize_syntax.proofs.Characters.{is_true}
 use Rattle.determinize_syntax.proofs.Parts.{shorter_by_character}
-use Rattle.std.proofs.Common.{◌∙◌, sym}
-use Rattle.std.proofs.lemmas.Str.{encode_same}
 use Rattle.determinize_syntax.proofs.bracket.wide.Goals as goal
 
 pub returns-in-Some-clause-read : goal.returns-in-Some-clause-read

@@ -1,5 +1,4 @@
-use Rattle.std.proofs.Common.{◌≡◌, ◌<◌, ◌||◌, drop, ℕ}
-use Rattle.determinize_syntax.specs.Private.Sets.{has, has_char}
+use Rattle.determinize_syntax.proofs.Common.{◌<◌, ◌||◌, ◌≡◌, drop, has, has_char, ℕ}
 use Rattle.determinize_syntax.proofs.class.bytes_of.Given as goal
 
 abbrev pub invariant-loop-range : goal.invariant-loop-range

@@ -1,6 +1,5 @@
-use Rattle.std.proofs.Common.{◌≡◌, ◌∙◌, ◌||◌, ap, false, sym, true}
-use Rattle.std.specs.Char.{to_ascii_lowercase, to_ascii_uppercase}
-use Rattle.determinize_syntax.specs.Private.Sets.{has}
+use Rattle.determinize_syntax.proofs.Common.{◌||◌, ◌∙◌, ◌≡◌, ap, false, has, sym, to_ascii_lowercase}
+use Rattle.determinize_syntax.proofs.Common.{to_ascii_uppercase, true}
 use Rattle.determinize_syntax.proofs.Classes.{in_some}
 use Rattle.determinize_syntax.proofs.class.has_case.Goals as goal
 

@@ -1,9 +1,4 @@
-use Rattle.std.proofs.Common.{subst, sym}
-use Rattle.determinize_pattern.specs.Classes.{HasBytes}
-use Rattle.determinize_pattern.specs.Patterns.{meaning}
-use Rattle.determinize_syntax.specs.Private.Sets.{has, has_char, turned}
-use Rattle.determinize_syntax.specs.Spells.{IsOneOf}
-use Rattle.determinize_syntax.specs.Words.{folded}
+use Rattle.determinize_syntax.proofs.Common.{HasBytes, IsOneOf, folded, has, has_char, meaning, subst, sym, turned}
 use Rattle.determinize_syntax.proofs.Classes.{kind_class}
 use Rattle.determinize_syntax.proofs.class.one_of.Goals as goal
 

@@ -1,6 +1,6 @@
-use Rattle.std.proofs.Common.{◌∙◌, Global, Vec, ap, refl, sym, subst, ◌+◌}
-use Rattle.determinize_pattern.specs.declared.class.ClassBytesRange.{ClassBytesRange}
-use Rattle.determinize_syntax.specs.Private.Sets.{HasBelow, either_case, has}
+use Rattle.determinize_syntax.proofs.Common.{◌+◌, ◌∙◌, ClassBytesRange, HasBelow, ap, has, refl, subst, sym}
+use Rattle.std.proofs.Common.{Global, Vec}
+use Rattle.determinize_syntax.specs.Private.Sets.{either_case}
 use Rattle.determinize_syntax.proofs.Classes.{below_with, below_without}
 use Rattle.determinize_syntax.proofs.class.with_cases.Goals.{then-has_case+in_ok-push, else-has_case}
 use Rattle.determinize_syntax.proofs.class.with_cases.Goals as goal
@@ -13,8 +13,7 @@ loop-i-preserved c =
           below_with s c.loop-i.i c.loop-i.cases.items c.if-has_case.cases.items
           (record { start = c.loop-i.i; end = c.loop-i.i })
           c.loop-i.invariant (ap (λ (v : Vec ClassBytesRange Global). v.items) w.cases-is ∙ w.in_ok-push.ensures.items)
-          refl
-          (sym c.has_case.ensures ∙ w.if-has_case.true)
+          refl (sym c.has_case.ensures ∙ w.if-has_case.true)
       | else-has_case w ↦
           subst (λ (v : Vec ClassBytesRange Global). HasBelow s (c.loop-i.i + 1) v.items) (sym w.cases-is)
           (below_without s c.loop-i.i c.loop-i.cases.items c.loop-i.invariant

@@ -1,5 +1,4 @@
-use Rattle.std.proofs.Common.{◌<◌, ◌≤◌, arith, sym}
-use Rattle.ordered_reach.proofs.Cases.{by_cases}
+use Rattle.determinize_syntax.proofs.Common.{◌<◌, ◌≤◌, arith, by_cases, sym}
 use Rattle.determinize_syntax.proofs.Widths.{width_of}
 use Rattle.determinize_syntax.proofs.cursor.width.Goals as goal
 

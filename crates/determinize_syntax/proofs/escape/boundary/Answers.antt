@@ -1,5 +1,4 @@
-use Rattle.std.proofs.Common.{◌∙◌, ap, slice_get, sym}
-use Rattle.ordered_reach.proofs.Cases.{by_cases, some_injective}
+use Rattle.determinize_syntax.proofs.Common.{◌∙◌, ap, by_cases, slice_get, some_injective, sym}
 use Rattle.determinize_syntax.proofs.Munch.{filled, named_boundary, nil_when}
 use Rattle.determinize_syntax.proofs.Parts.{boundary_read}
 use Rattle.determinize_syntax.proofs.escape.boundary.Goals as goal
@@ -33,8 +32,7 @@ pub returns-clause-whole : goal.returns-clause-whole
 returns-clause-whole c l u h past =
     by_cases (named_boundary l h past (c.take.ensures.read c.if-not-take.false) c.pass_letters.ensures.read
     c.pass_letters.ensures.past c.since-name.ensures)
-    (λ y. absurd (filled c.since-name.result.now (sym c.is_empty.ensures ∙ c.if-is_empty.false) y.1))
-    (λ y. (
+    (λ y. absurd (filled c.since-name.result.now (sym c.is_empty.ensures ∙ c.if-is_empty.false) y.1)) (λ y. (
       some_injective c.in-Some.look l (sym c.in-Some.ensures.some ∙ y.2),
       (let r = sym (c.take-2.ensures.read c.if-not-take-2.false) ∙ y.1 in (cc)),
     ))

@@ -1,5 +1,4 @@
-use Rattle.std.proofs.Common.{◌∷◌, ◌∙◌, ap, rules, slice_get, subst, sym}
-use Rattle.determinize_syntax.specs.Private.Reading.{IsEscape, Part, rest}
+use Rattle.determinize_syntax.proofs.Common.{◌∙◌, ◌∷◌, IsEscape, Part, ap, rest, rules, slice_get, subst, sym}
 use Rattle.determinize_syntax.specs.declared.escape.Escape.TheVariants.{Wide}
 use Rattle.determinize_syntax.proofs.Hexes.{braced_read, braces_next, numbered_byte, numbered_wide, wide_read}
 use Rattle.determinize_syntax.proofs.Numbers.{past_brace, some_digit}

@@ -1,6 +1,4 @@
-use Rattle.std.proofs.Common.{◌≡◌, ◌<◌, ◌∙◌, ap, arith, refl, sym, true}
-use Rattle.std.specs.Char.{digit_value, is_digit}
-use Rattle.determinize_syntax.specs.Private.Reading.{IsDigit}
+use Rattle.determinize_syntax.proofs.Common.{◌<◌, ◌∙◌, ◌≡◌, IsDigit, ap, arith, digit_value, is_digit, refl, sym, true}
 use Rattle.determinize_syntax.proofs.Parts.{took}
 use Rattle.determinize_syntax.proofs.escape.hex_digit.Goals as goal
 

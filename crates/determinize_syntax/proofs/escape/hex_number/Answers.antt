@@ -1,4 +1,4 @@
-use Rattle.std.proofs.Common.{◌∷◌, ap, arith, refl, slice_get}
+use Rattle.determinize_syntax.proofs.Common.{◌∷◌, ap, arith, refl, slice_get}
 use Rattle.determinize_syntax.proofs.Numbers.{begun, digits_grown, ended, grown, next_digit, number_begun, past_brace}
 use Rattle.determinize_syntax.proofs.escape.hex_number.Goals as goal
 

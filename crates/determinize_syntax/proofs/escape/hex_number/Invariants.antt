@@ -1,7 +1,4 @@
-use Rattle.std.proofs.Common.{◌≡◌, ◌∷◌, Some, length, ℕ}
-use Rattle.determinize_syntax.specs.Private.Reading.{IsDigits, Part, Reads, rest}
-use Rattle.determinize_syntax.specs.Spells.{Bytes}
-use Rattle.determinize_syntax.specs.Words.{number}
+use Rattle.determinize_syntax.proofs.Common.{◌∷◌, ◌≡◌, Bytes, IsDigits, Part, Reads, Some, length, number, rest, ℕ}
 use Rattle.determinize_syntax.proofs.Numbers.{Left}
 use Rattle.determinize_syntax.proofs.escape.hex_number.Given as goal
 

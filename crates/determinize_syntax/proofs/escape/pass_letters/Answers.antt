@@ -1,5 +1,4 @@
-use Rattle.std.proofs.Common.{◌∙◌, sym}
-use Rattle.determinize_syntax.specs.Private.Following.{is_in_boundary}
+use Rattle.determinize_syntax.proofs.Common.{◌∙◌, is_in_boundary, sym}
 use Rattle.determinize_syntax.proofs.Munch.{All, all_more}
 use Rattle.determinize_syntax.proofs.Parts.{closed}
 use Rattle.determinize_syntax.proofs.escape.pass_letters.Goals as goal

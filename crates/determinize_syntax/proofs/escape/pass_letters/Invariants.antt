@@ -1,7 +1,4 @@
-use Rattle.std.proofs.Common.{◌≡◌, length, true}
-use Rattle.std.specs.List.{list_all}
-use Rattle.determinize_syntax.specs.Private.Following.{is_in_boundary}
-use Rattle.determinize_syntax.specs.Private.Reading.{Reads, rest}
+use Rattle.determinize_syntax.proofs.Common.{◌≡◌, Reads, is_in_boundary, length, list_all, rest, true}
 use Rattle.determinize_syntax.proofs.escape.pass_letters.Given as goal
 
 abbrev pub invariant-loop-next : goal.invariant-loop-next

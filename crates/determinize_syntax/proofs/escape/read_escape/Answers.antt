@@ -1,5 +1,4 @@
-use Rattle.std.proofs.Common.{◌∷◌, ◌∙◌, Some, ap, refl, rules, slice_get, sym}
-use Rattle.determinize_syntax.specs.Private.Reading.{IsEscape, rest}
+use Rattle.determinize_syntax.proofs.Common.{◌∙◌, ◌∷◌, IsEscape, Some, ap, refl, rest, rules, slice_get, sym}
 use Rattle.determinize_syntax.proofs.Bytes.{at_end, front_of}
 use Rattle.determinize_syntax.proofs.Escapes.{boundary_next, no_escape, number_next, one_escape, one_next, other_escape}
 use Rattle.determinize_syntax.proofs.Parts.{ok_then, prefixed, renamed, took}

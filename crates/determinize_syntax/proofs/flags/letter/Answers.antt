@@ -1,4 +1,4 @@
-use Rattle.std.proofs.Common.{◌∙◌, refl, sym}
+use Rattle.determinize_syntax.proofs.Common.{◌∙◌, refl, sym}
 use Rattle.determinize_syntax.specs.Private.Reading.{IsFlag}
 use Rattle.determinize_syntax.proofs.Parts.{took}
 use Rattle.determinize_syntax.proofs.flags.letter.Goals as goal

@@ -1,7 +1,5 @@
-use Rattle.std.proofs.Common.{◌≡◌, ◌++◌, ◌∙◌, [], ap, refl, rules, subst, sym}
-use Rattle.std.proofs.lemmas.List.{append_assoc}
-use Rattle.determinize_syntax.specs.Private.Letters.{Letters}
-use Rattle.determinize_syntax.specs.Private.Reading.{rest}
+use Rattle.determinize_syntax.proofs.Common.{◌++◌, ◌∙◌, ◌≡◌, Letters, [], ap, append_assoc, refl, rest, rules, subst}
+use Rattle.determinize_syntax.proofs.Common.{sym}
 use Rattle.determinize_syntax.specs.Spells.{no_letter}
 use Rattle.determinize_syntax.proofs.Bytes.{at_end}
 use Rattle.determinize_syntax.proofs.Flagging.{after_here, letters_end, letters_none, not_after}
@@ -32,13 +30,11 @@ loop-cursor-preserved c = (
 pub returns-in_err-flags-clause-whole : goal.returns-in_err-flags-clause-whole
 returns-in_err-flags-clause-whole c g u h after =
     let b = c.loop-cursor.invariant.1 g u h after in
-    search (
-      rules,
-      c.in_err-flags.ensures.whole g u (subst (λ s. Letters g u s c.loop-cursor.on c.loop-cursor.flags
-          (rest c.loop-cursor.cursor)) (sym (c.since-seen.ensures b.0 b.1)) b.2) after
-          (not_after (rest c.loop-cursor.cursor) c.in-Some.field-0 (sym c.peek.ensures ∙ c.in-Some.is)
-          (search (c.in-Some.field-0-test))),
-    )
+    let limit = c.in_err-flags.ensures.whole g u (subst (λ s. Letters g u s c.loop-cursor.on c.loop-cursor.flags
+    (rest c.loop-cursor.cursor)) (sym (c.since-seen.ensures b.0 b.1)) b.2) after
+    (not_after (rest c.loop-cursor.cursor) c.in-Some.field-0 (sym c.peek.ensures ∙ c.in-Some.is)
+    (search (c.in-Some.field-0-test))) in
+    search (rules, limit)
 
 pub returns-clause-whole : goal.returns-clause-whole
 returns-clause-whole c g u h after =

@@ -1,9 +1,5 @@
-use Rattle.std.proofs.Common.{[], length, true}
-use Rattle.determinize_syntax.specs.Private.Reading.{Reads, rest}
+use Rattle.determinize_syntax.proofs.Common.{Bytes, Flags, Letters, Reads, Sets, [], length, rest, true}
 use Rattle.determinize_syntax.specs.Private.Following.{IsAfterLetters}
-use Rattle.determinize_syntax.specs.Private.Letters.{Letters}
-use Rattle.determinize_syntax.specs.Spells.{Bytes, Sets}
-use Rattle.determinize_syntax.specs.declared.flags.Flags.{Flags}
 use Rattle.determinize_syntax.proofs.flags.letters.Given as goal
 
 abbrev pub invariant-loop-cursor : goal.invariant-loop-cursor

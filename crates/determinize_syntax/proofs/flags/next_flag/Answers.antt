@@ -1,5 +1,4 @@
-use Rattle.std.proofs.Common.{◌∷◌, ◌∙◌, [], ap, rules, sym}
-use Rattle.determinize_syntax.specs.Private.Reading.{rest}
+use Rattle.determinize_syntax.proofs.Common.{◌∙◌, ◌∷◌, [], ap, rest, rules, sym}
 use Rattle.determinize_syntax.proofs.Flagging.{one_cleared, one_letter}
 use Rattle.determinize_syntax.proofs.Parts.{cleared_read, letter_read}
 use Rattle.determinize_syntax.proofs.flags.next_flag.Goals as goal
@@ -22,10 +21,9 @@ pub returns-in_err-set-clause-whole : goal.returns-in_err-set-clause-whole
 returns-in_err-set-clause-whole c g u h after other =
     let y = one_letter g u c.args.seen.now c.args.on c.args.flags _ h (λ e. other (rw e after))
     (c.take.ensures.other c.if-not-take.true) in
-    search (
-      rules,
-      c.in_err-set.ensures.whole y.0 y.2 y.1 (ap rest (c.take.ensures.left c.if-not-take.true) ∙ y.3) y.4 y.5,
-    )
+    let limit = c.in_err-set.ensures.whole y.0 y.2 y.1 (ap rest (c.take.ensures.left c.if-not-take.true) ∙ y.3) y.4 y.5
+    in
+    search (rules, limit)
 
 pub returns-then-not-take-clause-whole : goal.returns-then-not-take-clause-whole
 returns-then-not-take-clause-whole c g u h after other =

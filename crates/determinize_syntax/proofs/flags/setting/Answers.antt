@@ -1,6 +1,4 @@
-use Rattle.std.proofs.Common.{◌∷◌, ◌∙◌, ap, arith, inr, not, refl, rules, slice_get, sym}
-use Rattle.ordered_reach.proofs.Cases.{by_cases}
-use Rattle.determinize_syntax.specs.Private.Reading.{rest}
+use Rattle.determinize_syntax.proofs.Common.{◌∙◌, ◌∷◌, ap, arith, by_cases, inr, not, refl, rest, rules, slice_get, sym}
 use Rattle.determinize_syntax.proofs.Bytes.{at_end, heads, tails}
 use Rattle.determinize_syntax.proofs.Flagging.{next_setting, no_setting, other_setting, set_or_group, setting_closed}
 use Rattle.determinize_syntax.proofs.Flagging.{setting_none}
@@ -65,8 +63,7 @@ returns-then-not-take-3-clause-whole c k h =
     by_cases (set_or_group k c.args.flags _ (next_setting k c.args.flags _ (rw e at h))
     (c.begins_other.ensures.other c.if-begins_other.false) (c.begins_other.ensures.unnamed c.if-begins_other.false))
     (λ x. absurd (c.take-3.ensures.other c.if-not-take-3.true (ap (λ y. slice_get y 0) (c.in_ok-set.ensures.whole x.0
-    (0x29 ∷ x.1) (rw (c.take-2.ensures.left c.if-take.false) x.2) (0x29, x.1, refl, refl)).1)))
-    (λ x. inr (rw e x.3))
+    (0x29 ∷ x.1) (rw (c.take-2.ensures.left c.if-take.false) x.2) (0x29, x.1, refl, refl)).1))) (λ x. inr (rw e x.3))
 
 pub returns-clause-whole : goal.returns-clause-whole
 returns-clause-whole c k h =

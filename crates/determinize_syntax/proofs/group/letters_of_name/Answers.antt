@@ -1,6 +1,4 @@
-use Rattle.std.proofs.Common.{◌≡◌, ◌∙◌, sym, true}
-use Rattle.ordered_reach.proofs.Cases.{some_injective}
-use Rattle.determinize_syntax.specs.Words.{is_name}
+use Rattle.determinize_syntax.proofs.Common.{◌∙◌, ◌≡◌, is_name, some_injective, sym, true}
 use Rattle.determinize_syntax.proofs.Munch.{names_same}
 use Rattle.determinize_syntax.proofs.Parts.{closed, name_begun, name_more, took}
 use Rattle.determinize_syntax.proofs.group.letters_of_name.Goals as goal

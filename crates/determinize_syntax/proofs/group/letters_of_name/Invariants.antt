@@ -1,6 +1,4 @@
-use Rattle.std.proofs.Common.{◌≡◌, length, true}
-use Rattle.determinize_syntax.specs.Private.Reading.{Reads, rest}
-use Rattle.determinize_syntax.specs.Words.{is_name}
+use Rattle.determinize_syntax.proofs.Common.{◌≡◌, Reads, is_name, length, rest, true}
 use Rattle.determinize_syntax.proofs.group.letters_of_name.Given as goal
 
 abbrev pub invariant-loop-next : goal.invariant-loop-next

@@ -1,8 +1,7 @@
-use Rattle.std.proofs.Common.{◌≡◌, ◌++◌, ◌∷◌, ◌∙◌, ap, refl, rules, slice_get, sym, true}
+use Rattle.determinize_syntax.proofs.Common.{◌++◌, ◌∙◌, ◌∷◌, ◌≡◌, Passes, ap, is_name, refl, rest, rules, slice_get}
+use Rattle.determinize_syntax.proofs.Common.{sym, true}
 use Rattle.determinize_syntax.specs.Limits.{bracketed}
-use Rattle.determinize_syntax.specs.Private.Names.{Passes}
-use Rattle.determinize_syntax.specs.Private.Reading.{IsNamed, rest}
-use Rattle.determinize_syntax.specs.Words.{is_name}
+use Rattle.determinize_syntax.specs.Private.Reading.{IsNamed}
 use Rattle.determinize_syntax.specs.declared.error.ErrorKind.TheVariants.{GroupNameDuplicate, NestLimitExceeded}
 use Rattle.determinize_syntax.proofs.Bytes.{tails}
 use Rattle.determinize_syntax.proofs.Limits.{name_added, name_twice, passes_byte, passes_none, passes_part, read_name}

@@ -1,10 +1,7 @@
-use Rattle.std.proofs.Common.{◌∷◌, ◌∙◌, [], ap, refl, rules, slice_get, sym}
-use Rattle.std.specs.Prelude.{codes}
-use Rattle.determinize_syntax.specs.Private.Reading.{rest}
-use Rattle.determinize_syntax.specs.Words.{◌∈◌}
+use Rattle.determinize_syntax.proofs.Common.{◌∈◌, ◌∙◌, ◌∷◌, [], ap, codes, refl, rest, rules, slice_get, sym}
 use Rattle.determinize_syntax.proofs.Bytes.{tails, within}
-use Rattle.determinize_syntax.proofs.Flagging.{capture_next, opening_flags, opening_named, opening_named_p, opening_next}
-use Rattle.determinize_syntax.proofs.Flagging.{opening_sign}
+use Rattle.determinize_syntax.proofs.Flagging.{capture_next, opening_flags, opening_named, opening_named_p}
+use Rattle.determinize_syntax.proofs.Flagging.{opening_next, opening_sign}
 use Rattle.determinize_syntax.proofs.Limits.{passes_byte, passes_none, passes_part, passes_then, right_after}
 use Rattle.determinize_syntax.proofs.Munch.{name_sign}
 use Rattle.determinize_syntax.proofs.Parts.{flags_read, named_p_read, named_read, opens_capture}
@@ -27,11 +24,9 @@ returns-then-take-2-clause-read c = named_read c.args.flags (c.take.ensures.read
 pub returns-clause-read : goal.returns-clause-read
 returns-clause-read c =
     flags_read c.args.flags c.in_ok-flags.flags (c.take.ensures.read c.if-not-take.false)
-    (rw (
-      c.looks_around-2.ensures.left c.if-looks_around-2.false,
-      c.take-3.ensures.left c.if-take-2.false,
-      c.take-2.ensures.left c.if-take.false,
-    ) at c.in_ok-flags.ensures.read) (c.take-4.ensures.read c.if-not-take-3.false)
+    (rw (c.looks_around-2.ensures.left c.if-looks_around-2.false ∙ c.take-3.ensures.left c.if-take-2.false
+    ∙ c.take-2.ensures.left c.if-take.false) at c.in_ok-flags.ensures.read)
+    (c.take-4.ensures.read c.if-not-take-3.false)
 
 pub returns-then-not-take-clause-whole : goal.returns-then-not-take-clause-whole
 returns-then-not-take-clause-whole c k h =
@@ -44,8 +39,7 @@ returns-then-take-clause-whole c k h =
     (rw (c.take.ensures.read c.if-not-take.false, c.take-2.ensures.read c.if-take.true) at h)) in
     let n = p.2 in
     rw (c.in_ok-name.ensures.whole n.0 n.1 (tails (sym (c.take-then-take.ensures.read c.if-not-take-2.false) ∙ p.1)
-    ∙ n.2)
-    n.3) n.4
+    ∙ n.2) n.3) n.4
 
 pub returns-then-not-take-2-clause-whole : goal.returns-then-not-take-2-clause-whole
 returns-then-not-take-2-clause-whole c k h =
@@ -58,17 +52,17 @@ returns-in_err-name-clause-whole c k h =
     let p = opening_named_p k c.args.flags _ (opening_next k c.args.flags _
     (rw (c.take.ensures.read c.if-not-take.false, c.take-2.ensures.read c.if-take.true) at h)) in
     let n = p.2 in
-    search (
-      rules,
-      c.in_err-name.ensures.whole n.0 n.1
-          (tails (sym (c.take-then-take.ensures.read c.if-not-take-2.false) ∙ p.1) ∙ n.2) n.3,
-    )
+    let limit = c.in_err-name.ensures.whole n.0 n.1 (tails (sym (c.take-then-take.ensures.read c.if-not-take-2.false)
+    ∙ p.1) ∙ n.2) n.3 in
+    search (rules, limit)
 
 pub returns-then-looks_around-clause-whole : goal.returns-then-looks_around-clause-whole
 returns-then-looks_around-clause-whole c k h =
-    let n = opening_named k c.args.flags _ (opening_next k c.args.flags _ (rw (
+    let n = opening_named k c.args.flags _ (opening_next k c.args.flags _
+    (rw (
       c.take.ensures.read c.if-not-take.false,
-      ap rest (sym (c.take-2.ensures.left c.if-take.false)) ∙ c.take-3.ensures.read c.if-take-2.true,
+      ap rest (sym (c.take-2.ensures.left c.if-take.false))
+          ∙ c.take-3.ensures.read c.if-take-2.true,
     ) at h)) in
     let s = c.looks_around.ensures.begun c.if-looks_around.true in
     name_sign n.0 (0x3E ∷ n.1) (rest c.take-3.new.self) n.3 n.2 s.0 s.1 s.2
@@ -76,21 +70,23 @@ returns-then-looks_around-clause-whole c k h =
 
 pub returns-in_err-name-2-clause-whole : goal.returns-in_err-name-2-clause-whole
 returns-in_err-name-2-clause-whole c k h =
-    let n = opening_named k c.args.flags _ (opening_next k c.args.flags _ (rw (
+    let n = opening_named k c.args.flags _ (opening_next k c.args.flags _
+    (rw (
       c.take.ensures.read c.if-not-take.false,
-      ap rest (sym (c.take-2.ensures.left c.if-take.false)) ∙ c.take-3.ensures.read c.if-take-2.true,
+      ap rest (sym (c.take-2.ensures.left c.if-take.false))
+          ∙ c.take-3.ensures.read c.if-take-2.true,
     ) at h)) in
-    search (
-      rules,
-      c.in_err-name-2.ensures.whole n.0 n.1
-          (ap rest (c.looks_around.ensures.left c.if-looks_around.false) ∙ n.2) n.3,
-    )
+    let limit = c.in_err-name-2.ensures.whole n.0 n.1 (ap rest (c.looks_around.ensures.left c.if-looks_around.false)
+    ∙ n.2) n.3 in
+    search (rules, limit)
 
 pub returns-then-take-2-clause-whole : goal.returns-then-take-2-clause-whole
 returns-then-take-2-clause-whole c k h =
-    let n = opening_named k c.args.flags _ (opening_next k c.args.flags _ (rw (
+    let n = opening_named k c.args.flags _ (opening_next k c.args.flags _
+    (rw (
       c.take.ensures.read c.if-not-take.false,
-      ap rest (sym (c.take-2.ensures.left c.if-take.false)) ∙ c.take-3.ensures.read c.if-take-2.true,
+      ap rest (sym (c.take-2.ensures.left c.if-take.false))
+          ∙ c.take-3.ensures.read c.if-take-2.true,
     ) at h)) in
     rw (c.in_ok-name-2.ensures.whole n.0 n.1
     (ap rest (c.looks_around.ensures.left c.if-looks_around.false) ∙ n.2) n.3) n.4
@@ -109,15 +105,10 @@ returns-in_err-flags-clause-whole c k h =
     (rw (c.take.ensures.read c.if-not-take.false) at h))
     (rw (c.take-2.ensures.left c.if-take.false) at (c.take-3.ensures.other c.if-take-2.false))
     (λ v e. c.take-2.ensures.other c.if-take.false (ap (λ l. slice_get l 0) e)) in
-    search (
-      rules,
-      c.in_err-flags.ensures.whole x.0 (0x3A ∷ x.1)
-          (rw (
-            c.looks_around-2.ensures.left c.if-looks_around-2.false,
-            c.take-3.ensures.left c.if-take-2.false,
-            c.take-2.ensures.left c.if-take.false,
-          ) x.2) (0x3A, x.1, refl, refl),
-    )
+    let limit = c.in_err-flags.ensures.whole x.0 (0x3A ∷ x.1)
+    (rw (c.looks_around-2.ensures.left c.if-looks_around-2.false ∙ c.take-3.ensures.left c.if-take-2.false
+    ∙ c.take-2.ensures.left c.if-take.false) x.2) (0x3A, x.1, refl, refl) in
+    search (rules, limit)
 
 pub returns-then-not-take-3-clause-whole : goal.returns-then-not-take-3-clause-whole
 returns-then-not-take-3-clause-whole c k h =
@@ -126,11 +117,8 @@ returns-then-not-take-3-clause-whole c k h =
     (rw (c.take-2.ensures.left c.if-take.false) at (c.take-3.ensures.other c.if-take-2.false))
     (λ v e. c.take-2.ensures.other c.if-take.false (ap (λ l. slice_get l 0) e)) in
     let y = c.in_ok-flags.ensures.whole x.0 (0x3A ∷ x.1)
-    (rw (
-      c.looks_around-2.ensures.left c.if-looks_around-2.false,
-      c.take-3.ensures.left c.if-take-2.false,
-      c.take-2.ensures.left c.if-take.false,
-    ) x.2) (0x3A, x.1, refl, refl) in
+    (rw (c.looks_around-2.ensures.left c.if-looks_around-2.false ∙ c.take-3.ensures.left c.if-take-2.false
+    ∙ c.take-2.ensures.left c.if-take.false) x.2) (0x3A, x.1, refl, refl) in
     absurd (c.take-4.ensures.other c.if-not-take-3.true (ap (λ l. slice_get l 0) y.1))
 
 pub returns-clause-whole : goal.returns-clause-whole
@@ -140,11 +128,8 @@ returns-clause-whole c k h =
     (rw (c.take-2.ensures.left c.if-take.false) at (c.take-3.ensures.other c.if-take-2.false))
     (λ v e. c.take-2.ensures.other c.if-take.false (ap (λ l. slice_get l 0) e)) in
     let y = c.in_ok-flags.ensures.whole x.0 (0x3A ∷ x.1)
-    (rw (
-      c.looks_around-2.ensures.left c.if-looks_around-2.false,
-      c.take-3.ensures.left c.if-take-2.false,
-      c.take-2.ensures.left c.if-take.false,
-    ) x.2) (0x3A, x.1, refl, refl) in
+    (rw (c.looks_around-2.ensures.left c.if-looks_around-2.false ∙ c.take-3.ensures.left c.if-take-2.false
+    ∙ c.take-2.ensures.left c.if-take.false) x.2) (0x3A, x.1, refl, refl) in
     rw (y.0, tails (sym (c.take-4.ensures.read c.if-not-take-3.false) ∙ y.1)) x.3
 
 pub returns-then-not-take-clause-limits : goal.returns-then-not-take-clause-limits
@@ -154,30 +139,25 @@ pub returns-in_err-name-clause-limits : goal.returns-in_err-name-clause-limits
 returns-in_err-name-clause-limits c levels =
     let before = passes_byte 0x50 (passes_byte 0x3F (passes_none c.args.context.now (rest c.args.cursor.now))
     (c.take.ensures.read c.if-not-take.false)) (c.take-2.ensures.read c.if-take.true) in
-    search (
-      rules,
-      right_after (rw (c.take-then-take.ensures.read c.if-not-take-2.false) at before)
-          (c.in_err-name.ensures.limits levels),
-    )
+    let limit = right_after (rw (c.take-then-take.ensures.read c.if-not-take-2.false) at before)
+    (c.in_err-name.ensures.limits levels) in
+    search (rules, limit)
 
 pub returns-then-take-clause-limits : goal.returns-then-take-clause-limits
 returns-then-take-clause-limits c levels =
     let before = passes_byte 0x50 (passes_byte 0x3F (passes_none c.args.context.now (rest c.args.cursor.now))
     (c.take.ensures.read c.if-not-take.false)) (c.take-2.ensures.read c.if-take.true) in
     passes_then (rw (c.take-then-take.ensures.read c.if-not-take-2.false) at before)
-    (c.in_ok-name.ensures.limits levels)
-    refl
+    (c.in_ok-name.ensures.limits levels) refl
 
 pub returns-in_err-name-2-clause-limits : goal.returns-in_err-name-2-clause-limits
 returns-in_err-name-2-clause-limits c levels =
     let before = passes_byte 0x3F (passes_none c.args.context.now (rest c.args.cursor.now))
     (c.take.ensures.read c.if-not-take.false) in
     let there = ap rest (sym (c.take-2.ensures.left c.if-take.false)) ∙ c.take-3.ensures.read c.if-take-2.true in
-    search (
-      rules,
-      right_after (rw there at before)
-          (rw (c.looks_around.ensures.left c.if-looks_around.false) at (c.in_err-name-2.ensures.limits levels)),
-    )
+    let limit = right_after (rw there at before) (rw (c.looks_around.ensures.left c.if-looks_around.false) at
+    (c.in_err-name-2.ensures.limits levels)) in
+    search (rules, limit)
 
 pub returns-then-take-2-clause-limits : goal.returns-then-take-2-clause-limits
 returns-then-take-2-clause-limits c levels =
@@ -190,8 +170,6 @@ returns-then-take-2-clause-limits c levels =
 pub returns-clause-limits : goal.returns-clause-limits
 returns-clause-limits c levels =
     passes_byte 0x3A (passes_part (passes_byte 0x3F (passes_none _ _) (c.take.ensures.read c.if-not-take.false))
-    (rw (
-      c.looks_around-2.ensures.left c.if-looks_around-2.false,
-      c.take-3.ensures.left c.if-take-2.false,
-      c.take-2.ensures.left c.if-take.false,
-    ) at c.in_ok-flags.ensures.read)) (c.take-4.ensures.read c.if-not-take-3.false)
+    (rw (c.looks_around-2.ensures.left c.if-looks_around-2.false ∙ c.take-3.ensures.left c.if-take-2.false
+    ∙ c.take-2.ensures.left c.if-take.false) at c.in_ok-flags.ensures.read))
+    (c.take-4.ensures.read c.if-not-take-3.false)

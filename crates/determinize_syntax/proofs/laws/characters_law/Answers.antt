@@ -1,4 +1,4 @@
-use Rattle.std.proofs.Common.{refl}
+use Rattle.determinize_syntax.proofs.Common.{refl}
 use Rattle.determinize_syntax.proofs.Unicode.{choice_reads_characters}
 use Rattle.determinize_syntax.proofs.laws.characters_law.Goals as goal
 

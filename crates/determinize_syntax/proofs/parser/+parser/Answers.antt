@@ -1,12 +1,11 @@
-use Rattle.std.proofs.Common.{◌≡◌, ◌<◌, ◌≤◌, ◌∷◌, ◌∙◌, [], arith, ap, false, length, map, refl, rules}
-use Rattle.ordered_reach.proofs.Cases.{by_cases}
-use Rattle.determinize_pattern.specs.Patterns.{meaning, repeated}
-use Rattle.determinize_syntax.specs.Private.Following.{FromAtom}
-use Rattle.determinize_syntax.specs.Private.Reading.{IsSetting, Reads, rest}
-use Rattle.determinize_syntax.specs.Spells.{Atom, Operator, no_branch, no_item, once}
+use Rattle.determinize_syntax.proofs.Common.{◌<◌, ◌∙◌, ◌∷◌, ◌≡◌, ◌≤◌, Atom, FromAtom, Operator, Reads, [], ap, arith}
+use Rattle.determinize_syntax.proofs.Common.{by_cases, false, length, map, meaning, refl, rest, rules}
+use Rattle.determinize_pattern.specs.Patterns.{repeated}
+use Rattle.determinize_syntax.specs.Private.Reading.{IsSetting}
+use Rattle.determinize_syntax.specs.Spells.{no_branch, no_item, once}
 use Rattle.determinize_syntax.proofs.Limits.{deep_right, group_right, local_limits, local_right, maybe, one_more}
-use Rattle.determinize_syntax.proofs.Limits.{operator_left, passes_as, passes_byte, passes_none}
-use Rattle.determinize_syntax.proofs.Limits.{passes_operator, passes_part, passes_then, passes_whole, right_after}
+use Rattle.determinize_syntax.proofs.Limits.{operator_left, passes_as, passes_byte, passes_none, passes_operator}
+use Rattle.determinize_syntax.proofs.Limits.{passes_part, passes_then, passes_whole, right_after}
 use Rattle.determinize_syntax.proofs.Parts.{again_read, branch_read, choice_read, group_read, item_read, renamed}
 use Rattle.determinize_syntax.proofs.Parts.{set_read, shorter}
 use Rattle.determinize_syntax.proofs.Stepping.{at_bar, group_closed, group_unclosed, operator_taken, stop_is_end}
@@ -95,11 +94,9 @@ items-returns-in_err-set-clause-whole t c k h =
 
 pub items-returns-in_err-set-clause-limits : goal.items-returns-in_err-set-clause-limits
 items-returns-in_err-set-clause-limits t c =
-    search (
-      rules,
-      local_right c.args.levels c.args.context.now (rest c.args.cursor.now) c.in_err-set.field-0.0
-          c.in_err-set.ensures.local,
-    )
+    let limit = local_right c.args.levels c.args.context.now (rest c.args.cursor.now) c.in_err-set.field-0.0
+    c.in_err-set.ensures.local in
+    search (rules, limit)
 
 pub items-returns-in_err-item-clause-whole : goal.items-returns-in_err-item-clause-whole
 items-returns-in_err-item-clause-whole t c k h =
@@ -163,11 +160,9 @@ repeated-returns-in_err-bounds-clause-whole t c k h =
 
 pub repeated-returns-in_err-bounds-clause-limits : goal.repeated-returns-in_err-bounds-clause-limits
 repeated-returns-in_err-bounds-clause-limits t c =
-    search (
-      rules,
-      local_right c.args.levels c.args.context.now (rest c.args.cursor.now) c.in_err-bounds.field-0.0
-          c.in_err-bounds.ensures.local,
-    )
+    let limit = local_right c.args.levels c.args.context.now (rest c.args.cursor.now) c.in_err-bounds.field-0.0
+    c.in_err-bounds.ensures.local in
+    search (rules, limit)
 
 pub repeated-returns-then-context-ge-NEST_LIMIT-clause-limits :
     goal.repeated-returns-then-context-ge-NEST_LIMIT-clause-limits
@@ -206,14 +201,10 @@ atom-returns-clause-limits t c =
     c.single.ensures.read c.single.ensures.local (λ text h. h))
 
 -- a group
-pub group-returns-then-opening-clause-read : goal.group-returns-then-opening-clause-read
-group-returns-then-opening-clause-read t c =
-    rw c.in_ok-capture.ensures (group_read c.args.flags c.in_ok-opening.opening.flags (meaning c.in_ok-sub.sub)
-    c.in_ok-opening.ensures.read c.in_ok-sub.ensures.read (c.take.ensures.read c.if-not-take.false))
-
 pub group-returns-clause-read : goal.group-returns-clause-read
-group-returns-clause-read t c = group_read c.args.flags c.in_ok-opening.opening.flags (meaning c.in_ok-sub.sub)
-    c.in_ok-opening.ensures.read c.in_ok-sub.ensures.read (c.take.ensures.read c.if-not-take.false)
+group-returns-clause-read t c =
+    rw c.in_ok-grouped.ensures (group_read c.args.flags c.in_ok-opening.opening.flags (meaning c.in_ok-sub.sub)
+    c.in_ok-opening.ensures.read c.in_ok-sub.ensures.read (c.take.ensures.read c.if-not-take.false))
 
 pub group-returns-then-not-take-clause-whole : goal.group-returns-then-not-take-clause-whole
 group-returns-then-not-take-clause-whole t c k h =
@@ -224,11 +215,6 @@ pub group-returns-in_err-sub-clause-whole : goal.group-returns-in_err-sub-clause
 group-returns-in_err-sub-clause-whole t c k h =
     search (rules, c.in_err-sub.ensures.whole (c.args.flags ∷ k) (c.in_ok-opening.ensures.whole k h))
 
-pub group-returns-then-opening-clause-whole : goal.group-returns-then-opening-clause-whole
-group-returns-then-opening-clause-whole t c k h =
-    let x = c.in_ok-sub.ensures.whole (c.args.flags ∷ k) (c.in_ok-opening.ensures.whole k h) in
-    group_closed k c.args.flags x.0 _ (rw (c.take.ensures.read c.if-not-take.false) at x.1)
-
 pub group-returns-clause-whole : goal.group-returns-clause-whole
 group-returns-clause-whole t c k h =
     let x = c.in_ok-sub.ensures.whole (c.args.flags ∷ k) (c.in_ok-opening.ensures.whole k h) in
@@ -236,11 +222,9 @@ group-returns-clause-whole t c k h =
 
 pub group-returns-in_err-opening-clause-limits : goal.group-returns-in_err-opening-clause-limits
 group-returns-in_err-opening-clause-limits t c =
-    search (
-      rules,
-      right_after (passes_byte 0x28 (passes_none c.args.context.now (0x28 ∷ rest c.args.cursor.now)) refl)
-          (c.in_err-opening.ensures.limits c.args.levels),
-    )
+    let limit = right_after (passes_byte 0x28 (passes_none c.args.context.now (0x28 ∷ rest c.args.cursor.now)) refl)
+    (c.in_err-opening.ensures.limits c.args.levels) in
+    search (rules, limit)
 
 pub group-returns-then-levels-eq0-clause-limits : goal.group-returns-then-levels-eq0-clause-limits
 group-returns-then-levels-eq0-clause-limits t c =
@@ -255,11 +239,6 @@ group-returns-then-context-ge-NEST_LIMIT-clause-limits t c =
     deep_right c.at-then-context-ge-NEST_LIMIT.ensures (λ few. (let opening = (c.in_ok-opening.ensures.limits 0).deep in
     let sub = c.in_ok-sub.ensures.limits.deep in
     omega (arith, few, opening, sub, c.if-context-ge-NEST_LIMIT.true, one_more 0x28 (rest c.args.cursor.now) refl)))
-
-pub group-returns-then-opening-clause-limits : goal.group-returns-then-opening-clause-limits
-group-returns-then-opening-clause-limits t c = passes_whole (c.in_ok-opening.ensures.limits 0)
-    c.in_ok-sub.ensures.limits
-    (c.take.ensures.read c.if-not-take.false) (λ text h. h)
 
 pub group-returns-clause-limits : goal.group-returns-clause-limits
 group-returns-clause-limits t c = passes_whole (c.in_ok-opening.ensures.limits 0) c.in_ok-sub.ensures.limits

@@ -1,10 +1,8 @@
-use Rattle.std.proofs.Common.{◌≡◌, ◌<◌, Bool, List, true, ◌+◌, ◌*◌, length, map}
-use Rattle.determinize_pattern.specs.Patterns.{meaning}
-use Rattle.determinize_syntax.specs.Private.Names.{Passes}
-use Rattle.determinize_syntax.specs.Private.Following.{FromAtom, FromItem, FromOperator}
-use Rattle.determinize_syntax.specs.Private.Reading.{IsNotAt, Reads, rest}
-use Rattle.determinize_syntax.specs.Spells.{Branches, Items, Repeated}
-use Rattle.determinize_syntax.specs.declared.flags.Flags.{Flags}
+use Rattle.determinize_syntax.proofs.Common.{◌*◌, ◌+◌, ◌<◌, ◌≡◌, Bool, Branches, Flags, FromAtom, FromItem}
+use Rattle.determinize_syntax.proofs.Common.{FromOperator, List, Passes, Reads, Repeated, length, map, meaning, rest}
+use Rattle.determinize_syntax.proofs.Common.{true}
+use Rattle.determinize_syntax.specs.Private.Reading.{IsNotAt}
+use Rattle.determinize_syntax.specs.Spells.{Items}
 use Rattle.determinize_syntax.proofs.parser.+parser.Given as goal
 
 abbrev pub decreases-choice : goal.decreases-choice

@@ -1,12 +1,6 @@
-use Rattle.std.proofs.Common.{◌≡◌, ◌&&◌, ◌∙◌, ap, false, not, refl, sym, true}
-use Rattle.std.specs.Prelude.{codes, encode_utf8}
-use Rattle.std.specs.Char.{is_ascii}
-use Rattle.std.proofs.lemmas.Str.{encode_same}
-use Rattle.ordered_reach.proofs.Cases.{by_cases}
-use Rattle.determinize_pattern.specs.Patterns.{meaning}
-use Rattle.determinize_syntax.specs.Private.Reading.{rest}
-use Rattle.determinize_syntax.specs.Spells.{Atom, character, itself, plain}
-use Rattle.determinize_syntax.specs.Words.{◌∈◌}
+use Rattle.determinize_syntax.proofs.Common.{◌&&◌, ◌∈◌, ◌∙◌, ◌≡◌, Atom, ap, by_cases, codes, encode_same, encode_utf8}
+use Rattle.determinize_syntax.proofs.Common.{false, is_ascii, meaning, not, refl, rest, sym, true}
+use Rattle.determinize_syntax.specs.Spells.{character, itself, plain}
 use Rattle.determinize_syntax.proofs.Bytes.{at_end, clash, front_of, within}
 use Rattle.determinize_syntax.proofs.Parts.{shorter_by_character, took}
 use Rattle.determinize_syntax.proofs.Stepping.{atom_some, byte_next, sign_next}
@@ -72,8 +66,7 @@ returns-in_default-take_wide-clause-whole c k h other =
     let at = sym c.peek.ensures ∙ c.in-Some.is in
     let x = front_of (rest c.args.cursor.now) c.in-Some.next at in
     by_cases (byte_next k c.args.flags c.in-Some.next x.0 (rw x.1 at h) (other c.in-Some.next at)
-    (sym c.is_sign.ensures ∙ c.if-is_sign.false)).1
-    (λ y. clash y.0 (sym c.is_ascii.ensures ∙ c.if-not-is_ascii.true))
+    (sym c.is_sign.ensures ∙ c.if-is_sign.false)).1 (λ y. clash y.0 (sym c.is_ascii.ensures ∙ c.if-not-is_ascii.true))
     (λ y. absurd (c.in_default-take_wide.ensures.other y.0 y.1 y.2.0 (x.1 ∙ y.2.2)))
 
 pub returns-then-not-is_ascii-clause-whole : goal.returns-then-not-is_ascii-clause-whole
@@ -81,8 +74,7 @@ returns-then-not-is_ascii-clause-whole c k h other =
     let at = sym c.peek.ensures ∙ c.in-Some.is in
     let x = front_of (rest c.args.cursor.now) c.in-Some.next at in
     by_cases (byte_next k c.args.flags c.in-Some.next x.0 (rw x.1 at h) (other c.in-Some.next at)
-    (sym c.is_sign.ensures ∙ c.if-is_sign.false)).1
-    (λ y. clash y.0 (sym c.is_ascii.ensures ∙ c.if-not-is_ascii.true))
+    (sym c.is_sign.ensures ∙ c.if-is_sign.false)).1 (λ y. clash y.0 (sym c.is_ascii.ensures ∙ c.if-not-is_ascii.true))
     (λ y. rw (encode_same c.in-Some-take_wide.character y.0 (rest c.take_wide.new.self) y.1
     (sym c.in-Some-take_wide.ensures.read.1 ∙ x.1 ∙ y.2.2)).1 y.3)
 

@@ -1,5 +1,4 @@
-use Rattle.std.proofs.Common.{◌∙◌, inl, sym}
-use Rattle.determinize_syntax.specs.Private.Reading.{rest}
+use Rattle.determinize_syntax.proofs.Common.{◌∙◌, inl, rest, sym}
 use Rattle.determinize_syntax.proofs.Bytes.{at_end, front_of}
 use Rattle.determinize_syntax.proofs.Stepping.{no_stop, stop_here}
 use Rattle.determinize_syntax.proofs.parser.is_branch_end.Goals as goal

@@ -1,7 +1,4 @@
-use Rattle.std.proofs.Common.{◌∷◌, ◌∙◌, [], ap, false}
-use Rattle.determinize_pattern.specs.Patterns.{meaning}
-use Rattle.determinize_syntax.specs.Spells.{IsOneOf}
-use Rattle.determinize_syntax.specs.Words.{folded, only}
+use Rattle.determinize_syntax.proofs.Common.{◌∙◌, ◌∷◌, IsOneOf, [], ap, false, folded, meaning, only}
 use Rattle.determinize_syntax.proofs.Characters.{has_one, one_of_listed}
 use Rattle.determinize_syntax.proofs.Parts.{ok_then}
 use Rattle.determinize_syntax.proofs.parser.numbered.Goals as goal
@@ -12,5 +9,4 @@ returns c =
     let b = c.args.number in
     ok_then _ (λ p. IsOneOf f.unicode (folded f (only b)) (meaning p)) c.one_of.result c.one_of.ensures
     (λ p h. one_of_listed f false (only b) (record { start = c.from-character.result; end = c.from-character.result }
-    ∷ []) (meaning p)
-    (λ n small. has_one c.from-character.result n ∙ ap (λ k. only k n) c.from-character.ensures) h)
+    ∷ []) (meaning p) (λ n small. has_one c.from-character.result n ∙ ap (λ k. only k n) c.from-character.ensures) h)

@@ -1,5 +1,4 @@
-use Rattle.std.proofs.Common.{subst, sym}
-use Rattle.determinize_syntax.specs.Spells.{SpellsUnder}
+use Rattle.determinize_syntax.proofs.Common.{SpellsUnder, subst, sym}
 use Rattle.determinize_syntax.proofs.parser.parse.Goals as goal
 
 pub returns-clause-complete : goal.returns-clause-complete

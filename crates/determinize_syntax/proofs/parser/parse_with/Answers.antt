@@ -1,9 +1,6 @@
-use Rattle.std.proofs.Common.{◌≡◌, ◌<◌, ◌∙◌, [], None, ap, arith, rules, slice_get, sym, true}
-use Rattle.std.specs.Prelude.{is_some}
-use Rattle.determinize_pattern.specs.Patterns.{meaning}
+use Rattle.determinize_syntax.proofs.Common.{◌<◌, ◌∙◌, ◌≡◌, None, SpellsUnder, [], ap, arith, is_some, meaning, rest}
+use Rattle.determinize_syntax.proofs.Common.{rules, slice_get, sym, true}
 use Rattle.determinize_syntax.specs.Limits.{HasNameTwice, openings}
-use Rattle.determinize_syntax.specs.Private.Reading.{rest}
-use Rattle.determinize_syntax.specs.Spells.{SpellsUnder}
 use Rattle.determinize_syntax.specs.declared.error.ErrorKind.TheVariants.{GroupNameDuplicate, NestLimitExceeded}
 use Rattle.determinize_syntax.specs.declared.parser.TheConstants.{NEST_LIMIT}
 use Rattle.determinize_syntax.proofs.Following.{text_follows}
@@ -20,11 +17,9 @@ returns-clause-spells c =
 
 pub returns-in_err-pattern-clause-complete : goal.returns-in_err-pattern-clause-complete
 returns-in_err-pattern-clause-complete c re h =
-    search (
-      rules,
-      c.in_err-pattern.ensures.whole []
-          (rw c.new-cursor.ensures (text_follows c.args.flags re c.args.text.now h)),
-    )
+    let limit = c.in_err-pattern.ensures.whole [] (rw c.new-cursor.ensures
+    (text_follows c.args.flags re c.args.text.now h)) in
+    search (rules, limit)
 
 pub returns-then-is_some-clause-complete : goal.returns-then-is_some-clause-complete
 returns-then-is_some-clause-complete c re h =

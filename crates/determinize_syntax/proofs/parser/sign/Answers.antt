@@ -1,5 +1,4 @@
-use Rattle.std.proofs.Common.{◌≡◌, arith}
-use Rattle.determinize_pattern.specs.Patterns.{meaning}
+use Rattle.determinize_syntax.proofs.Common.{◌≡◌, arith, meaning}
 use Rattle.determinize_syntax.specs.Spells.{dot, line_end, line_start}
 use Rattle.determinize_syntax.proofs.Parts.{ok_then}
 use Rattle.determinize_syntax.proofs.parser.sign.Goals as goal

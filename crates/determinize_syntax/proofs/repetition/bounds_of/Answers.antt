@@ -1,4 +1,4 @@
-use Rattle.std.proofs.Common.{refl}
+use Rattle.determinize_syntax.proofs.Common.{refl}
 use Rattle.determinize_syntax.specs.Spells.{plus, query, star}
 use Rattle.determinize_syntax.proofs.repetition.bounds_of.Goals as goal
 

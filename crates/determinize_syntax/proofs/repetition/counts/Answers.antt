@@ -1,5 +1,4 @@
-use Rattle.std.proofs.Common.{◌∷◌, ◌∙◌, ap, arith, refl, rules, slice_get, sym}
-use Rattle.determinize_syntax.specs.Private.Reading.{rest}
+use Rattle.determinize_syntax.proofs.Common.{◌∙◌, ◌∷◌, ap, arith, refl, rest, rules, slice_get, sym}
 use Rattle.determinize_syntax.proofs.Counting.{at_least_passed, counted, counted_twice, exactly_passed, first_count}
 use Rattle.determinize_syntax.proofs.Counting.{one_follows, past_sign}
 use Rattle.determinize_syntax.proofs.Parts.{at_least_read, between_read, exactly_read}
@@ -38,8 +37,7 @@ returns-then-not-take-clause-whole c u h =
 
 pub returns-then-take-2-clause-whole : goal.returns-then-take-2-clause-whole
 returns-then-take-2-clause-whole c u h =
-    at_least_passed c.in_ok-min.min u _
-    (rw (
+    at_least_passed c.in_ok-min.min u _ (rw (
       ap rest (sym (c.take.ensures.left c.if-take.false)) ∙ c.take-2.ensures.read c.if-not-take.false,
       c.take-3.ensures.read c.if-take-2.true,
     ) at (counted _ _ u _ h c.in_ok-min.ensures.whole))

@@ -1,5 +1,5 @@
-use Rattle.std.proofs.Common.{◌*◌, ◌+◌, ◌<◌, ◌≤◌, ◌^◌, ◌∙◌, ap, arith}
-use Rattle.determinize_syntax.specs.Private.Reading.{rest}
+use Rattle.determinize_syntax.proofs.Common.{◌*◌, ◌+◌, ◌<◌, ◌∙◌, ◌≤◌, ap, arith, rest}
+use Rattle.std.proofs.Common.{◌^◌}
 use Rattle.determinize_syntax.proofs.Numbers.{begun, ended, grown, number_begun, number_grown, over, some_digit}
 use Rattle.determinize_syntax.proofs.repetition.decimal.Goals as goal
 
@@ -11,13 +11,11 @@ loop-next-init c = (
 
 pub loop-next-preserved : goal.loop-next-preserved
 loop-next-preserved c =
-    let more = c.in-Some-checked_add.ensures.1
-    ∙ ap (λ x. x + c.in-Some-digit.next) c.in-Some-checked_mul.ensures.1 in (
+    let more = c.in-Some-checked_add.ensures.1 ∙ ap (λ x. x + c.in-Some-digit.next) c.in-Some-checked_mul.ensures.1 in (
       number_grown c.loop-next.value c.in-Some-digit.next c.in-Some-checked_add.grown c.loop-next.invariant.0
           c.in-Some-digit.ensures.read more,
       λ n u h p. grown 10 0xFFFF_FFFF c.loop-next.value n c.in-Some-digit.next c.in-Some-checked_add.grown
-          (λ v. omega arith)
-          (c.loop-next.invariant.1 n u h p) p c.in-Some-digit.ensures.read (λ small. more),
+          (λ v. omega arith) (c.loop-next.invariant.1 n u h p) p c.in-Some-digit.ensures.read (λ small. more),
     )
 
 pub returns-in-Some-peek-clause-whole : goal.returns-in-Some-peek-clause-whole

@@ -1,8 +1,5 @@
-use Rattle.std.proofs.Common.{◌≡◌, Some, length, ℕ}
-use Rattle.determinize_syntax.specs.Private.Following.{IsCount, NoDigit}
-use Rattle.determinize_syntax.specs.Private.Reading.{Part, Reads, rest}
-use Rattle.determinize_syntax.specs.Spells.{Bytes}
-use Rattle.determinize_syntax.specs.Words.{number}
+use Rattle.determinize_syntax.proofs.Common.{◌≡◌, Bytes, NoDigit, Part, Reads, Some, length, number, rest, ℕ}
+use Rattle.determinize_syntax.specs.Private.Following.{IsCount}
 use Rattle.determinize_syntax.proofs.Numbers.{Left}
 use Rattle.determinize_syntax.proofs.repetition.decimal.Given as goal
 

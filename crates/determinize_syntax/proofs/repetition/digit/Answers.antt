@@ -1,6 +1,4 @@
-use Rattle.std.proofs.Common.{◌≡◌, ◌∙◌, arith, refl, sym, true}
-use Rattle.std.specs.Char.{is_digit}
-use Rattle.determinize_syntax.specs.Private.Reading.{IsDigit}
+use Rattle.determinize_syntax.proofs.Common.{◌∙◌, ◌≡◌, IsDigit, arith, is_digit, refl, sym, true}
 use Rattle.determinize_syntax.proofs.Parts.{took}
 use Rattle.determinize_syntax.proofs.Numbers.{value_of}
 use Rattle.determinize_syntax.proofs.repetition.digit.Goals as goal

@@ -1,8 +1,5 @@
-use Rattle.std.proofs.Common.{◌≡◌, ◌∙◌, Some, ap, arith, false, rules, sym, ℕ}
-use Rattle.ordered_reach.proofs.Cases.{some_injective}
-use Rattle.determinize_syntax.specs.Private.Reading.{rest}
-use Rattle.determinize_syntax.specs.Spells.{Operator}
-use Rattle.determinize_syntax.specs.Words.{◌∈◌}
+use Rattle.determinize_syntax.proofs.Common.{◌∈◌, ◌∙◌, ◌≡◌, Operator, Some, ap, arith, false, rest, rules}
+use Rattle.determinize_syntax.proofs.Common.{some_injective, sym, ℕ}
 use Rattle.determinize_syntax.proofs.Parts.{prefixed, took}
 use Rattle.determinize_syntax.proofs.Stepping.{counts_begin, no_sign, sign_passed}
 use Rattle.determinize_syntax.proofs.repetition.operator.Goals as goal

@@ -1,9 +1,7 @@
-use Rattle.std.proofs.Common.{◌≡◌, ◌∷◌, ◌++◌, ◌∙◌, [], ap, arith, cond, drop, subst, sym}
+use Rattle.determinize_syntax.proofs.Common.{◌++◌, ◌∙◌, ◌∷◌, ◌≡◌, AddsChars, HasBytes, [], ap, arith, char_pairs, cond}
+use Rattle.determinize_syntax.proofs.Common.{drop, folded, set_of, subst, sym, turned}
 use Rattle.std.proofs.lemmas.List.{drop_all}
-use Rattle.determinize_pattern.specs.Characters.{char_pairs}
-use Rattle.determinize_pattern.specs.Classes.{HasBytes, pairs}
-use Rattle.determinize_syntax.specs.Private.Sets.{AddsChars, set_of, turned}
-use Rattle.determinize_syntax.specs.Words.{folded}
+use Rattle.determinize_pattern.specs.Classes.{pairs}
 use Rattle.determinize_syntax.proofs.Characters.{all_added, class_added, folded_ascii}
 use Rattle.determinize_syntax.proofs.Parts.{on_ok}
 use Rattle.determinize_syntax.proofs.bracket.Items.add_class.Goals as goal
@@ -17,8 +15,7 @@ returns-then-not-negated-clause-ranges c =
     let over : drop c.loop-range.range-index ranges ≡ [] = drop_all c.loop-range.range-index ranges (omega arith) in
     class_added n s (pairs ranges) (char_pairs c.args.self.now.ranges.items) mid mid
     (subst (HasBytes (turned n s)) (sym c.ranges-ranges.ensures) c.in_ok-class.ensures)
-    (folded_ascii c.args.flags c.args.kind)
-    (all_added mid _ _ c.loop-range.invariant over)
+    (folded_ascii c.args.flags c.args.kind) (all_added mid _ _ c.loop-range.invariant over)
     (ap (λ x. cond x (mid ++ (128, 0x10_FFFF) ∷ []) mid) (sym c.if-not-negated.true))
 
 pub returns-clause-ranges : goal.returns-clause-ranges
@@ -33,6 +30,5 @@ returns-clause-ranges c =
     on_ok (new ≡ mid ++ (128, 0x10_FFFF) ∷ []) (AddsChars (turned n s) old new) c.add-2.result c.add-2.ensures.ranges
     (λ e. class_added n s (pairs ranges) old mid new
     (subst (HasBytes (turned n s)) (sym c.ranges-ranges.ensures) c.in_ok-class.ensures)
-    (folded_ascii c.args.flags c.args.kind)
-    (all_added mid _ _ c.loop-range.invariant over)
+    (folded_ascii c.args.flags c.args.kind) (all_added mid _ _ c.loop-range.invariant over)
     (e ∙ ap (λ x. cond x (mid ++ (128, 0x10_FFFF) ∷ []) mid) (sym c.if-not-negated.false)))

@@ -1,6 +1,4 @@
-use Rattle.std.proofs.Common.{◌&&◌, ◌||◌, drop, nat_lt}
-use Rattle.determinize_pattern.specs.Characters.{char_pairs}
-use Rattle.determinize_syntax.specs.Private.Sets.{has, has_char}
+use Rattle.determinize_syntax.proofs.Common.{◌&&◌, ◌||◌, char_pairs, drop, has, has_char, nat_lt}
 use Rattle.determinize_syntax.proofs.Characters.{IsAdding}
 use Rattle.determinize_syntax.proofs.bracket.Items.add_class.Given as goal
 

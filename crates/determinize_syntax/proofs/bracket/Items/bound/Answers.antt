@@ -1,10 +1,8 @@
-use Rattle.std.proofs.Common.{◌∷◌, ◌∙◌, Some, ap, rules, slice_get, sym}
-use Rattle.determinize_syntax.specs.Private.Reading.{Reads, rest}
-use Rattle.determinize_syntax.specs.Spells as s
-use Rattle.determinize_syntax.specs.Spells.{Bound, Wide}
+use Rattle.determinize_syntax.proofs.Common.{◌∙◌, ◌∷◌, Bound, Reads, Some, Wide, ap, rest, rules, slice_get, sym}
 use Rattle.determinize_syntax.proofs.Bytes.{at_end, clash, front_of}
 use Rattle.determinize_syntax.proofs.Nexts.{bound_byte, bound_escape, bound_wide, no_bound, no_hyphen, no_other_end}
 use Rattle.determinize_syntax.proofs.Parts.{ok_then, prefixed, renamed, took}
+use Rattle.determinize_syntax.specs.Spells as s
 use Rattle.determinize_syntax.proofs.bracket.Items.bound.Goals as goal
 
 pub returns-in-Byte-clause-read : goal.returns-in-Byte-clause-read

@@ -1,5 +1,4 @@
-use Rattle.std.proofs.Common.{◌∷◌, rules}
-use Rattle.determinize_pattern.specs.Characters.{char_pairs}
+use Rattle.determinize_syntax.proofs.Common.{◌∷◌, char_pairs, rules}
 use Rattle.determinize_syntax.proofs.Bytes.{clash}
 use Rattle.determinize_syntax.proofs.Listing.{class_listed, escaped_listed, wide_listed}
 use Rattle.determinize_syntax.proofs.Nexts.{escape_next}

@@ -1,6 +1,4 @@
-use Rattle.std.proofs.Common.{◌∙◌, [], ap, not, refl, sym}
-use Rattle.determinize_pattern.specs.Characters.{char_pairs}
-use Rattle.determinize_syntax.specs.Private.Reading.{rest}
+use Rattle.determinize_syntax.proofs.Common.{◌∙◌, [], ap, char_pairs, not, refl, rest, sym}
 use Rattle.determinize_syntax.specs.declared.bracket.Before.TheVariants.{First}
 use Rattle.determinize_syntax.proofs.Bytes.{at_end}
 use Rattle.determinize_syntax.proofs.Listing.{hyphen_listed, hyphens_listed}
@@ -31,8 +29,7 @@ returns-in-AfterOne-clause-read c = rw c.in-AfterOne.is (c.range.ensures.read c.
 
 pub returns-in_ok-add-in-First-clause-whole : goal.returns-in_ok-add-in-First-clause-whole
 returns-in_ok-add-in-First-clause-whole c u h =
-    rw c.in_ok-add-in-First.ensures.before
-    (rw c.in-First.is at (hyphen_next c.args.flags u c.args.self.now.before _ h))
+    rw c.in_ok-add-in-First.ensures.before (rw c.in-First.is at (hyphen_next c.args.flags u c.args.self.now.before _ h))
 
 pub returns-in_ok-add-in-AfterRange-clause-whole : goal.returns-in_ok-add-in-AfterRange-clause-whole
 returns-in_ok-add-in-AfterRange-clause-whole c u h =

@@ -1,5 +1,4 @@
-use Rattle.std.proofs.Common.{◌∙◌, ap, sym}
-use Rattle.determinize_syntax.specs.Private.Reading.{rest}
+use Rattle.determinize_syntax.proofs.Common.{◌∙◌, ap, rest, sym}
 use Rattle.determinize_syntax.proofs.Parts.{on_ok, part_shorter, prefixed}
 use Rattle.determinize_syntax.proofs.bracket.Items.item.Goals as goal
 

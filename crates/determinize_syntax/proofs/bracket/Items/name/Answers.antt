@@ -1,8 +1,5 @@
-use Rattle.std.proofs.Common.{◌≡◌, ◌++◌, ◌∙◌, None, Some, ap, slice_get, sym}
-use Rattle.determinize_pattern.specs.Characters.{char_pairs}
-use Rattle.determinize_syntax.specs.Private.Reading.{rest}
-use Rattle.determinize_syntax.specs.Private.Sets.{set_of}
-use Rattle.determinize_syntax.specs.Words.{named_class}
+use Rattle.determinize_syntax.proofs.Common.{◌++◌, ◌∙◌, ◌≡◌, None, Some, ap, char_pairs, named_class, rest, set_of}
+use Rattle.determinize_syntax.proofs.Common.{slice_get, sym}
 use Rattle.determinize_syntax.proofs.Bytes.{tails}
 use Rattle.determinize_syntax.proofs.Listing.{any_name_read}
 use Rattle.determinize_syntax.proofs.Munch.{name_passed}

@@ -1,7 +1,4 @@
-use Rattle.std.proofs.Common.{◌≡◌, ◌∷◌, ◌∙◌, [], rules, sym}
-use Rattle.ordered_reach.proofs.Cases.{by_cases}
-use Rattle.determinize_pattern.specs.Characters.{char_pairs}
-use Rattle.determinize_syntax.specs.Private.Reading.{rest}
+use Rattle.determinize_syntax.proofs.Common.{◌∙◌, ◌∷◌, ◌≡◌, [], by_cases, char_pairs, rest, rules, sym}
 use Rattle.determinize_syntax.proofs.Bytes.{at_end, clash, front_of}
 use Rattle.determinize_syntax.proofs.Listing.{plain_listed, wide_listed}
 use Rattle.determinize_syntax.proofs.Nexts.{plain_next, starts}
@@ -32,8 +29,7 @@ returns-in_err-character-clause-whole c u h other =
     let at = sym c.peek.ensures ∙ c.in-Some.is in
     let x = front_of (rest c.args.cursor.now) c.in-Some.next at in
     by_cases (plain_next c.args.flags u c.args.self.now.before c.in-Some.next x.0 (rw x.1 at h)
-    (other c.in-Some.next at))
-    (λ y. clash y.1 (sym c.is_ascii.ensures ∙ c.if-not-is_ascii.true))
+    (other c.in-Some.next at)) (λ y. clash y.1 (sym c.is_ascii.ensures ∙ c.if-not-is_ascii.true))
     (λ y. search (rules, c.in_err-character.ensures.whole y.0 y.1 y.2 y.3.0 (x.1 ∙ y.3.2)))
 
 pub returns-then-not-is_ascii-clause-whole : goal.returns-then-not-is_ascii-clause-whole
@@ -41,8 +37,7 @@ returns-then-not-is_ascii-clause-whole c u h other =
     let at = sym c.peek.ensures ∙ c.in-Some.is in
     let x = front_of (rest c.args.cursor.now) c.in-Some.next at in
     by_cases (plain_next c.args.flags u c.args.self.now.before c.in-Some.next x.0 (rw x.1 at h)
-    (other c.in-Some.next at))
-    (λ y. clash y.1 (sym c.is_ascii.ensures ∙ c.if-not-is_ascii.true))
+    (other c.in-Some.next at)) (λ y. clash y.1 (sym c.is_ascii.ensures ∙ c.if-not-is_ascii.true))
     (λ y. let z = c.in_ok-character.ensures.whole y.0 y.1 y.2 y.3.0 (x.1 ∙ y.3.2) in
     rw (c.in_ok-add_escaped.ensures.before, z.0, z.1) y.4)
 
@@ -51,8 +46,7 @@ returns-then-not-stands-clause-whole c u h other =
     let at = sym c.peek.ensures ∙ c.in-Some.is in
     let x = front_of (rest c.args.cursor.now) c.in-Some.next at in
     by_cases (plain_next c.args.flags u c.args.self.now.before c.in-Some.next x.0 (rw x.1 at h)
-    (other c.in-Some.next at))
-    (λ y. clash (c.stands.ensures ∙ y.0) c.if-not-stands.true)
+    (other c.in-Some.next at)) (λ y. clash (c.stands.ensures ∙ y.0) c.if-not-stands.true)
     (λ y. clash (sym c.is_ascii.ensures ∙ c.if-not-is_ascii.false) y.3.1)
 
 pub returns-clause-whole : goal.returns-clause-whole

@@ -1,5 +1,4 @@
-use Rattle.std.proofs.Common.{arith, rules}
-use Rattle.determinize_pattern.specs.Characters.{char_pairs}
+use Rattle.determinize_syntax.proofs.Common.{arith, char_pairs, rules}
 use Rattle.determinize_syntax.specs.declared.bracket.Before.TheVariants.{AfterOne}
 use Rattle.determinize_syntax.proofs.Listing.{range_listed}
 use Rattle.determinize_syntax.proofs.Nexts.{hyphen_next}

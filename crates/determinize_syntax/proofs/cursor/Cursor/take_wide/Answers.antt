@@ -1,12 +1,9 @@
-use Rattle.std.proofs.Common.{◌≡◌, ◌<◌, ◌≤◌, ◌∷◌, ◌++◌, ◌∙◌, [], Some, ap, arith, length, slice_get}
-use Rattle.std.proofs.Common.{sym, ℕ}
-use Rattle.std.specs.Char.{encode_utf8, len_utf8}
+use Rattle.determinize_syntax.proofs.Common.{◌++◌, ◌<◌, ◌∙◌, ◌∷◌, ◌≡◌, ◌≤◌, Bytes, Some, [], ap, append-nil, arith}
+use Rattle.determinize_syntax.proofs.Common.{encode_same, encode_utf8, len_utf8, length, length-encode, rest, slice_get}
+use Rattle.determinize_syntax.proofs.Common.{some_injective, sym, ℕ}
 use Rattle.std.specs.Str.Iter.{chars_rest}
-use Rattle.std.proofs.lemmas.List.{append-nil}
-use Rattle.std.proofs.lemmas.Str.{IsUtf8-encode, encode_same, length-encode}
-use Rattle.ordered_reach.proofs.Cases.{some_injective}
-use Rattle.determinize_syntax.specs.Private.Reading.{rest}
-use Rattle.determinize_syntax.specs.Spells.{Bytes, IsWide}
+use Rattle.std.proofs.lemmas.Str.{IsUtf8-encode}
+use Rattle.determinize_syntax.specs.Spells.{IsWide}
 use Rattle.determinize_syntax.proofs.Bytes.{at_end}
 use Rattle.determinize_syntax.proofs.Stepping.{encode_starts}
 use Rattle.determinize_syntax.proofs.Munch.{filled}
@@ -21,8 +18,7 @@ begins : (d : ℕ) (t a : Bytes) (b : ℕ) → IsWide d → a ≡ encode_utf8 d 
 begins d t a b is e at =
     let s = encode_starts d is.0 in
     let same : s.0 ≡ b = some_injective s.0 b (ap (λ l. slice_get (l ++ t) 0) (sym s.2) ∙ ap (λ l. slice_get l 0)
-    (sym e)
-    ∙ at) in
+    (sym e) ∙ at) in
     (s.1, s.2 ∙ ap (λ x. x ∷ s.1) same)
 
 pub returns-in_err-peek-clause-other : goal.returns-in_err-peek-clause-other

@@ -1,7 +1,4 @@
-use Rattle.std.proofs.Common.{subst}
-use Rattle.determinize_pattern.specs.Classes.{HasBytes}
-use Rattle.determinize_syntax.specs.Private.Sets.{has, set_of, turned}
-use Rattle.determinize_syntax.specs.Words.{folded}
+use Rattle.determinize_syntax.proofs.Common.{HasBytes, folded, has, set_of, subst, turned}
 use Rattle.determinize_syntax.proofs.Classes.{kind_class}
 use Rattle.determinize_syntax.proofs.Parts.{ok_then}
 use Rattle.determinize_syntax.proofs.kind.ClassKind.class.Goals as goal

@@ -1,16 +1,13 @@
-use Rattle.std.proofs.Common.{◌≡◌, ◌≤◌, ◌∷◌, ◌∙◌, [], List, Some, ap, arith, ltb-false, ltb-true, nat_lt, refl, true}
-use Rattle.std.proofs.Common.{slice_get, subst, sym, ℕ}
-use Rattle.std.specs.Prelude.{codes}
+use Rattle.determinize_syntax.proofs.Common.{◌∙◌, ◌∷◌, ◌≡◌, ◌≤◌, ClassKind, List, Some, [], ap, arith, by_test, codes}
+use Rattle.determinize_syntax.proofs.Common.{ltb-false, ltb-true, name_of, named_class, nat_lt, refl, slice_get, subst}
+use Rattle.determinize_syntax.proofs.Common.{sym, true, ℕ}
 use Rattle.std.proofs.lemmas.Option.{get_or_from_slice_get}
 use Rattle.std.proofs.Math.ListN.{get_or}
-use Rattle.ordered_reach.proofs.Cases.{by_option, by_test}
-use Rattle.determinize_syntax.specs.Private.Sets.{name_of}
-use Rattle.determinize_syntax.specs.Words.{named_class}
-use Rattle.determinize_syntax.specs.declared.kind.ClassKind.{ClassKind}
+use Rattle.ordered_reach.proofs.Cases.{by_option}
 use Rattle.determinize_syntax.specs.declared.kind.ClassKind.TheVariants.{Alnum, Alpha, Ascii, Blank, Cntrl, Digit}
-use Rattle.determinize_syntax.specs.declared.kind.ClassKind.TheVariants.{Graph, Lower, Print, Punct, Space, Upper}
-use Rattle.determinize_syntax.specs.declared.kind.ClassKind.TheVariants.{Word, Xdigit}
-use Rattle.determinize_syntax.proofs.Munch.{named_kind, text_differs}
+use Rattle.determinize_syntax.specs.declared.kind.ClassKind.TheVariants.{Graph, Lower, Print, Punct, Space, Upper, Word}
+use Rattle.determinize_syntax.specs.declared.kind.ClassKind.TheVariants.{Xdigit}
+use Rattle.determinize_syntax.proofs.Munch.{named_kind, text_differs, text_is}
 use Rattle.determinize_syntax.proofs.kind.ClassKind.from_name.Goals as goal
 
 -- the kinds in their order
@@ -31,9 +28,8 @@ loop-kind-preserved c i k less at same =
     (λ t. let here : i ≡ c.loop-kind.kind-index =
     (let le : c.loop-kind.kind-index ≤ i = ltb-false i c.loop-kind.kind-index t in omega (arith, le, less)) in
     text_differs c.as_bytes.result.now c.args.name.now (sym c.eq.ensures ∙ c.if-eq.false)
-    (c.as_bytes.ensures.value ∙ c.name.ensures.text
-    ∙ ap (λ q. codes (name_of q)) (listed i c.loop-kind.kind-index k here at)
-    ∙ sym same))
+    (c.as_bytes.ensures.value ∙ text_is _ _ c.name.ensures.text
+    ∙ ap (λ q. codes (name_of q)) (listed i c.loop-kind.kind-index k here at) ∙ sym same))
 
 pub returns-clause-none : goal.returns-clause-none
 returns-clause-none c =
@@ -43,8 +39,7 @@ returns-clause-none c =
           → c.args.name.now ≡ codes (name_of k) → ⊥
       at k i less here same = c.loop-kind.invariant i k
           (let over : 14 ≤ c.loop-kind.kind-index = c.loop-kind-test.false in omega (arith, over, ltb-true i 14 less))
-          here
-          same
+          here same
 
       never : (k : ClassKind) → c.args.name.now ≡ codes (name_of k) → ⊥
       never Alnum = at Alnum 0 refl refl

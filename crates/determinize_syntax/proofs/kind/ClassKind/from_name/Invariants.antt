@@ -1,7 +1,4 @@
-use Rattle.std.proofs.Common.{◌≡◌, ◌<◌, Some, slice_get, ℕ}
-use Rattle.std.specs.Prelude.{codes}
-use Rattle.determinize_syntax.specs.Private.Sets.{name_of}
-use Rattle.determinize_syntax.specs.declared.kind.ClassKind.{ClassKind}
+use Rattle.determinize_syntax.proofs.Common.{◌<◌, ◌≡◌, ClassKind, Some, codes, name_of, slice_get, ℕ}
 use Rattle.determinize_syntax.proofs.kind.ClassKind.from_name.Given as goal
 
 abbrev pub invariant-loop-kind : goal.invariant-loop-kind

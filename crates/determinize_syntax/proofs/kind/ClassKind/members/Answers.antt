@@ -1,6 +1,5 @@
-use Rattle.std.proofs.Common.{◌∙◌, ◌+◌, Global, Vec, ap, refl, subst, sym}
-use Rattle.determinize_pattern.specs.declared.class.ClassBytesRange.{ClassBytesRange}
-use Rattle.determinize_syntax.specs.Private.Sets.{HasBelow, set_of}
+use Rattle.determinize_syntax.proofs.Common.{◌+◌, ◌∙◌, ClassBytesRange, HasBelow, ap, refl, set_of, subst, sym}
+use Rattle.std.proofs.Common.{Global, Vec}
 use Rattle.determinize_syntax.proofs.Classes.{below_with, below_without}
 use Rattle.determinize_syntax.proofs.kind.ClassKind.members.Goals.{then-contains+in_ok-push, else-contains}
 use Rattle.determinize_syntax.proofs.kind.ClassKind.members.Goals as goal
@@ -13,8 +12,7 @@ loop-i-preserved c =
           below_with s c.loop-i.i c.loop-i.members.items c.if-contains.members.items
           (record { start = c.loop-i.i; end = c.loop-i.i })
           c.loop-i.invariant (ap (λ (v : Vec ClassBytesRange Global). v.items) w.members-is
-          ∙ w.in_ok-push.ensures.items) refl
-          (sym c.contains.ensures ∙ w.if-contains.true)
+          ∙ w.in_ok-push.ensures.items) refl (sym c.contains.ensures ∙ w.if-contains.true)
       | else-contains w ↦
           subst (λ (v : Vec ClassBytesRange Global). HasBelow s (c.loop-i.i + 1) v.items) (sym w.members-is)
           (below_without s c.loop-i.i c.loop-i.members.items c.loop-i.invariant

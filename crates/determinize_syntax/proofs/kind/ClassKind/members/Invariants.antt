@@ -1,4 +1,4 @@
-use Rattle.determinize_syntax.specs.Private.Sets.{HasBelow, set_of}
+use Rattle.determinize_syntax.proofs.Common.{HasBelow, set_of}
 use Rattle.determinize_syntax.proofs.kind.ClassKind.members.Given as goal
 
 abbrev pub invariant-loop-i : goal.invariant-loop-i
