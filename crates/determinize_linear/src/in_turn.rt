@@ -1,14 +1,14 @@
 //! All matches by searches from one position after another, which a [`Matcher`] makes.
 
-ghost use Rattle.std.specs.Prelude.{◌≡◌, ◌<◌, ◌≤◌, ◌-◌, ◌+◌, ◌*◌, ◌^◌, ℕ, IfOk, IsTrue, None, Some, cond, false, length, true};
+ghost use Rattle.std.specs.Prelude.{◌≡◌, ◌≤◌, ◌-◌, ◌+◌, ◌*◌, ℕ, IfOk, IsTrue, None, Some, cond, true};
 ghost use Rattle.std.specs.Option.{IfNone, IfSome};
-ghost use Rattle.determinize_below.specs.Nfa.{IsAccepted};
-ghost use Rattle.determinize_engine.specs.Searches.{has_start, text_of};
+ghost use Rattle.determinize_engine.specs.Searches.{has_start};
 ghost use Rattle.determinize_find.specs.LeftmostIn as inputs;
 ghost use Rattle.determinize_find.specs.LeftmostIn.{IsLeftmostIn};
 ghost use Rattle.determinize_find.specs.Matches.{AreMatches, IsNext, from};
 ghost use Rattle.determinize_find.specs.Private.BestAt.{IsBestIn};
 ghost use Rattle.determinize_linear.specs.Private.Paid.{IsPaid, end_or};
+ghost use Rattle.determinize_linear.specs.Private.Reading.{IsForward, IsTextOf};
 
 use crate::matcher::Matcher;
 use crate::tries::Counter;
@@ -26,11 +26,8 @@ fn find_at<S: Matcher, N: Allocator, C: Counter>(
     at: usize,
     counter: &mut C,
 ) -> Result<Option<Match>, AllocError>
-    requires accepted { IsAccepted nfa.now }
-    requires forward { nfa.now.reverse ≡ false }
-    requires text { text.now ≡ text_of false input.now }
-    requires haystack { input.now.end ≤ length input.now.haystack }
-    requires limit { input.now.end < 2 ^ 64 }
+    requires nfa { IsForward nfa.now }
+    requires text { IsTextOf input.now text.now }
     requires start { input.now.start ≤ at }
     requires end { at ≤ input.now.end }
     requires ready { S.is_ready search.old nfa.now text.now (at - input.now.start) }
@@ -88,11 +85,8 @@ fn find_from<S: Matcher, N: Allocator, C: Counter>(
     start: usize,
     counter: &mut C,
 ) -> Result<Option<Match>, AllocError>
-    requires accepted { IsAccepted nfa.now }
-    requires forward { nfa.now.reverse ≡ false }
-    requires text { text.now ≡ text_of false input.now }
-    requires haystack { input.now.end ≤ length input.now.haystack }
-    requires limit { input.now.end < 2 ^ 64 }
+    requires nfa { IsForward nfa.now }
+    requires text { IsTextOf input.now text.now }
     requires mode { has_start input.now.anchored ≡ true }
     requires start { input.now.start ≤ start }
     requires end { start ≤ input.now.end }
@@ -133,11 +127,8 @@ fn next_match<S: Matcher, N: Allocator, C: Counter>(
     before: Option<usize>,
     counter: &mut C,
 ) -> Result<Option<Match>, AllocError>
-    requires accepted { IsAccepted nfa.now }
-    requires forward { nfa.now.reverse ≡ false }
-    requires text { text.now ≡ text_of false input.now }
-    requires haystack { input.now.end ≤ length input.now.haystack }
-    requires limit { input.now.end < 2 ^ 64 }
+    requires nfa { IsForward nfa.now }
+    requires text { IsTextOf input.now text.now }
     requires mode { has_start input.now.anchored ≡ true }
     requires start { input.now.start ≤ start }
     requires end { start ≤ input.now.end }
@@ -175,11 +166,8 @@ pub(crate) fn find_all_by<S: Matcher, N: Allocator, A: Allocator, C: Counter>(
     text: &Text<'_>,
     counter: &mut C,
 ) -> Result<Vec<Match, A>, AllocError>
-    requires accepted { IsAccepted nfa.now }
-    requires forward { nfa.now.reverse ≡ false }
-    requires text { text.now ≡ text_of false input.now }
-    requires haystack { input.now.end ≤ length input.now.haystack }
-    requires limit { input.now.end < 2 ^ 64 }
+    requires nfa { IsForward nfa.now }
+    requires text { IsTextOf input.now text.now }
     requires mode { has_start input.now.anchored ≡ true }
     requires order { input.now.start ≤ input.now.end }
     requires ready { (k : ℕ) → S.is_ready search.old nfa.now text.now k }

@@ -1,12 +1,12 @@
 //! A search of one text from one position after another: after a match none begins before its end,
 //! and else none before the last one began.
 
-ghost use Rattle.std.specs.Prelude.{◌≡◌, ◌≤◌, ◌+◌, ℕ, IfOk, IsTrue, false, length, option_map};
+ghost use Rattle.std.specs.Prelude.{◌≤◌, ◌+◌, ℕ, IfOk, IsTrue, length, option_map};
 ghost use Rattle.std.specs.Option.{IfNone, IfSome};
-ghost use Rattle.determinize_below.specs.Nfa.{IsAccepted};
 ghost use Rattle.determinize_below.specs.Semantics as semantics;
 ghost use Rattle.determinize_find.specs.Private.BestAt.{IsBestAt, from_index};
 ghost use Rattle.determinize_linear.specs.Private.Paid.{IsPaid, end_of};
+ghost use Rattle.determinize_linear.specs.Private.Reading.{IsForward};
 
 use crate::tries::Counter;
 use determinize_below::{HalfMatch, NFA};
@@ -34,8 +34,7 @@ pub(crate) trait Matcher {
         from: usize,
         counter: &mut C,
     ) -> Result<Option<HalfMatch>, AllocError>
-        requires accepted { IsAccepted nfa.now }
-        requires forward { nfa.now.reverse ≡ false }
+        requires nfa { IsForward nfa.now }
         requires within { from ≤ length text.now.bytes }
         requires ready { is_ready self.old nfa.now text.now from }
         ensures best { IfOk result

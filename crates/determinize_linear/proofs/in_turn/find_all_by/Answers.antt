@@ -36,7 +36,7 @@ pub loop-found-smaller : goal.loop-found-smaller
 loop-found-smaller g c =
     let is : c.in_ok-next.field-0 ≡ Some c.in-Some.next = search rules in
     (fewer c.args.nfa.now c.args.nfa.now c.args.input.now (from c.args.input.now c.loop-found.start) c.loop-found.start
-    c.loop-found.before c.in-Some.next refl refl c.requires.haystack c.loop-found.invariant.last
+    c.loop-found.before c.in-Some.next refl refl c.requires.text.in_haystack c.loop-found.invariant.last
     (subst
     (λ (o : Option Match). IsNext c.args.nfa.now (from c.args.input.now c.loop-found.start) c.loop-found.before o)
     is c.in_ok-next.ensures.next)).0
@@ -50,7 +50,7 @@ loop-found-preserved g c =
     (λ (o : Option Match). IsNext c.args.nfa.now (from c.args.input.now c.loop-found.start) c.loop-found.before o) is
     c.in_ok-next.ensures.next in
     let later : IsLater (from c.args.input.now c.loop-found.start) c.loop-found.before c.in-Some.next
-    = next_lies c.args.nfa.now (from c.args.input.now c.loop-found.start) c.loop-found.before c.in-Some.next c.requires.haystack
+    = next_lies c.args.nfa.now (from c.args.input.now c.loop-found.start) c.loop-found.before c.in-Some.next c.requires.text.in_haystack
     c.loop-found.invariant.last next in
     let low : c.loop-found.start ≤ c.in-Some.next.start = later.low in
     let order : c.in-Some.next.start ≤ c.in-Some.next.end = later.order in
@@ -77,7 +77,7 @@ loop-found-preserved g c =
           let least = left_least c.args.input.now.end c.loop-found.start c.loop-found.before in
           let less = (fewer c.args.nfa.now c.args.nfa.now c.args.input.now
           (from c.args.input.now c.loop-found.start) c.loop-found.start c.loop-found.before c.in-Some.next refl refl
-          c.requires.haystack c.loop-found.invariant.last next).0 in
+          c.requires.text.in_haystack c.loop-found.invariant.last next).0 in
           let high : c.in-Some.next.end ≤ c.args.input.now.end = later.high in
           next_pays (g.S.Matcher.most c.args.nfa.now) (c.args.input.now.end + 1 - c.in-Some.next.end)
           (left c.args.input.now.end c.loop-found.start c.loop-found.before)
