@@ -207,7 +207,7 @@ whole_of ws h p has sizes range = whole_in h p sizes range ws has
 pub rows_are : (h : Head) (p : Parts) → HasSizes h p → h.rows ≡ length (stored_in h p).table.patterns
 rows_are h p sizes = sym (lists_from-length 0 p.ends p.patterns ∙ sizes.ends)
 
--- row 0 stops exactly if it lists nothing, and no entry is above 0
+-- row 0 is dead exactly if it lists nothing, and no entry of it is above 0
 pub not_listed : (h : Head) (p : Parts) → HasSizes h p → IsInRange h p → (slice_index p.ends 0 ≡ 0 → ⊥)
     → HasDeadRow (stored_in h p).table → ⊥
 not_listed h p sizes range some stop =

@@ -66,12 +66,12 @@ pub record IsInRange (h : Head) (p : Parts) : Type 0 where
   pub few : length p.patterns < 2 ^ 32
   pub patterns : All (λ n. n < MAX_ID + 1) p.patterns
 
--- the parts are those of a DFA, and the flag says whether row 0 stops a search
-pub record AreParts (h : Head) (p : Parts) (stops : Bool) : Type 0 where
+-- the parts are those of a DFA, and the flag says whether it has a dead row
+pub record AreParts (h : Head) (p : Parts) (has_dead_row : Bool) : Type 0 where
   pub whole : IsWhole (stored_in h p)
   pub sizes : HasSizes h p
   pub range : IsInRange h p
-  pub stops_at : Decides stops (HasDeadRow (stored_in h p).table)
+  pub dead_row : Decides has_dead_row (HasDeadRow (stored_in h p).table)
 
 -- where the list of a row begins
 abbrev pub list_start : List ℕ → ℕ → ℕ

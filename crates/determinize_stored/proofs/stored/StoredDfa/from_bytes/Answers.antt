@@ -27,7 +27,7 @@ invariant_of-result c = record {
       c.in_ok-parts.ensures.sizes c.in_ok-check.ensures.ok;
   sizes = c.in_ok-parts.ensures.sizes;
   range = c.in_ok-check.ensures.ok;
-  stops_at = c.has_dead_row.ensures;
+  dead_row = c.has_dead_row.ensures;
 }
 
 pub returns-clause-file : goal.returns-clause-file
