@@ -18,26 +18,10 @@ pub enum Error {
     Compile(CompileError),
     /// The DFA was not built.
     Dfa(DfaError),
-    /// An allocation failed, or the output.
+    /// An allocation failed.
+    Alloc(AllocError),
+    /// The output failed.
     Io(io::Error),
-}
-
-impl From<CompileError> for Error {
-    fn from(error: CompileError) -> Error {
-        Error::Compile(error)
-    }
-}
-
-impl From<DfaError> for Error {
-    fn from(error: DfaError) -> Error {
-        Error::Dfa(error)
-    }
-}
-
-impl From<AllocError> for Error {
-    fn from(error: AllocError) -> Error {
-        Error::Io(io::Error::from(error))
-    }
 }
 
 /// Prints the graph of a DFA, as text for Graphviz.
@@ -48,12 +32,10 @@ fn print_graph(dfa: &Dfa<'_>, output: &impl Print) -> io::Result<()> {
 
 /// Prints the smallest DFA of patterns, and returns its bytes.
 pub fn store(alloc: Global, patterns: &[Pattern], output: &impl Print) -> Result<Vec<u8>, Error> {
-    let nfa = compile(alloc, patterns, Config::new())?;
-    let dfa = smallest(alloc, &nfa, MatchKind::All, 1000)?;
-    if let Err(error) = print_graph(&dfa, output) {
-        return Err(Error::Io(error));
-    }
-    Ok(dfa.to_bytes(alloc)?)
+    let nfa = compile(alloc, patterns, Config::new()).map_err(Error::Compile)?;
+    let dfa = smallest(alloc, &nfa, MatchKind::All, 1000).map_err(Error::Dfa)?;
+    print_graph(&dfa, output).map_err(Error::Io)?;
+    dfa.to_bytes(alloc).map_err(Error::Alloc)
 }
 
 /// Returns the preferred pattern that matches a whole text, by the bytes of a DFA.
