@@ -1,10 +1,13 @@
 -- Bytes that are listed, choices by tests, and the first byte of a text.
 -- Main statements: within, apart, chosen, front_of, at_end.
--- Used by: the proofs of the parser.
+-- Used by: most proofs of this crate, through Common.
 -- Idea: what all listed bytes have is computed for each of them.
-use Rattle.determinize_syntax.proofs.Common.{◌==◌, ◌||◌, ◌∷◌, ◌≡◌, Bool, List, None, Option, Some, [], and_parts, ap}
-use Rattle.determinize_syntax.proofs.Common.{by_test, eqb-true, false, if◌then◌else◌, list_all, list_any, not, not-true}
-use Rattle.determinize_syntax.proofs.Common.{refl, slice_get, some_injective, true, ℕ}
+use Rattle.std.proofs.Common.{◌||◌, ◌∷◌, ◌≡◌, Bool, List, None, Option, Some, [], ap, false, if◌then◌else◌, not}
+use Rattle.std.proofs.Common.{refl, slice_get, true, ℕ}
+use Rattle.std.specs.Prelude.{◌==◌}
+use Rattle.std.specs.List.{list_all, list_any}
+use Rattle.std.proofs.lemmas.Bool.{and_parts, eqb-true, not-true}
+use Rattle.ordered_reach.proofs.Cases.{by_test, some_injective}
 
 -- a test has one result
 pub clash : {A : Type 0} {b : Bool} → b ≡ true → b ≡ false → A

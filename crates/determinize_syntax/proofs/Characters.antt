@@ -3,15 +3,13 @@
 -- Used by: the proofs of `class`, of brackets and of atoms.
 -- Idea: sets with the same numbers below that of the last character have the same patterns.
 use Rattle.determinize_syntax.proofs.Common.{◌&&◌, ◌++◌, ◌<◌, ◌||◌, ◌∙◌, ◌∷◌, ◌≡◌, ◌≤◌, AddsChars, Bool}
-use Rattle.determinize_syntax.proofs.Common.{ClassBytesRange, ClassKind, Flags, HasBytes, IsOneOf, IsScalar, List, Re}
-use Rattle.determinize_syntax.proofs.Common.{Set, Some, [], ap, arith, by_test, char_pairs, cond, false, folded, has}
-use Rattle.determinize_syntax.proofs.Common.{has_char, is_in, ltb-false, ltb-true, nat_lt, nat_tests, not, only, refl}
-use Rattle.determinize_syntax.proofs.Common.{set_of, sym, to_ascii_lowercase, to_ascii_uppercase, true, turned, within}
-use Rattle.determinize_syntax.proofs.Common.{ℕ}
-use Rattle.std.proofs.lemmas.List.Folds.{list_any-append}
+use Rattle.determinize_syntax.proofs.Common.{ClassBytesRange, ClassKind, Flags, HasBytes, HasChars, IsOneOf, IsScalar}
+use Rattle.determinize_syntax.proofs.Common.{List, Re, Set, Some, [], ap, arith, by_test, char_pairs, cond, false}
+use Rattle.determinize_syntax.proofs.Common.{folded, has, has_char, is_in, list_any-append, ltb-false, ltb-true, nat_lt}
+use Rattle.determinize_syntax.proofs.Common.{nat_tests, not, only, refl, set_of, sym, to_ascii_lowercase}
+use Rattle.determinize_syntax.proofs.Common.{to_ascii_uppercase, true, turned, within, ℕ}
 use Rattle.determinize_pattern.specs.Characters.{IsCharClass, IsCharFrom}
 use Rattle.determinize_pattern.specs.declared.chars.ClassUnicodeRange.{ClassUnicodeRange}
-use Rattle.determinize_syntax.specs.Private.Sets.{HasChars}
 use Rattle.determinize_syntax.specs.declared.kind.ClassKind.TheVariants.{Alnum, Alpha, Ascii, Blank, Cntrl, Digit}
 use Rattle.determinize_syntax.specs.declared.kind.ClassKind.TheVariants.{Graph, Lower, Print, Punct, Space, Upper, Word}
 use Rattle.determinize_syntax.specs.declared.kind.ClassKind.TheVariants.{Xdigit}

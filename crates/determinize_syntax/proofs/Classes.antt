@@ -3,12 +3,10 @@
 -- Used by: the proofs of classes and of brackets.
 -- Idea: one more range adds its bytes.
 use Rattle.determinize_syntax.proofs.Common.{◌&&◌, ◌++◌, ◌+◌, ◌<◌, ◌==◌, ◌||◌, ◌∙◌, ◌∷◌, ◌≡◌, ◌≤◌, ◌⊎◌, Bool}
-use Rattle.determinize_syntax.proofs.Common.{ClassBytesRange, Flags, HasBelow, HasBytes, List, Re, Set, Some, [], ap}
-use Rattle.determinize_syntax.proofs.Common.{arith, cond, false, folded, has, inl, inr, is_in, list_any, nat_lt, not}
-use Rattle.determinize_syntax.proofs.Common.{refl, to_ascii_lowercase, to_ascii_uppercase, true, turned, within, ℕ}
-use Rattle.std.proofs.Common.{nat_eq}
-use Rattle.determinize_pattern.specs.Classes.{pairs}
-use Rattle.determinize_pattern.specs.Patterns.{IsClass}
+use Rattle.determinize_syntax.proofs.Common.{ClassBytesRange, Flags, HasBelow, HasBytes, IsClass, List, Re, Set, Some}
+use Rattle.determinize_syntax.proofs.Common.{[], ap, arith, cond, false, folded, has, inl, inr, is_in, list_any, nat_eq}
+use Rattle.determinize_syntax.proofs.Common.{nat_lt, not, pairs, refl, to_ascii_lowercase, to_ascii_uppercase, true}
+use Rattle.determinize_syntax.proofs.Common.{turned, within, ℕ}
 
 -- a class of one set is one of a set with the same bytes
 pub class_of : (s t : Set) (re : Re) → IsClass s re → ((b : ℕ) → b < 256 → s b ≡ t b) → IsClass t re

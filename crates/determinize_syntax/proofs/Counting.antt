@@ -2,10 +2,9 @@
 -- Main statements: first_count, exactly_passed, at_least_passed, counted, counted_twice.
 -- Used by: the proofs that `counts` rejects no operator.
 -- Idea: what follows after the first count says which operator it is.
-use Rattle.determinize_syntax.proofs.Common.{◌++◌, ◌∙◌, ◌∷◌, ◌≡◌, ◌≤◌, Bytes, NoDigit, Operator, Option, Part, Some}
-use Rattle.determinize_syntax.proofs.Common.{append_assoc, arith, codes, false, is_digit, refl, slice_get}
-use Rattle.determinize_syntax.proofs.Common.{some_injective, ℕ}
-use Rattle.determinize_syntax.specs.Private.Following.{CountsTo, IsCount}
+use Rattle.determinize_syntax.proofs.Common.{◌++◌, ◌∙◌, ◌∷◌, ◌≡◌, ◌≤◌, Bytes, CountsTo, IsCount, NoDigit, Operator}
+use Rattle.determinize_syntax.proofs.Common.{Option, Part, Some, append_assoc, arith, codes, false, is_digit, refl}
+use Rattle.determinize_syntax.proofs.Common.{slice_get, some_injective, ℕ}
 use Rattle.determinize_syntax.proofs.Numbers.{some_digit}
 use Rattle.determinize_syntax.specs.Spells as s
 

@@ -3,20 +3,18 @@
 --   past_boundary.
 -- Used by: the proofs that the parser rejects no escape.
 -- Idea: the byte after the backslash decides which escape it is, since no two kinds have one in common.
-use Rattle.determinize_syntax.proofs.Common.{◌++◌, ◌∈◌, ◌∙◌, ◌∷◌, ◌≡◌, ◌⊎◌, AtEscape, Bool, Bound, Bytes, ClassKind}
-use Rattle.determinize_syntax.proofs.Common.{Escape, Escaped, Flags, FromOperator, IsEscape, IsWideAt, List, Look, None}
-use Rattle.determinize_syntax.proofs.Common.{Option, Part, Set, Some, String, Wide, [], ap, append_assoc, arith}
-use Rattle.determinize_syntax.proofs.Common.{assertion, by_cases, by_test, codes, encode_utf8, false, if◌then◌else◌}
-use Rattle.determinize_syntax.proofs.Common.{inl, inr, is_some, list_all, refl, set_of, some_injective, sym, true}
-use Rattle.determinize_syntax.proofs.Common.{turned, ℕ}
+use Rattle.determinize_syntax.proofs.Common.{◌++◌, ◌∈◌, ◌∙◌, ◌∷◌, ◌≡◌, ◌⊎◌, AtBound, AtEscape, AtNumber, Bool, Bound}
+use Rattle.determinize_syntax.proofs.Common.{Bytes, ClassKind, Escape, Escaped, Flags, FromOperator, IsEscape}
+use Rattle.determinize_syntax.proofs.Common.{IsPastBoundary, IsWideAt, List, Look, None, Option, Part, Set, Some}
+use Rattle.determinize_syntax.proofs.Common.{String, Wide, [], ap, apart, append_assoc, arith, assertion, by_cases}
+use Rattle.determinize_syntax.proofs.Common.{by_test, chosen, codes, encode_utf8, false, if◌then◌else◌, inl, inr}
+use Rattle.determinize_syntax.proofs.Common.{is_some, list_all, refl, set_of, some_injective, sym, true, turned, ℕ}
 use Rattle.std.specs.Option.{option_map}
-use Rattle.determinize_syntax.specs.Private.Following.{IsPastBoundary}
-use Rattle.determinize_syntax.specs.Private.Letters.{AtBound, AtNumber}
 use Rattle.determinize_syntax.specs.Private.Reading.{one_byte}
 use Rattle.determinize_syntax.specs.Private.Sets.{perl_of}
 use Rattle.determinize_syntax.specs.Words.{escaped_byte, perl_class}
 use Rattle.determinize_syntax.specs.declared.kind.ClassKind.TheVariants.{Digit, Space, Word}
-use Rattle.determinize_syntax.proofs.Bytes.{apart, chosen, within}
+use Rattle.determinize_syntax.proofs.Bytes.{within}
 use Rattle.determinize_syntax.proofs.Counting.{first_count}
 use Rattle.determinize_syntax.proofs.Munch.{looks}
 use Rattle.determinize_syntax.proofs.Numbers.{number_begins}

@@ -2,13 +2,12 @@
 -- Main statements: letters_end, one_letter, one_cleared, next_setting, no_setting, opening_next, set_or_group.
 -- Used by: the proofs that the parser rejects no flags and no opening of a group.
 -- Idea: the letters of flags are none of the signs that may be in their place.
-use Rattle.determinize_syntax.proofs.Common.{◌++◌, ◌==◌, ◌∈◌, ◌∙◌, ◌∷◌, ◌≡◌, ◌⊎◌, Bool, Bytes, Flags, FromAtom}
-use Rattle.determinize_syntax.proofs.Common.{FromItem, Letters, List, Sets, Some, String, [], ap, by_cases, by_test}
-use Rattle.determinize_syntax.proofs.Common.{codes, eqb-true, false, inl, inr, is_name, list_all, list_any, refl}
-use Rattle.determinize_syntax.proofs.Common.{slice_get, some_injective, sym, true, ℕ}
-use Rattle.determinize_syntax.specs.Private.Following.{Enters, IsAfterLetters, IsBranchEnd}
-use Rattle.determinize_syntax.specs.Words.{set_flag}
-use Rattle.determinize_syntax.proofs.Bytes.{apart, chosen, clash, front_of, within}
+use Rattle.determinize_syntax.proofs.Common.{◌++◌, ◌==◌, ◌∈◌, ◌∙◌, ◌∷◌, ◌≡◌, ◌⊎◌, Bool, Bytes, Enters, Flags, FromAtom}
+use Rattle.determinize_syntax.proofs.Common.{FromItem, IsAfterLetters, IsBranchEnd, Letters, List, Sets, Some, String}
+use Rattle.determinize_syntax.proofs.Common.{[], ap, apart, by_cases, by_test, chosen, clash, codes, eqb-true, false}
+use Rattle.determinize_syntax.proofs.Common.{front_of, inl, inr, is_name, list_all, list_any, refl, set_flag, slice_get}
+use Rattle.determinize_syntax.proofs.Common.{some_injective, sym, true, ℕ}
+use Rattle.determinize_syntax.proofs.Bytes.{within}
 use Rattle.determinize_syntax.proofs.Inner.{letters_follow}
 use Rattle.determinize_syntax.proofs.Stepping.{no_operator, opened}
 use Rattle.determinize_syntax.specs.Private.Following as to
@@ -136,15 +135,24 @@ flags_sign f g on (c ∷ n) sets w d q e sign =
 abbrev pub AtNamed : List Flags → Flags → Bytes → Type 0
 AtNamed k f q = (n w : Bytes) × (q ≡ n ++ 0x3E ∷ w) × (is_name n ≡ true) × FromItem (f ∷ k) f w
 
-pub opening_named : (k : List Flags) (f : Flags) (q : Bytes) → AtOpening k f (0x3C ∷ q) → AtNamed k f q
+opening_named : (k : List Flags) (f : Flags) (q : Bytes) → AtOpening k f (0x3C ∷ q) → AtNamed k f q
 opening_named k f q (named n w is h) = (n, w, refl, is, h)
 opening_named k f q (flags g on n w _ e sets h) = flags_sign f g on n sets w 0x3C q e refl
 
 -- a name after `(?P`
-pub opening_named_p : (k : List Flags) (f : Flags) (q : Bytes) → AtOpening k f (0x50 ∷ q)
+opening_named_p : (k : List Flags) (f : Flags) (q : Bytes) → AtOpening k f (0x50 ∷ q)
     → (v : Bytes) × (q ≡ 0x3C ∷ v) × AtNamed k f v
 opening_named_p k f q (named_p n w is h) = (n ++ 0x3E ∷ w, refl, (n, w, refl, is, h))
 opening_named_p k f q (flags g on n w _ e sets h) = flags_sign f g on n sets w 0x50 q e refl
+
+-- where a `?` and the signs were read
+pub named_at : {a r q : Bytes} (k : List Flags) (f : Flags) → FromAtom k f (0x28 ∷ a) → a ≡ 0x3F ∷ r → r ≡ 0x3C ∷ q
+    → AtNamed k f q
+named_at k f h e s = opening_named k f _ (opening_next k f _ (rw (e, s) at h))
+
+pub named_p_at : {a r q : Bytes} (k : List Flags) (f : Flags) → FromAtom k f (0x28 ∷ a) → a ≡ 0x3F ∷ r → r ≡ 0x50 ∷ q
+    → (v : Bytes) × (q ≡ 0x3C ∷ v) × AtNamed k f v
+named_p_at k f h e s = opening_named_p k f _ (opening_next k f _ (rw (e, s) at h))
 
 -- flags and a colon after `(?`
 abbrev pub AtFlags : List Flags → Flags → Bytes → Type 0

@@ -2,12 +2,12 @@
 -- Main statements: choice_follows, text_follows.
 -- Used by: the proofs that the parser rejects no pattern.
 -- Idea: a rule that appends at the right is, before a text that follows, a step to the right.
-use Rattle.determinize_syntax.proofs.Common.{◌++◌, ◌∈◌, ◌∷◌, ◌≡◌, Atom, Bool, Branches, Bytes, Flags, FromAtom}
-use Rattle.determinize_syntax.proofs.Common.{FromItem, FromOperator, Inner, List, Operator, Option, Re, Repeated, Some}
-use Rattle.determinize_syntax.proofs.Common.{SpellsUnder, [], ap, append-nil, append_assoc, arith, by_cases, codes}
-use Rattle.determinize_syntax.proofs.Common.{false, inl, inr, not, refl, slice_get, some_injective, subst, sym, true, ℕ}
-use Rattle.determinize_syntax.specs.Spells.{Choice, Items}
-use Rattle.determinize_syntax.specs.Private.Following.{AfterOperator}
+use Rattle.determinize_syntax.proofs.Common.{◌++◌, ◌∈◌, ◌∷◌, ◌≡◌, AfterOperator, Atom, Bool, Branches, Bytes, Choice}
+use Rattle.determinize_syntax.proofs.Common.{Flags, FromAtom, FromItem, FromOperator, Inner, List, Operator, Option, Re}
+use Rattle.determinize_syntax.proofs.Common.{Repeated, Some, SpellsUnder, [], ap, append-nil, append_assoc, arith}
+use Rattle.determinize_syntax.proofs.Common.{by_cases, codes, false, inl, inr, not, refl, slice_get, some_injective}
+use Rattle.determinize_syntax.proofs.Common.{subst, sym, true, ℕ}
+use Rattle.determinize_syntax.specs.Spells.{Items}
 use Rattle.determinize_syntax.proofs.Escapes.{asserted_at, class_at, escaped_at, wide_at}
 use Rattle.determinize_syntax.proofs.Inner.{inside_follows}
 use Rattle.determinize_syntax.specs.Spells as s

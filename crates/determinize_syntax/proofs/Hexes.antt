@@ -2,14 +2,12 @@
 -- Main statements: two_read, braced_read, wide_read, two_next, braces_next, numbered_byte, numbered_wide.
 -- Used by: the proofs of `hex` and `braces`.
 -- Idea: a brace decides whether two digits follow, and the number is small enough that its digits are counted.
-use Rattle.determinize_syntax.proofs.Common.{◌*◌, ◌+◌, ◌<◌, ◌∷◌, ◌≡◌, ◌≤◌, Bytes, Escape, Escaped, IsDigit, IsDigits}
-use Rattle.determinize_syntax.proofs.Common.{IsScalar, Part, Some, Wide, [], and_parts, arith, digit_value, inl, inr}
-use Rattle.determinize_syntax.proofs.Common.{is_digit, nat_tests, number, refl, slice_get, true, ℕ}
+use Rattle.determinize_syntax.proofs.Common.{◌*◌, ◌+◌, ◌<◌, ◌∷◌, ◌≡◌, ◌≤◌, AtNumber, Bytes, Escape, Escaped, IsDigit}
+use Rattle.determinize_syntax.proofs.Common.{IsDigits, IsScalar, IsWide, Part, Some, Wide, [], and_parts, arith, closed}
+use Rattle.determinize_syntax.proofs.Common.{digit_value, inl, inr, is_digit, nat_tests, number, onward, refl}
+use Rattle.determinize_syntax.proofs.Common.{slice_get, true, ℕ}
 use Rattle.std.specs.Char.{InScalarRange}
-use Rattle.determinize_syntax.specs.Private.Letters.{AtNumber}
-use Rattle.determinize_syntax.specs.Spells.{IsWide}
 use Rattle.determinize_syntax.proofs.Numbers.{number_begins, number_more, number_one}
-use Rattle.determinize_syntax.proofs.Parts.{closed, onward}
 use Rattle.determinize_syntax.specs.Private.Letters as to
 use Rattle.determinize_syntax.specs.Spells as s
 use Rattle.determinize_syntax.specs.declared.escape.Escape.TheVariants as escape

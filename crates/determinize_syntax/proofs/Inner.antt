@@ -2,10 +2,9 @@
 -- Main statements: sets_follow, inside_follows.
 -- Used by: the proofs that the parser rejects no pattern.
 -- Idea: a rule that appends at the right is, before a text that follows, a step to the right.
-use Rattle.determinize_syntax.proofs.Common.{◌&&◌, ◌++◌, ◌==◌, ◌∈◌, ◌∷◌, ◌≡◌, Before, Bool, Bytes, Flags, Inner, Item}
-use Rattle.determinize_syntax.proofs.Common.{Letters, Listing, Set, Sets, [], and_parts, append_assoc, by_cases, false}
-use Rattle.determinize_syntax.proofs.Common.{inl, inr, is_ascii, not, not-true, refl, true, ℕ}
-use Rattle.determinize_syntax.specs.Spells.{Inside, Lists, stands}
+use Rattle.determinize_syntax.proofs.Common.{◌&&◌, ◌++◌, ◌==◌, ◌∈◌, ◌∷◌, ◌≡◌, Before, Bool, Bytes, Flags, Inner, Inside}
+use Rattle.determinize_syntax.proofs.Common.{Item, Letters, Listing, Lists, Set, Sets, [], and_parts, append_assoc}
+use Rattle.determinize_syntax.proofs.Common.{by_cases, false, inl, inr, is_ascii, not, not-true, refl, stands, true, ℕ}
 use Rattle.determinize_syntax.specs.declared.bracket.Before.TheVariants.{AfterClass, AfterHyphen, AfterOne, AfterRange}
 use Rattle.determinize_syntax.specs.declared.bracket.Before.TheVariants.{First}
 use Rattle.determinize_syntax.proofs.Escapes.{bound_at, class_at, escaped_at, wide_at}

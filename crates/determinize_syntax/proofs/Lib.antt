@@ -5,6 +5,7 @@ pub mod Classes
 pub mod Characters
 pub mod Numbers
 pub mod Parts
+pub mod Rules
 pub mod Unicode
 pub mod Following
 pub mod Stepping

@@ -2,10 +2,11 @@
 -- Main statements: operator_opens, passes_part, passes_then, right_after, local_limits, name_added, name_twice.
 -- Used by: the proofs that the errors at a limit are right.
 -- Idea: openings are counted, so those of two parts are added; a name that was read is in the part before the place.
-use Rattle.determinize_syntax.proofs.Common.{◌++◌, ◌+◌, ◌<◌, ◌∈◌, ◌∙◌, ◌∷◌, ◌≡◌, ◌≤◌, Bool, Bytes, List, Operator}
-use Rattle.determinize_syntax.proofs.Common.{Option, Part, Passes, [], ap, append-nil, append_assoc, arith, codes, cond}
-use Rattle.determinize_syntax.proofs.Common.{false, is_name, list_any, not, refl, subst, sym, true, ℕ}
-use Rattle.std.proofs.Common.{◌-◌, All}
+use Rattle.determinize_syntax.proofs.Common.{◌++◌, ◌+◌, ◌-◌, ◌<◌, ◌∈◌, ◌∙◌, ◌∷◌, ◌≡◌, ◌≤◌, All-nil, Bool, Bytes}
+use Rattle.determinize_syntax.proofs.Common.{HasNameTwice, List, NEST_LIMIT, Operator, Option, Part, Passes, [], ap}
+use Rattle.determinize_syntax.proofs.Common.{append-nil, append_assoc, arith, bracketed, codes, cond, false, is_name}
+use Rattle.determinize_syntax.proofs.Common.{list_any, not, openings, refl, subst, sym, true, ℕ}
+use Rattle.std.proofs.Common.{All}
 use Rattle.std.specs.Prelude.{Err, IfErr, IfOk, MatchResult, Ok, Result, max}
 use Rattle.std.specs.Bool.{⊤}
 use Rattle.std.specs.Cmp.Lexicographic.{slice_cmp}
@@ -13,17 +14,15 @@ use Rattle.std.specs.declared.cmp.Ordering.{Ordering}
 use Rattle.std.specs.declared.cmp.Ordering.TheVariants.{Equal, Greater, Less}
 use Rattle.std.specs.BTreeSet.{insert_key}
 use Rattle.std.specs.Ordering.{is_eq, nat_cmp}
-use Rattle.std.proofs.lemmas.List.Elements.{All-nil, All-weaker}
+use Rattle.std.proofs.lemmas.List.Elements.{All-weaker}
 use Rattle.std.proofs.lemmas.List.Folds.{Any-from_list_any}
 use Rattle.std.proofs.lemmas.List.Sums.{sum_by-append}
 use Rattle.std.proofs.lemmas.Map.Lookups.{exact_bytes}
 use Rattle.std.proofs.lemmas.Map.Views.{All-insert_key}
-use Rattle.determinize_syntax.specs.Limits.{HasNameTwice, bracketed, openings}
 use Rattle.determinize_syntax.specs.Private.Names.{HasName, HasNames, IsRight, is_local}
 use Rattle.determinize_syntax.specs.declared.error.ErrorKind.TheVariants.{GroupNameDuplicate, NestLimitExceeded}
 use Rattle.determinize_syntax.specs.declared.error.ParseError.{ParseError}
 use Rattle.determinize_syntax.specs.declared.group.Context.{Context}
-use Rattle.determinize_syntax.specs.declared.parser.TheConstants.{NEST_LIMIT}
 use Rattle.determinize_syntax.specs.Spells as s
 
 -- an error that is local is none of a limit
@@ -167,12 +166,13 @@ maybe n true read left = (n ∷ [], read refl, tt)
 maybe n false read left = ([], sym (left refl), tt)
 
 -- what was read before a name, with the name, and the text
-pub read_name : (text read n b after : Bytes) → text ≡ read ++ 0x3C ∷ (n ++ b) → b ≡ 0x3E ∷ after
+pub read_name : {text a b t n after : Bytes} (read : Bytes) → text ≡ read ++ 0x3C ∷ a → a ≡ t ++ b → n ≡ t
+    → b ≡ 0x3E ∷ after
     → text ≡ (read ++ bracketed n) ++ after
-read_name text read n b after e close =
+read_name {b = b} {n = n} {after = after} read e f same close =
     let there : (read ++ bracketed n) ++ after ≡ read ++ 0x3C ∷ (n ++ 0x3E ∷ after) =
     append_assoc read (bracketed n) after ∙ ap (λ l. read ++ 0x3C ∷ l) (append_assoc n (0x3E ∷ []) after) in
-    e ∙ ap (λ l. read ++ 0x3C ∷ (n ++ l)) close ∙ sym there
+    e ∙ ap (λ l. read ++ 0x3C ∷ l) (f ∙ ap (λ w. w ++ b) (sym same) ∙ ap (λ l. n ++ l) close) ∙ sym there
 
 module _ {K : Type 0} (bytes : K → Bytes) where
   pub name_added : (cmp : _) (keys : List K) (key : K) (read : Bytes) → is_name (bytes key) ≡ true

@@ -1,23 +1,20 @@
 -- Rules of brackets whose parts were read.
--- Main statements: a lemma for each rule, and inside_closed, inside_hyphen, bracket_read.
+-- Main statements: a lemma for each rule, and inside_closed, inside_hyphen, any_bracket_read.
 -- Used by: the proofs of `bracket`.
 -- Idea: a part extends what is listed, and ranges that are added have the bytes that it lists.
 use Rattle.determinize_syntax.proofs.Common.{◌++◌, ◌<◌, ◌||◌, ◌∈◌, ◌∙◌, ◌∷◌, ◌≡◌, ◌≤◌, AddsChars, Atom, Before, Bool}
-use Rattle.determinize_syntax.proofs.Common.{Bound, ClassKind, Escaped, Flags, IsEscape, IsOneOf, List, Part, Re, Set}
-use Rattle.determinize_syntax.proofs.Common.{Some, Wide, [], ap, append_assoc, arith, codes, false, folded, is_in}
-use Rattle.determinize_syntax.proofs.Common.{knows_cases, length, named_class, not, only, refl, set_of, slice_get}
+use Rattle.determinize_syntax.proofs.Common.{Bound, ClassKind, Escaped, Flags, HasChars, Inside, IsEscape, IsOneOf}
+use Rattle.determinize_syntax.proofs.Common.{List, Lists, Part, Re, Set, Some, Text, Wide, [], ap, append_assoc, arith}
+use Rattle.determinize_syntax.proofs.Common.{closed, codes, false, folded, is_in, knows_cases, length, list_any-append}
+use Rattle.determinize_syntax.proofs.Common.{named_class, not, only, onward, prefixed, refl, renamed, set_of, slice_get}
 use Rattle.determinize_syntax.proofs.Common.{subst, sym, true, turned, within, ℕ}
 use Rattle.std.specs.Int.{is_in_range}
-use Rattle.std.proofs.lemmas.List.Folds.{list_any-append}
 use Rattle.determinize_syntax.specs.Private.Brackets.{Extends, IsInside}
-use Rattle.determinize_syntax.specs.Private.Sets.{HasChars}
-use Rattle.determinize_syntax.specs.Spells.{Inside, Lists}
 use Rattle.determinize_syntax.specs.Words.{complement, joined}
 use Rattle.determinize_syntax.specs.declared.bracket.Before.TheVariants.{AfterClass, AfterHyphen, AfterOne, AfterRange}
 use Rattle.determinize_syntax.specs.declared.bracket.Before.TheVariants.{First}
 use Rattle.determinize_syntax.specs.declared.escape.Escape.TheVariants.{Class}
 use Rattle.determinize_syntax.proofs.Escapes.{class_of, perl_class_of}
-use Rattle.determinize_syntax.proofs.Parts.{Text, closed, onward, prefixed, renamed}
 use Rattle.determinize_syntax.specs.Spells as s
 
 abbrev pub Pairs : Type 0

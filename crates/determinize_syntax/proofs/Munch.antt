@@ -1,14 +1,15 @@
 -- Bytes of a kind up to the first that is not.
--- Main statements: munch, names_same, looks, named_boundary, named_letters, name_passed.
+-- Main statements: munch, names_same, looks, named_boundary, named_kind, name_passed.
 -- Used by: the proofs that the parser rejects no name and no boundary.
 -- Idea: two runs of bytes of a kind, both followed by none of the kind, are the same.
+use Rattle.determinize_syntax.proofs.Common.{List, nat_lt}
 use Rattle.determinize_syntax.proofs.Common.{◌&&◌, ◌++◌, ◌==◌, ◌||◌, ◌∈◌, ◌∙◌, ◌∷◌, ◌≡◌, ◌⊎◌, Bool, Bytes, ClassKind}
-use Rattle.determinize_syntax.proofs.Common.{Look, None, Part, Set, Some, String, [], and_parts, ap, append_assoc}
-use Rattle.determinize_syntax.proofs.Common.{arith, assertion, by_cases, codes, eqb-true, false, inl, inr}
-use Rattle.determinize_syntax.proofs.Common.{is_in_boundary, is_name, length, list_all, list_all-append, name_of}
-use Rattle.determinize_syntax.proofs.Common.{named_class, nat_tests, not, refl, slice_get, some_injective, subst, sym}
-use Rattle.determinize_syntax.proofs.Common.{true, ℕ}
-use Rattle.std.proofs.Common.{nat_eq}
+use Rattle.determinize_syntax.proofs.Common.{IsPastBoundary, Look, NamedTo, None, Part, Set, Some, String, []}
+use Rattle.determinize_syntax.proofs.Common.{and_parts, ap, append_assoc, arith, assertion, begins_name, by_cases}
+use Rattle.determinize_syntax.proofs.Common.{chosen, clash, codes, either, eqb-true, false, heads, inl, inr}
+use Rattle.determinize_syntax.proofs.Common.{is_in_boundary, is_in_name, is_name, length, list_all, list_all-append}
+use Rattle.determinize_syntax.proofs.Common.{name_of, named_class, nat_eq, nat_tests, not, refl, slice_get}
+use Rattle.determinize_syntax.proofs.Common.{some_injective, subst, sym, tails, true, ℕ}
 use Rattle.std.specs.Char.{is_ascii_digit}
 use Rattle.std.proofs.lemmas.Slice.Eq.{bytes_eq-Decides}
 use Rattle.std.proofs.lemmas.List.{append_cancel_right}
@@ -16,10 +17,8 @@ use Rattle.determinize_syntax.specs.declared.kind.ClassKind.TheVariants.{Alnum, 
 use Rattle.determinize_syntax.specs.declared.kind.ClassKind.TheVariants.{Graph, Lower, Print, Punct, Space, Upper, Word}
 use Rattle.determinize_syntax.specs.declared.kind.ClassKind.TheVariants.{Xdigit}
 use lib.Pointwise.{pointwise}
-use Rattle.determinize_syntax.specs.Private.Following.{IsPastBoundary}
-use Rattle.determinize_syntax.specs.Private.Letters.{NamedTo}
-use Rattle.determinize_syntax.specs.Words.{begins_name, is_in_name, is_text}
-use Rattle.determinize_syntax.proofs.Bytes.{chosen, clash, either, heads, tails, within}
+use Rattle.determinize_syntax.specs.Words.{is_text}
+use Rattle.determinize_syntax.proofs.Bytes.{within}
 
 -- the text does not begin with a byte of the kind
 abbrev pub IsPast : (ℕ → Bool) → Bytes → Type 0
@@ -181,39 +180,33 @@ no_boundary n look start end start_half end_half =
     named s same =
         let rest : n ++ codes "}" ≡ codes s ++ codes "}" = (cc) in append_cancel_right n (codes s) (codes "}") rest
 
--- each name of a class is that of a kind
-pub named_kind : (n : Bytes) (s : Set) → named_class n ≡ Some s → (kind : ClassKind) × (n ≡ codes (name_of kind))
-named_kind n s =
-    chosen (is_text "alnum" n) _ _ (kind Alnum) (chosen (is_text "alpha" n) _ _ (kind Alpha)
-    (chosen (is_text "ascii" n) _ _ (kind Ascii) (chosen (is_text "blank" n) _ _ (kind Blank)
-    (chosen (is_text "cntrl" n) _ _ (kind Cntrl) (chosen (is_text "digit" n) _ _ (kind Digit)
-    (chosen (is_text "graph" n) _ _ (kind Graph) (chosen (is_text "lower" n) _ _ (kind Lower)
-    (chosen (is_text "print" n) _ _ (kind Print) (chosen (is_text "punct" n) _ _ (kind Punct)
-    (chosen (is_text "space" n) _ _ (kind Space) (chosen (is_text "upper" n) _ _ (kind Upper)
-    (chosen (is_text "word" n) _ _ (kind Word) (chosen (is_text "xdigit" n) _ _ (kind Xdigit)
-    (λ e. absurd (cc))))))))))))))) where
-      kind : {B : Type 0} (k : ClassKind) → pointwise nat_eq n (codes (name_of k)) ≡ true → B
-          → (kind : ClassKind) × (n ≡ codes (name_of kind))
-      kind k h e = (k, text_is n (codes (name_of k)) h)
+-- the kinds of classes in their order
+abbrev pub kinds : List ClassKind
+kinds = Alnum ∷ Alpha ∷ Ascii ∷ Blank ∷ Cntrl ∷ Digit ∷ Graph ∷ Lower ∷ Print ∷ Punct ∷ Space ∷ Upper ∷ Word ∷ Xdigit
+    ∷ []
 
--- the name of a class has letters
-pub named_letters : (n : Bytes) (s : Set) → named_class n ≡ Some s → All is_in_boundary n
-named_letters n s e = let x = named_kind n s e in subst (All is_in_boundary) (sym x.1) (letters x.0) where
-  letters : (k : ClassKind) → All is_in_boundary (codes (name_of k))
-  letters Alnum = refl
-  letters Alpha = refl
-  letters Ascii = refl
-  letters Blank = refl
-  letters Cntrl = refl
-  letters Digit = refl
-  letters Graph = refl
-  letters Lower = refl
-  letters Print = refl
-  letters Punct = refl
-  letters Space = refl
-  letters Upper = refl
-  letters Word = refl
-  letters Xdigit = refl
+-- each name of a class is that of a kind, and has letters
+pub named_kind : (n : Bytes) (s : Set) → named_class n ≡ Some s
+    → (i : ℕ) × (k : ClassKind) × (slice_get kinds i ≡ Some k) × (n ≡ codes (name_of k))
+    × ((nat_lt i 14 && list_all is_in_boundary (codes (name_of k))) ≡ true)
+named_kind n s =
+    chosen (is_text "alnum" n) _ _ (kind 0 Alnum refl refl) (chosen (is_text "alpha" n) _ _ (kind 1 Alpha refl refl)
+    (chosen (is_text "ascii" n) _ _ (kind 2 Ascii refl refl) (chosen (is_text "blank" n) _ _ (kind 3 Blank refl refl)
+    (chosen (is_text "cntrl" n) _ _ (kind 4 Cntrl refl refl) (chosen (is_text "digit" n) _ _ (kind 5 Digit refl refl)
+    (chosen (is_text "graph" n) _ _ (kind 6 Graph refl refl) (chosen (is_text "lower" n) _ _ (kind 7 Lower refl refl)
+    (chosen (is_text "print" n) _ _ (kind 8 Print refl refl) (chosen (is_text "punct" n) _ _ (kind 9 Punct refl refl)
+    (chosen (is_text "space" n) _ _ (kind 10 Space refl refl) (chosen (is_text "upper" n) _ _ (kind 11 Upper refl refl)
+    (chosen (is_text "word" n) _ _ (kind 12 Word refl refl) (chosen (is_text "xdigit" n) _ _ (kind 13 Xdigit refl refl)
+    (λ e. absurd (cc))))))))))))))) where
+      kind : {B : Type 0} (i : ℕ) (k : ClassKind) → slice_get kinds i ≡ Some k
+          → (nat_lt i 14 && list_all is_in_boundary (codes (name_of k))) ≡ true
+          → pointwise nat_eq n (codes (name_of k)) ≡ true → B
+          → (i : ℕ) × (k : ClassKind) × (slice_get kinds i ≡ Some k) × (n ≡ codes (name_of k))
+          × ((nat_lt i 14 && list_all is_in_boundary (codes (name_of k))) ≡ true)
+      kind i k at letters h e = (i, k, at, text_is n (codes (name_of k)) h, letters)
+
+named_letters : (n : Bytes) (s : Set) → named_class n ≡ Some s → All is_in_boundary n
+named_letters n s e = let x = named_kind n s e in rw x.3 (and_parts (nat_lt x.0 14) _ x.4).1
 
 -- no name begins with the sign
 pub name_sign : {A : Type 0} (n w a : Bytes) → is_name n ≡ true → a ≡ n ++ w → (d : ℕ) (t : Bytes) → a ≡ d ∷ t

@@ -1,15 +1,15 @@
 -- What may follow in brackets, by the byte that is there.
--- Main statements: closed_by, ended_by, item_next, hyphen_next, escape_next, name_next, plain_next, bound_escape.
+-- Main statements: closed_by, ended_by, item_next, hyphen_next, escape_listed, name_next, plain_next, bound_listed.
 -- Used by: the proofs that the parser rejects no brackets.
 -- Idea: the first byte, and of a hyphen what is before it, decides which item it is.
-use Rattle.determinize_syntax.proofs.Common.{◌&&◌, ◌∈◌, ◌∷◌, ◌≡◌, ◌≤◌, ◌⊎◌, AtEscape, Before, Bool, Bytes, Escape}
-use Rattle.determinize_syntax.proofs.Common.{Flags, Inner, IsWideAt, Item, Listing, Set, Some, [], and_parts, false}
-use Rattle.determinize_syntax.proofs.Common.{inl, inr, is_ascii, named_class, not, refl, slice_get, true, ℕ}
-use Rattle.determinize_syntax.specs.Private.Letters.{AtBound, IsEndOf, Listed, NamedTo}
-use Rattle.determinize_syntax.specs.Spells.{may_end, stands}
+use Rattle.determinize_syntax.specs.Private.Following.{MayPrecede}
+use Rattle.determinize_syntax.proofs.Common.{◌&&◌, ◌∈◌, ◌∷◌, ◌≡◌, ◌≤◌, ◌⊎◌, AtBound, AtEscape, Before, Bool, Bytes}
+use Rattle.determinize_syntax.proofs.Common.{Escape, Flags, Inner, IsWideAt, Item, Listing, NamedTo, Set, Some, []}
+use Rattle.determinize_syntax.proofs.Common.{and_parts, clash, false, inl, inr, is_ascii, may_end, named_class, not}
+use Rattle.determinize_syntax.proofs.Common.{refl, slice_get, stands, true, ℕ}
+use Rattle.determinize_syntax.specs.Private.Letters.{IsEndOf, Listed}
 use Rattle.determinize_syntax.specs.declared.bracket.Before.TheVariants.{AfterClass, AfterHyphen, AfterOne, AfterRange}
 use Rattle.determinize_syntax.specs.declared.bracket.Before.TheVariants.{First}
-use Rattle.determinize_syntax.proofs.Bytes.{clash}
 use Rattle.determinize_syntax.specs.Private.Letters as to
 use Rattle.determinize_syntax.specs.declared.escape.Escape.TheVariants as escape
 
@@ -89,6 +89,14 @@ escape_next f u p r (to.escaped _ q e _ s at is h) = (q, e, s, at, is, h)
 escape_next f u p r (to.byte _ _ _ _ _ sign _) = absurd (cc)
 escape_next f u p r (to.wide _ _ _ _ _ _ is _) = clash refl is.1
 
+-- where an escape d was read up to a
+pub escape_listed : {d : Escape} {a : Bytes} (f : Flags) (u : Bytes) (p : Before) (r : Bytes) → Item f u p (0x5C ∷ r)
+    → ((e : Escape) (s : Bytes) → AtEscape s e r → MayPrecede e s → (d ≡ e) × (a ≡ s))
+    → (q : Before) × Listed f d q × Listing f u q a
+escape_listed f u p r h whole =
+    let x = escape_next f u p r h in
+    let y = whole x.1 x.2 x.3 (λ look is. absurd (rw is at x.4)) in (x.0, rw y.0 x.4, rw y.1 x.5)
+
 -- the name of a class, after its bracket, and what follows
 pub name_next : (f : Flags) (u : Bytes) (p : Before) (r : Bytes) → Item f u p (0x5B ∷ r)
     → (n : Bytes) × (k : Set) × (caret : Bool) × (s : Bytes) × (r ≡ NamedTo n caret s) × (named_class n ≡ Some k)
@@ -123,6 +131,12 @@ pub bound_escape : (f : Flags) (h : ℕ) (u r : Bytes) → AtBound f h u (0x5C �
 bound_escape f h u r (to.plain is) = absurd (cc)
 bound_escape f h u r (to.escaped e _ at is) = (e, at, is)
 bound_escape f h u r (to.wide _ _ _ is) = clash refl is.1
+
+pub bound_listed : {d : Escape} {a : Bytes} (f : Flags) (h : ℕ) (u r : Bytes) → AtBound f h u (0x5C ∷ r)
+    → ((e : Escape) (s : Bytes) → AtEscape s e r → MayPrecede e s → (d ≡ e) × (a ≡ s)) → IsEndOf f h d × (a ≡ u)
+bound_listed f h u r bound whole =
+    let x = bound_escape f h u r bound in
+    let y = whole x.0 u x.1 (λ look is. absurd (rw is at x.2)) in (rw y.0 x.2, y.1)
 
 pub no_hyphen : {A : Type 0} (f : Flags) (h : ℕ) (u r : Bytes) → AtBound f h u (0x2D ∷ r) → A
 no_hyphen f h u r (to.plain is) = absurd (cc)

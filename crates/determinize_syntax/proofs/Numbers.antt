@@ -3,14 +3,12 @@
 -- Used by: the proofs of `decimal` and of numbers in escapes.
 -- Idea: a digit more multiplies the number by the radix, and adds its value; a digit that is next is one of the number,
 -- since none follows after it.
-use Rattle.determinize_syntax.proofs.Common.{◌&&◌, ◌*◌, ◌++◌, ◌+◌, ◌∙◌, ◌∷◌, ◌≡◌, ◌≤◌, Bool, Bytes, IsDigit, IsDigits}
-use Rattle.determinize_syntax.proofs.Common.{NoDigit, None, Part, Some, [], and_parts, ap, arith, digit_value, false}
-use Rattle.determinize_syntax.proofs.Common.{if◌then◌else◌, is_digit, list_all, list_all-append, number, refl}
-use Rattle.determinize_syntax.proofs.Common.{slice_get, some_injective, sym, true, ℕ}
-use Rattle.std.proofs.Common.{◌-◌}
+use Rattle.determinize_syntax.proofs.Common.{◌&&◌, ◌*◌, ◌++◌, ◌+◌, ◌-◌, ◌∙◌, ◌∷◌, ◌≡◌, ◌≤◌, Bool, Bytes, IsDigit}
+use Rattle.determinize_syntax.proofs.Common.{IsDigits, NoDigit, None, Part, Some, [], and_parts, ap, arith, clash}
+use Rattle.determinize_syntax.proofs.Common.{digit_value, false, heads, if◌then◌else◌, is_digit, list_all}
+use Rattle.determinize_syntax.proofs.Common.{list_all-append, number, onward, refl, renamed, slice_get, some_injective}
+use Rattle.determinize_syntax.proofs.Common.{sym, tails, true, ℕ}
 use Rattle.determinize_syntax.specs.Words.{number_after}
-use Rattle.determinize_syntax.proofs.Bytes.{clash, heads, tails}
-use Rattle.determinize_syntax.proofs.Parts.{onward, renamed}
 
 if_some : (b : Bool) (x v : ℕ) → (if b then Some x else None) ≡ Some v → (b ≡ true) × (x ≡ v)
 if_some true x v e = (refl, (cc))

@@ -4,15 +4,17 @@
 -- Used by: the proofs that the parser rejects no pattern.
 -- Idea: the first byte decides by which rule a text follows, since no two rules have one in common but those of a group
 -- and a setting.
-use Rattle.determinize_syntax.proofs.Common.{◌&&◌, ◌<◌, ◌==◌, ◌∈◌, ◌∙◌, ◌∷◌, ◌≡◌, ◌≤◌, ◌⊎◌, AtEscape, Bool, Bytes}
-use Rattle.determinize_syntax.proofs.Common.{Escape, Flags, FromAtom, FromItem, FromOperator, IsWideAt, List, Some, []}
-use Rattle.determinize_syntax.proofs.Common.{and_parts, ap, append-nil, arith, by_test, codes, encode_utf8, eqb-true}
+use Rattle.determinize_syntax.proofs.Common.{front_of}
+use Rattle.determinize_syntax.proofs.Common.{◌&&◌, ◌<◌, ◌==◌, ◌∈◌, ◌∙◌, ◌∷◌, ◌≡◌, ◌≤◌, ◌⊎◌, AfterOperator, AtEscape}
+use Rattle.determinize_syntax.proofs.Common.{Bool, Bracketed, Bytes, CountsTo, Enters, Escape, Flags, FromAtom}
+use Rattle.determinize_syntax.proofs.Common.{FromItem, FromOperator, IsBranchEnd, IsWideAt, List, Some, [], and_parts}
+use Rattle.determinize_syntax.proofs.Common.{ap, apart, append-nil, arith, by_test, clash, codes, encode_utf8, eqb-true}
 use Rattle.determinize_syntax.proofs.Common.{false, inl, inr, is_ascii, knows_cases, len_utf8, length, length-encode}
 use Rattle.determinize_syntax.proofs.Common.{not, not-true, refl, slice_get, sym, true, ℕ}
 use Rattle.std.proofs.lemmas.Str.{inside_one}
-use Rattle.determinize_syntax.specs.Private.Following.{AfterOperator, Bracketed, CountsTo, Enters, IsBranchEnd, IsEnd}
+use Rattle.determinize_syntax.specs.Private.Following.{IsEnd}
 use Rattle.determinize_syntax.specs.Private.Reading.{is_available}
-use Rattle.determinize_syntax.proofs.Bytes.{apart, clash, within}
+use Rattle.determinize_syntax.proofs.Bytes.{within}
 use Rattle.determinize_syntax.specs.Private.Following as to
 
 -- a character beyond ASCII begins with a byte beyond ASCII
@@ -165,6 +167,12 @@ byte_next k f d u (to.sign _ _ _ _ is h) other sign = clash is sign
 byte_next k f d u (to.escaped _ _ _ _ _ _ _ _) other sign = absurd (cc)
 byte_next k f d u (to.brackets _ _ _ _ _ _ _) other sign = absurd (cc)
 byte_next k f d u (to.group _ _ _ _ _ _ _) other sign = absurd (cc)
+
+pub byte_at : (k : List Flags) (f : Flags) (t : Bytes) (d : ℕ) → slice_get t 0 ≡ Some d → FromAtom k f t
+    → ((c : ℕ) → slice_get t 0 ≡ Some c → c ∈ "([\\" ≡ false) → d ∈ ".^$" ≡ false
+    → (w : Bytes) × (t ≡ d ∷ w) × AtByte k f d w
+byte_at k f t d at h other sign =
+    let x = front_of t d at in (x.0, x.1, byte_next k f d x.0 (rw x.1 at h) (other d at) sign)
 
 -- an atom is not empty
 pub atom_some : {A : Type 0} (k : List Flags) (f : Flags) → FromAtom k f [] → A

@@ -2,23 +2,22 @@
 -- Main statements: choice_reads_characters.
 -- Used by: characters_law.
 -- Idea: what clears `u` in a part clears it in the whole, so the flag holds at each atom, and each atom matches UTF-8.
-use Rattle.determinize_syntax.proofs.Common.{◌&&◌, ◌++◌, ◌<◌, ◌||◌, ◌∈◌, ◌∙◌, ◌∷◌, ◌≡◌, ◌⊎◌, Atom, Bool, Branches}
-use Rattle.determinize_syntax.proofs.Common.{Bytes, Flags, IsOneOf, IsScalar, List, Option, Re, Repeated, Set, Sets}
-use Rattle.determinize_syntax.proofs.Common.{Some, Wide, [], and_parts, ap, append_assoc, arith, by_cases, codes, cond}
-use Rattle.determinize_syntax.proofs.Common.{encode_utf8, false, folded, if◌then◌else◌, inl, inr, is_ascii, knows_cases}
-use Rattle.determinize_syntax.proofs.Common.{not, not-true, only, refl, some_injective, subst, sym, true, ℕ}
+use Rattle.determinize_syntax.proofs.Common.{chosen}
+use Rattle.determinize_syntax.proofs.Common.{◌&&◌, ◌++◌, ◌<◌, ◌||◌, ◌∈◌, ◌∙◌, ◌∷◌, ◌≡◌, ◌⊎◌, All-nil, Atom, Bool}
+use Rattle.determinize_syntax.proofs.Common.{Branches, Bytes, Choice, Flags, IsClass, IsOneOf, IsScalar, IsUtf8-encode}
+use Rattle.determinize_syntax.proofs.Common.{List, Re, Repeated, Set, Sets, Some, Wide, [], and_parts, ap}
+use Rattle.determinize_syntax.proofs.Common.{append_assoc, arith, by_cases, choice_of, codes, cond, encode_utf8, false}
+use Rattle.determinize_syntax.proofs.Common.{folded, inl, inr, is_ascii, knows_cases, not, not-true}
+use Rattle.determinize_syntax.proofs.Common.{only, refl, sequence_of, set_flag, some_injective, subst, sym, true, ℕ}
 use Rattle.std.proofs.lemmas.Bool.{and_from, false≢true, or_from, or_left, or_parts, or_right}
-use Rattle.std.proofs.lemmas.List.Elements.{All-head, All-nil, All-push}
-use Rattle.std.proofs.lemmas.Str.{IsUtf8-encode}
+use Rattle.std.proofs.lemmas.List.Elements.{All-head, All-push}
 use Rattle.std.specs.List.{All}
 use Rattle.determinize_pattern.proofs.characters.Ascii.{ascii_reads}
 use Rattle.determinize_pattern.proofs.characters.Boundaries.{choice_reads, class_reads, literal_reads, look_reads}
 use Rattle.determinize_pattern.proofs.characters.Boundaries.{repeated_reads, sequence_reads}
 use Rattle.determinize_pattern.specs.Characters.{ReadsCharacters}
-use Rattle.determinize_pattern.specs.Patterns.{IsClass, choice_of}
-use Rattle.determinize_syntax.specs.Spells.{Choice, Items, sequence_of}
+use Rattle.determinize_syntax.specs.Spells.{Items}
 use Rattle.determinize_syntax.specs.Unicode.{group_clears_u, clears_u, clears_unicode, has_u}
-use Rattle.determinize_syntax.specs.Words.{set_flag}
 use Rattle.determinize_syntax.specs.Spells as s
 
 -- where the second does not hold, neither does the first
@@ -65,21 +64,16 @@ module _ (g h : Flags) (c : ℕ) (on : Bool) where
   abbrev IsLetter : Type 0
   IsLetter = ((c ∈ "imsRU" ≡ true) × (h.unicode ≡ g.unicode)) ⊎ ((c ∈ "u" ≡ true) × (h.unicode ≡ on))
 
-  choose : (b : Bool) (x y : Option Flags) → (b ≡ true → x ≡ Some h → IsLetter) → (y ≡ Some h → IsLetter)
-      → (if b then x else y) ≡ Some h → IsLetter
-  choose true x y p q e = p refl e
-  choose false x y p q e = q e
-
   same_u : (f : Flags) → Some f ≡ Some h → h.unicode ≡ f.unicode
   same_u f e = sym (ap (λ (x : Flags). x.unicode) (some_injective f h e))
 
   letter_sets : set_flag g c on ≡ Some h → IsLetter
-  letter_sets = choose (c ∈ "i") _ _ (λ i e. inl (grind (arith, i), same_u _ e))
-      (choose (c ∈ "m") _ _ (λ i e. inl (grind (arith, i), same_u _ e))
-      (choose (c ∈ "s") _ _ (λ i e. inl (grind (arith, i), same_u _ e))
-      (choose (c ∈ "U") _ _ (λ i e. inl (grind (arith, i), same_u _ e))
-      (choose (c ∈ "R") _ _ (λ i e. inl (grind (arith, i), same_u _ e))
-      (choose (c ∈ "u") _ _ (λ i e. inr (i, same_u _ e)) (λ e. absurd (cc)))))))
+  letter_sets = chosen (c ∈ "i") _ _ (λ i e. inl (grind (arith, i), same_u _ e))
+      (chosen (c ∈ "m") _ _ (λ i e. inl (grind (arith, i), same_u _ e))
+      (chosen (c ∈ "s") _ _ (λ i e. inl (grind (arith, i), same_u _ e))
+      (chosen (c ∈ "U") _ _ (λ i e. inl (grind (arith, i), same_u _ e))
+      (chosen (c ∈ "R") _ _ (λ i e. inl (grind (arith, i), same_u _ e))
+      (chosen (c ∈ "u") _ _ (λ i e. inr (i, same_u _ e)) (λ e. absurd (cc)))))))
 
 -- what clears `u` after these letters clears it with them
 abbrev LeadsOn : Bool → Bytes → Type 0

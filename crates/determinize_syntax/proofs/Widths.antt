@@ -3,12 +3,11 @@
 -- Used by: the proofs of `take_wide`.
 -- Idea: the first byte of a character decides how many it has.
 use Rattle.determinize_syntax.proofs.Common.{◌++◌, ◌+◌, ◌<◌, ◌∙◌, ◌∷◌, ◌≡◌, ◌≤◌, ◌⊎◌, Bytes, [], ap, arith, by_test}
-use Rattle.determinize_syntax.proofs.Common.{inl, inr, len_utf8, length, length-encode, ltb-false, ltb-true, nat_lt}
-use Rattle.determinize_syntax.proofs.Common.{refl, sym, ℕ}
+use Rattle.determinize_syntax.proofs.Common.{heads, inl, inr, len_utf8, length, length-encode, ltb-false, ltb-true}
+use Rattle.determinize_syntax.proofs.Common.{nat_lt, refl, sym, ℕ}
 use Rattle.std.proofs.Common.{◌/◌, le-ltb, length-append, lt-ltb, take}
 use Rattle.std.specs.Char.{encode_utf8}
 use Rattle.std.proofs.lemmas.Bool.{cond-false, cond-true}
-use Rattle.determinize_syntax.proofs.Bytes.{heads}
 
 -- the first byte, and how many there are
 abbrev pub WidthOf : ℕ → ℕ → Type 0

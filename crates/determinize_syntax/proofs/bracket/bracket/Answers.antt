@@ -1,7 +1,6 @@
-use Rattle.determinize_syntax.proofs.Common.{◌∙◌, ◌∷◌, ◌≡◌, Bool, Bytes, Flags, Inner, Some, ap, by_cases, char_pairs}
-use Rattle.determinize_syntax.proofs.Common.{false, meaning, refl, rest, rules, slice_get, sym, true}
-use Rattle.determinize_syntax.specs.Private.Following.{Bracketed}
-use Rattle.determinize_syntax.proofs.Bytes.{clash, tails}
+use Rattle.determinize_syntax.proofs.Common.{◌∙◌, ◌∷◌, ◌≡◌, Bool, Bracketed, Bytes, Flags, Inner, Some, ap, by_cases}
+use Rattle.determinize_syntax.proofs.Common.{char_pairs, clash, false, meaning, refl, rest, rules, slice_get, sym}
+use Rattle.determinize_syntax.proofs.Common.{tails, true}
 use Rattle.determinize_syntax.proofs.Characters.{one_of_listed}
 use Rattle.determinize_syntax.proofs.Listing.{any_bracket_read}
 use Rattle.determinize_syntax.proofs.Stepping.{bracket_next}

@@ -1,7 +1,5 @@
-use Rattle.determinize_syntax.proofs.Common.{◌∙◌, ◌∷◌, ◌≡◌, Bytes, Flags, Item, Listing, Part, ap, char_pairs, rest}
-use Rattle.determinize_syntax.proofs.Common.{rules, sym, true}
-use Rattle.determinize_syntax.specs.Private.Reading.{IsNotAt}
-use Rattle.determinize_syntax.specs.Spells.{may_end}
+use Rattle.determinize_syntax.proofs.Common.{◌∙◌, ◌∷◌, ◌≡◌, Bytes, Flags, IsNotAt, Item, Listing, Part, ap, char_pairs}
+use Rattle.determinize_syntax.proofs.Common.{may_end, rest, rules, sym, true}
 use Rattle.determinize_syntax.specs.declared.bracket.Items.{Items}
 use Rattle.determinize_syntax.specs.declared.cursor.Cursor.{Cursor}
 use Rattle.determinize_syntax.proofs.Listing.{Begun, begun_more, inside_closed, inside_hyphen}

@@ -1,7 +1,6 @@
-use Rattle.determinize_syntax.proofs.Common.{◌∙◌, encode_same, encode_utf8, rest, sym}
-use Rattle.determinize_syntax.specs.Spells.{itself}
+use Rattle.determinize_syntax.proofs.Common.{◌∙◌, encode_same, encode_utf8, itself, rest, sym}
 use Rattle.determinize_syntax.proofs.Characters.{is_true}
-use Rattle.determinize_syntax.proofs.Parts.{shorter_by_character}
+use Rattle.determinize_syntax.proofs.Rules.{shorter_by_character}
 use Rattle.determinize_syntax.proofs.bracket.wide.Goals as goal
 
 pub returns-in-Some-clause-read : goal.returns-in-Some-clause-read

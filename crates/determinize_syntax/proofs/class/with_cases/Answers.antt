@@ -1,6 +1,5 @@
-use Rattle.determinize_syntax.proofs.Common.{◌+◌, ◌∙◌, ClassBytesRange, HasBelow, ap, has, refl, subst, sym}
-use Rattle.std.proofs.Common.{Global, Vec}
-use Rattle.determinize_syntax.specs.Private.Sets.{either_case}
+use Rattle.determinize_syntax.proofs.Common.{◌∙◌, ClassBytesRange, Global, Vec, ap, either_case, has}
+use Rattle.determinize_syntax.proofs.Common.{refl, sym}
 use Rattle.determinize_syntax.proofs.Classes.{below_with, below_without}
 use Rattle.determinize_syntax.proofs.class.with_cases.Goals.{then-has_case+in_ok-push, else-has_case}
 use Rattle.determinize_syntax.proofs.class.with_cases.Goals as goal
@@ -15,7 +14,6 @@ loop-i-preserved c =
           c.loop-i.invariant (ap (λ (v : Vec ClassBytesRange Global). v.items) w.cases-is ∙ w.in_ok-push.ensures.items)
           refl (sym c.has_case.ensures ∙ w.if-has_case.true)
       | else-has_case w ↦
-          subst (λ (v : Vec ClassBytesRange Global). HasBelow s (c.loop-i.i + 1) v.items) (sym w.cases-is)
-          (below_without s c.loop-i.i c.loop-i.cases.items c.loop-i.invariant
+          rw w.cases-is (below_without s c.loop-i.i c.loop-i.cases.items c.loop-i.invariant
           (sym c.has_case.ensures ∙ w.if-has_case.false))
     ]

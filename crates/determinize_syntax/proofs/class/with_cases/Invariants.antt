@@ -1,5 +1,4 @@
-use Rattle.determinize_syntax.proofs.Common.{HasBelow, has}
-use Rattle.determinize_syntax.specs.Private.Sets.{either_case}
+use Rattle.determinize_syntax.proofs.Common.{HasBelow, either_case, has}
 use Rattle.determinize_syntax.proofs.class.with_cases.Given as goal
 
 abbrev pub invariant-loop-i : goal.invariant-loop-i

@@ -1,6 +1,6 @@
 use Rattle.determinize_syntax.proofs.Common.{◌∙◌, ap, by_cases, slice_get, some_injective, sym}
 use Rattle.determinize_syntax.proofs.Munch.{filled, named_boundary, nil_when}
-use Rattle.determinize_syntax.proofs.Parts.{boundary_read}
+use Rattle.determinize_syntax.proofs.Rules.{boundary_read}
 use Rattle.determinize_syntax.proofs.escape.boundary.Goals as goal
 
 pub returns-clause-read : goal.returns-clause-read

@@ -1,5 +1,4 @@
-use Rattle.determinize_syntax.proofs.Common.{◌∙◌, ◌∷◌, ◌≡◌, ap, refl, rest, slice_get}
-use Rattle.determinize_syntax.proofs.Bytes.{clash}
+use Rattle.determinize_syntax.proofs.Common.{◌∙◌, ◌∷◌, ◌≡◌, ap, clash, refl, rest, slice_get}
 use Rattle.determinize_syntax.proofs.Hexes.{two_next, two_read}
 use Rattle.determinize_syntax.proofs.Numbers.{digit_front}
 use Rattle.determinize_syntax.proofs.escape.hex.Goals as goal

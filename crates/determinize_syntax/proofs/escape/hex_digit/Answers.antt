@@ -1,5 +1,5 @@
-use Rattle.determinize_syntax.proofs.Common.{◌<◌, ◌∙◌, ◌≡◌, IsDigit, ap, arith, digit_value, is_digit, refl, sym, true}
-use Rattle.determinize_syntax.proofs.Parts.{took}
+use Rattle.determinize_syntax.proofs.Common.{◌<◌, ◌∙◌, ◌≡◌, IsDigit, ap, arith, digit_value, is_digit, refl, sym, took}
+use Rattle.determinize_syntax.proofs.Common.{true}
 use Rattle.determinize_syntax.proofs.escape.hex_digit.Goals as goal
 
 pub returns-clause-read : goal.returns-clause-read

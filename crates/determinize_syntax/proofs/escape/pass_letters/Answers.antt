@@ -1,6 +1,5 @@
-use Rattle.determinize_syntax.proofs.Common.{◌∙◌, is_in_boundary, sym}
+use Rattle.determinize_syntax.proofs.Common.{◌∙◌, closed, is_in_boundary, sym}
 use Rattle.determinize_syntax.proofs.Munch.{All, all_more}
-use Rattle.determinize_syntax.proofs.Parts.{closed}
 use Rattle.determinize_syntax.proofs.escape.pass_letters.Goals as goal
 
 pub loop-next-preserved : goal.loop-next-preserved

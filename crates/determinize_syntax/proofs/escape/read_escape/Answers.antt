@@ -1,7 +1,6 @@
-use Rattle.determinize_syntax.proofs.Common.{◌∙◌, ◌∷◌, IsEscape, Some, ap, refl, rest, rules, slice_get, sym}
-use Rattle.determinize_syntax.proofs.Bytes.{at_end, front_of}
+use Rattle.determinize_syntax.proofs.Common.{◌∙◌, ◌∷◌, IsEscape, Some, ap, at_end, front_of, ok_then, prefixed, refl}
+use Rattle.determinize_syntax.proofs.Common.{renamed, rest, rules, slice_get, sym, took}
 use Rattle.determinize_syntax.proofs.Escapes.{boundary_next, no_escape, number_next, one_escape, one_next, other_escape}
-use Rattle.determinize_syntax.proofs.Parts.{ok_then, prefixed, renamed, took}
 use Rattle.determinize_syntax.proofs.escape.read_escape.Goals as goal
 
 pub returns-in-Some-one_byte-clause-read : goal.returns-in-Some-one_byte-clause-read

@@ -1,6 +1,4 @@
-use Rattle.determinize_syntax.proofs.Common.{◌∙◌, refl, sym}
-use Rattle.determinize_syntax.specs.Private.Reading.{IsFlag}
-use Rattle.determinize_syntax.proofs.Parts.{took}
+use Rattle.determinize_syntax.proofs.Common.{◌∙◌, IsFlag, refl, sym, took}
 use Rattle.determinize_syntax.proofs.flags.letter.Goals as goal
 
 pub returns-clause-read : goal.returns-clause-read

@@ -1,9 +1,8 @@
-use Rattle.determinize_syntax.proofs.Common.{◌++◌, ◌∙◌, ◌≡◌, Letters, [], ap, append_assoc, refl, rest, rules, subst}
-use Rattle.determinize_syntax.proofs.Common.{sym}
+use Rattle.determinize_syntax.proofs.Common.{◌++◌, ◌∙◌, ◌≡◌, Letters, [], ap, append_assoc, at_end, refl, rest, rules}
+use Rattle.determinize_syntax.proofs.Common.{subst, sym}
 use Rattle.determinize_syntax.specs.Spells.{no_letter}
-use Rattle.determinize_syntax.proofs.Bytes.{at_end}
 use Rattle.determinize_syntax.proofs.Flagging.{after_here, letters_end, letters_none, not_after}
-use Rattle.determinize_syntax.proofs.Parts.{letters_read}
+use Rattle.determinize_syntax.proofs.Rules.{letters_read}
 use Rattle.determinize_syntax.proofs.flags.letters.Goals as goal
 
 pub loop-cursor-init : goal.loop-cursor-init

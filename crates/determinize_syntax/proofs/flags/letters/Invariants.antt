@@ -1,5 +1,4 @@
-use Rattle.determinize_syntax.proofs.Common.{Bytes, Flags, Letters, Reads, Sets, [], length, rest, true}
-use Rattle.determinize_syntax.specs.Private.Following.{IsAfterLetters}
+use Rattle.determinize_syntax.proofs.Common.{Bytes, Flags, IsAfterLetters, Letters, Reads, Sets, [], length, rest, true}
 use Rattle.determinize_syntax.proofs.flags.letters.Given as goal
 
 abbrev pub invariant-loop-cursor : goal.invariant-loop-cursor

@@ -1,6 +1,6 @@
 use Rattle.determinize_syntax.proofs.Common.{◌∙◌, ◌∷◌, [], ap, rest, rules, sym}
 use Rattle.determinize_syntax.proofs.Flagging.{one_cleared, one_letter}
-use Rattle.determinize_syntax.proofs.Parts.{cleared_read, letter_read}
+use Rattle.determinize_syntax.proofs.Rules.{cleared_read, letter_read}
 use Rattle.determinize_syntax.proofs.flags.next_flag.Goals as goal
 
 pub returns-then-not-take-clause-read : goal.returns-then-not-take-clause-read

@@ -1,8 +1,8 @@
-use Rattle.determinize_syntax.proofs.Common.{◌∙◌, ◌∷◌, ap, arith, by_cases, inr, not, refl, rest, rules, slice_get, sym}
-use Rattle.determinize_syntax.proofs.Bytes.{at_end, heads, tails}
+use Rattle.determinize_syntax.proofs.Common.{◌∙◌, ◌∷◌, ap, arith, at_end, by_cases, heads, inr, not, refl, rest, rules}
+use Rattle.determinize_syntax.proofs.Common.{slice_get, sym, tails}
 use Rattle.determinize_syntax.proofs.Flagging.{next_setting, no_setting, other_setting, set_or_group, setting_closed}
 use Rattle.determinize_syntax.proofs.Flagging.{setting_none}
-use Rattle.determinize_syntax.proofs.Parts.{none_of, setting_read}
+use Rattle.determinize_syntax.proofs.Rules.{none_of, setting_read}
 use Rattle.determinize_syntax.proofs.flags.setting.Goals.{then-not-take-via-then-not-take}
 use Rattle.determinize_syntax.proofs.flags.setting.Goals.{then-not-take-via-else-not-take+then-not-take-2}
 use Rattle.determinize_syntax.proofs.flags.setting.Goals.{then-not-take-via-else-not-take+else-not-take-2+then-begins_other}

@@ -1,6 +1,6 @@
-use Rattle.determinize_syntax.proofs.Common.{◌∙◌, ◌≡◌, is_name, some_injective, sym, true}
+use Rattle.determinize_syntax.proofs.Common.{◌∙◌, ◌≡◌, closed, is_name, some_injective, sym, took, true}
 use Rattle.determinize_syntax.proofs.Munch.{names_same}
-use Rattle.determinize_syntax.proofs.Parts.{closed, name_begun, name_more, took}
+use Rattle.determinize_syntax.proofs.Rules.{name_begun, name_more}
 use Rattle.determinize_syntax.proofs.group.letters_of_name.Goals as goal
 
 pub loop-next-init : goal.loop-next-init

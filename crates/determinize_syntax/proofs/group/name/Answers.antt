@@ -1,12 +1,8 @@
-use Rattle.determinize_syntax.proofs.Common.{◌++◌, ◌∙◌, ◌∷◌, ◌≡◌, Passes, ap, is_name, refl, rest, rules, slice_get}
-use Rattle.determinize_syntax.proofs.Common.{sym, true}
-use Rattle.determinize_syntax.specs.Limits.{bracketed}
-use Rattle.determinize_syntax.specs.Private.Reading.{IsNamed}
+use Rattle.determinize_syntax.proofs.Common.{◌++◌, ◌∙◌, ◌∷◌, ◌≡◌, IsNamed, Passes, ap, bracketed, closed, is_name, refl}
+use Rattle.determinize_syntax.proofs.Common.{rest, rules, slice_get, sym, tails, true}
 use Rattle.determinize_syntax.specs.declared.error.ErrorKind.TheVariants.{GroupNameDuplicate, NestLimitExceeded}
-use Rattle.determinize_syntax.proofs.Bytes.{tails}
 use Rattle.determinize_syntax.proofs.Limits.{name_added, name_twice, passes_byte, passes_none, passes_part, read_name}
 use Rattle.determinize_syntax.proofs.Limits.{same_name, unnot}
-use Rattle.determinize_syntax.proofs.Parts.{closed}
 use Rattle.determinize_syntax.proofs.group.name.Goals as goal
 
 pub returns-clause-read : goal.returns-clause-read
@@ -39,9 +35,7 @@ returns-clause-limits c levels =
       deep = passed.deep;
       named = λ text h. (
         h.0 ++ bracketed key.now,
-        read_name text h.0 key.now (rest c.letters_of_name.new.cursor) (rest c.take.new.self)
-            (h.1 ∙ ap (λ l. h.0 ++ 0x3C ∷ l) (part.1 ∙ ap (λ n. n ++ rest c.letters_of_name.new.cursor) (sym same)))
-            (c.take.ensures.read c.if-not-take.false),
+        read_name h.0 h.1 part.1 same (c.take.ensures.read c.if-not-take.false),
         rw c.in_ok-insert.ensures.keys (name_added (λ k. k.now) _ c.args.context.now.names.keys key h.0 is h.2),
       );
     }
@@ -55,7 +49,5 @@ returns-then-not-branch-clause-limits c levels =
       nested = λ is few. (let never : GroupNameDuplicate ≡ NestLimitExceeded = sym c.new.ensures ∙ is in absurd (cc));
       twice = λ is text h. name_twice (λ k. k.now) _ c.args.context.now.names.keys key text h.0 (rest c.take.new.self)
           (unnot _ (sym c.if-not-branch.true ∙ c.in_ok-insert.ensures.added)) (λ k e. same_name key.now k.now e)
-          (read_name text h.0 key.now (rest c.letters_of_name.new.cursor) (rest c.take.new.self)
-          (h.1 ∙ ap (λ l. h.0 ++ 0x3C ∷ l) (part.1 ∙ ap (λ n. n ++ rest c.letters_of_name.new.cursor) (sym same)))
-          (c.take.ensures.read c.if-not-take.false)) h.2;
+          (read_name h.0 h.1 part.1 same (c.take.ensures.read c.if-not-take.false)) h.2;
     }

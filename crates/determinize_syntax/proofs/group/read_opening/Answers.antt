@@ -1,10 +1,10 @@
-use Rattle.determinize_syntax.proofs.Common.{◌∈◌, ◌∙◌, ◌∷◌, [], ap, codes, refl, rest, rules, slice_get, sym}
-use Rattle.determinize_syntax.proofs.Bytes.{tails, within}
-use Rattle.determinize_syntax.proofs.Flagging.{capture_next, opening_flags, opening_named, opening_named_p}
+use Rattle.determinize_syntax.proofs.Common.{◌∈◌, ◌∙◌, ◌∷◌, [], ap, codes, refl, rest, rules, slice_get, sym, tails}
+use Rattle.determinize_syntax.proofs.Bytes.{within}
+use Rattle.determinize_syntax.proofs.Flagging.{capture_next, named_at, named_p_at, opening_flags}
 use Rattle.determinize_syntax.proofs.Flagging.{opening_next, opening_sign}
 use Rattle.determinize_syntax.proofs.Limits.{passes_byte, passes_none, passes_part, passes_then, right_after}
 use Rattle.determinize_syntax.proofs.Munch.{name_sign}
-use Rattle.determinize_syntax.proofs.Parts.{flags_read, named_p_read, named_read, opens_capture}
+use Rattle.determinize_syntax.proofs.Rules.{flags_read, named_p_read, named_read, opens_capture}
 use Rattle.determinize_syntax.proofs.group.read_opening.Goals as goal
 
 pub returns-then-not-take-clause-read : goal.returns-then-not-take-clause-read
@@ -35,22 +35,22 @@ returns-then-not-take-clause-whole c k h =
 
 pub returns-then-take-clause-whole : goal.returns-then-take-clause-whole
 returns-then-take-clause-whole c k h =
-    let p = opening_named_p k c.args.flags _ (opening_next k c.args.flags _
-    (rw (c.take.ensures.read c.if-not-take.false, c.take-2.ensures.read c.if-take.true) at h)) in
+    let p = named_p_at k c.args.flags h (c.take.ensures.read c.if-not-take.false) (c.take-2.ensures.read c.if-take.true)
+    in
     let n = p.2 in
     rw (c.in_ok-name.ensures.whole n.0 n.1 (tails (sym (c.take-then-take.ensures.read c.if-not-take-2.false) ∙ p.1)
     ∙ n.2) n.3) n.4
 
 pub returns-then-not-take-2-clause-whole : goal.returns-then-not-take-2-clause-whole
 returns-then-not-take-2-clause-whole c k h =
-    let p = opening_named_p k c.args.flags _ (opening_next k c.args.flags _
-    (rw (c.take.ensures.read c.if-not-take.false, c.take-2.ensures.read c.if-take.true) at h)) in
+    let p = named_p_at k c.args.flags h (c.take.ensures.read c.if-not-take.false) (c.take-2.ensures.read c.if-take.true)
+    in
     absurd (c.take-then-take.ensures.other c.if-not-take-2.true (ap (λ l. slice_get l 0) p.1))
 
 pub returns-in_err-name-clause-whole : goal.returns-in_err-name-clause-whole
 returns-in_err-name-clause-whole c k h =
-    let p = opening_named_p k c.args.flags _ (opening_next k c.args.flags _
-    (rw (c.take.ensures.read c.if-not-take.false, c.take-2.ensures.read c.if-take.true) at h)) in
+    let p = named_p_at k c.args.flags h (c.take.ensures.read c.if-not-take.false) (c.take-2.ensures.read c.if-take.true)
+    in
     let n = p.2 in
     let limit = c.in_err-name.ensures.whole n.0 n.1 (tails (sym (c.take-then-take.ensures.read c.if-not-take-2.false)
     ∙ p.1) ∙ n.2) n.3 in
@@ -58,36 +58,24 @@ returns-in_err-name-clause-whole c k h =
 
 pub returns-then-looks_around-clause-whole : goal.returns-then-looks_around-clause-whole
 returns-then-looks_around-clause-whole c k h =
-    let n = opening_named k c.args.flags _ (opening_next k c.args.flags _
-    (rw (
-      c.take.ensures.read c.if-not-take.false,
-      ap rest (sym (c.take-2.ensures.left c.if-take.false))
-          ∙ c.take-3.ensures.read c.if-take-2.true,
-    ) at h)) in
+    let n = named_at k c.args.flags h (c.take.ensures.read c.if-not-take.false)
+    (ap rest (sym (c.take-2.ensures.left c.if-take.false)) ∙ c.take-3.ensures.read c.if-take-2.true) in
     let s = c.looks_around.ensures.begun c.if-looks_around.true in
     name_sign n.0 (0x3E ∷ n.1) (rest c.take-3.new.self) n.3 n.2 s.0 s.1 s.2
     (within (λ y. y ∈ "=!>") (codes "=!") s.0 s.3 refl)
 
 pub returns-in_err-name-2-clause-whole : goal.returns-in_err-name-2-clause-whole
 returns-in_err-name-2-clause-whole c k h =
-    let n = opening_named k c.args.flags _ (opening_next k c.args.flags _
-    (rw (
-      c.take.ensures.read c.if-not-take.false,
-      ap rest (sym (c.take-2.ensures.left c.if-take.false))
-          ∙ c.take-3.ensures.read c.if-take-2.true,
-    ) at h)) in
+    let n = named_at k c.args.flags h (c.take.ensures.read c.if-not-take.false)
+    (ap rest (sym (c.take-2.ensures.left c.if-take.false)) ∙ c.take-3.ensures.read c.if-take-2.true) in
     let limit = c.in_err-name-2.ensures.whole n.0 n.1 (ap rest (c.looks_around.ensures.left c.if-looks_around.false)
     ∙ n.2) n.3 in
     search (rules, limit)
 
 pub returns-then-take-2-clause-whole : goal.returns-then-take-2-clause-whole
 returns-then-take-2-clause-whole c k h =
-    let n = opening_named k c.args.flags _ (opening_next k c.args.flags _
-    (rw (
-      c.take.ensures.read c.if-not-take.false,
-      ap rest (sym (c.take-2.ensures.left c.if-take.false))
-          ∙ c.take-3.ensures.read c.if-take-2.true,
-    ) at h)) in
+    let n = named_at k c.args.flags h (c.take.ensures.read c.if-not-take.false)
+    (ap rest (sym (c.take-2.ensures.left c.if-take.false)) ∙ c.take-3.ensures.read c.if-take-2.true) in
     rw (c.in_ok-name-2.ensures.whole n.0 n.1
     (ap rest (c.looks_around.ensures.left c.if-looks_around.false) ∙ n.2) n.3) n.4
 

@@ -1,13 +1,12 @@
-use Rattle.determinize_syntax.proofs.Common.{◌<◌, ◌∙◌, ◌∷◌, ◌≡◌, ◌≤◌, Atom, FromAtom, Operator, Reads, [], ap, arith}
-use Rattle.determinize_syntax.proofs.Common.{by_cases, false, length, map, meaning, refl, rest, rules}
-use Rattle.determinize_pattern.specs.Patterns.{repeated}
-use Rattle.determinize_syntax.specs.Private.Reading.{IsSetting}
+use Rattle.determinize_syntax.proofs.Common.{◌<◌, ◌∙◌, ◌∷◌, ◌≡◌, ◌≤◌, Atom, FromAtom, IsSetting, Operator, Reads, []}
+use Rattle.determinize_syntax.proofs.Common.{ap, arith, by_cases, false, length, map, meaning, refl, renamed, repeated}
+use Rattle.determinize_syntax.proofs.Common.{rest, rules}
 use Rattle.determinize_syntax.specs.Spells.{no_branch, no_item, once}
 use Rattle.determinize_syntax.proofs.Limits.{deep_right, group_right, local_limits, local_right, maybe, one_more}
 use Rattle.determinize_syntax.proofs.Limits.{operator_left, passes_as, passes_byte, passes_none, passes_operator}
 use Rattle.determinize_syntax.proofs.Limits.{passes_part, passes_then, passes_whole, right_after}
-use Rattle.determinize_syntax.proofs.Parts.{again_read, branch_read, choice_read, group_read, item_read, renamed}
-use Rattle.determinize_syntax.proofs.Parts.{set_read, shorter}
+use Rattle.determinize_syntax.proofs.Rules.{again_read, branch_read, choice_read, group_read, item_read, set_read}
+use Rattle.determinize_syntax.proofs.Rules.{shorter}
 use Rattle.determinize_syntax.proofs.Stepping.{at_bar, group_closed, group_unclosed, operator_taken, stop_is_end}
 use Rattle.determinize_syntax.proofs.parser.+parser.Goals as goal
 

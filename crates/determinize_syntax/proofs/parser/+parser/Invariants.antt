@@ -1,7 +1,6 @@
 use Rattle.determinize_syntax.proofs.Common.{◌*◌, ◌+◌, ◌<◌, ◌≡◌, Bool, Branches, Flags, FromAtom, FromItem}
-use Rattle.determinize_syntax.proofs.Common.{FromOperator, List, Passes, Reads, Repeated, length, map, meaning, rest}
-use Rattle.determinize_syntax.proofs.Common.{true}
-use Rattle.determinize_syntax.specs.Private.Reading.{IsNotAt}
+use Rattle.determinize_syntax.proofs.Common.{FromOperator, IsNotAt, List, Passes, Reads, Repeated, length, map, meaning}
+use Rattle.determinize_syntax.proofs.Common.{rest, true}
 use Rattle.determinize_syntax.specs.Spells.{Items}
 use Rattle.determinize_syntax.proofs.parser.+parser.Given as goal
 

@@ -1,9 +1,10 @@
-use Rattle.determinize_syntax.proofs.Common.{◌&&◌, ◌∈◌, ◌∙◌, ◌≡◌, Atom, ap, by_cases, codes, encode_same, encode_utf8}
-use Rattle.determinize_syntax.proofs.Common.{false, is_ascii, meaning, not, refl, rest, sym, true}
-use Rattle.determinize_syntax.specs.Spells.{character, itself, plain}
-use Rattle.determinize_syntax.proofs.Bytes.{at_end, clash, front_of, within}
-use Rattle.determinize_syntax.proofs.Parts.{shorter_by_character, took}
-use Rattle.determinize_syntax.proofs.Stepping.{atom_some, byte_next, sign_next}
+use Rattle.determinize_syntax.proofs.Common.{◌&&◌, ◌∈◌, ◌∙◌, ◌≡◌, Atom, ap, at_end, by_cases, character, clash, codes}
+use Rattle.determinize_syntax.proofs.Common.{encode_same, encode_utf8, false, is_ascii, itself, meaning, not}
+use Rattle.determinize_syntax.proofs.Common.{refl, rest, sym, took, true}
+use Rattle.determinize_syntax.specs.Spells.{plain}
+use Rattle.determinize_syntax.proofs.Bytes.{within}
+use Rattle.determinize_syntax.proofs.Rules.{shorter_by_character}
+use Rattle.determinize_syntax.proofs.Stepping.{atom_some, byte_at, byte_next, sign_next}
 use Rattle.determinize_syntax.proofs.parser.byte_atom.Goals as goal
 
 pub returns-then-is_sign-clause-read : goal.returns-then-is_sign-clause-read
@@ -47,34 +48,30 @@ returns-then-is_sign-clause-whole c k h other =
 
 pub returns-then-is_special-clause-whole : goal.returns-then-is_special-clause-whole
 returns-then-is_special-clause-whole c k h other =
-    let at = sym c.peek.ensures ∙ c.in-Some.is in
-    let x = front_of (rest c.args.cursor.now) c.in-Some.next at in
+    let x = byte_at k c.args.flags _ c.in-Some.next (sym c.peek.ensures ∙ c.in-Some.is) h other
+    (sym c.is_sign.ensures ∙ c.if-is_sign.false) in
     let special = sym c.is_special.ensures ∙ c.if-is_special.true in
-    by_cases (byte_next k c.args.flags c.in-Some.next x.0 (rw x.1 at h) (other c.in-Some.next at)
-    (sym c.is_sign.ensures ∙ c.if-is_sign.false)).1 (λ y. clash special y.1)
+    by_cases x.2.1 (λ y. clash special y.1)
     (λ y. clash (within is_ascii (codes "\\.+*?()|[{^$") c.in-Some.next special refl) y.2.1)
 
 pub returns-then-not-know_cases-clause-whole : goal.returns-then-not-know_cases-clause-whole
 returns-then-not-know_cases-clause-whole c k h other =
-    let at = sym c.peek.ensures ∙ c.in-Some.is in
-    let x = front_of (rest c.args.cursor.now) c.in-Some.next at in
-    clash (byte_next k c.args.flags c.in-Some.next x.0 (rw x.1 at h) (other c.in-Some.next at)
-    (sym c.is_sign.ensures ∙ c.if-is_sign.false)).0 (sym c.know_cases.ensures ∙ c.if-not-know_cases.true)
+    let x = byte_at k c.args.flags _ c.in-Some.next (sym c.peek.ensures ∙ c.in-Some.is) h other
+    (sym c.is_sign.ensures ∙ c.if-is_sign.false) in
+    clash x.2.0 (sym c.know_cases.ensures ∙ c.if-not-know_cases.true)
 
 pub returns-in_default-take_wide-clause-whole : goal.returns-in_default-take_wide-clause-whole
 returns-in_default-take_wide-clause-whole c k h other =
-    let at = sym c.peek.ensures ∙ c.in-Some.is in
-    let x = front_of (rest c.args.cursor.now) c.in-Some.next at in
-    by_cases (byte_next k c.args.flags c.in-Some.next x.0 (rw x.1 at h) (other c.in-Some.next at)
-    (sym c.is_sign.ensures ∙ c.if-is_sign.false)).1 (λ y. clash y.0 (sym c.is_ascii.ensures ∙ c.if-not-is_ascii.true))
+    let x = byte_at k c.args.flags _ c.in-Some.next (sym c.peek.ensures ∙ c.in-Some.is) h other
+    (sym c.is_sign.ensures ∙ c.if-is_sign.false) in
+    by_cases x.2.1 (λ y. clash y.0 (sym c.is_ascii.ensures ∙ c.if-not-is_ascii.true))
     (λ y. absurd (c.in_default-take_wide.ensures.other y.0 y.1 y.2.0 (x.1 ∙ y.2.2)))
 
 pub returns-then-not-is_ascii-clause-whole : goal.returns-then-not-is_ascii-clause-whole
 returns-then-not-is_ascii-clause-whole c k h other =
-    let at = sym c.peek.ensures ∙ c.in-Some.is in
-    let x = front_of (rest c.args.cursor.now) c.in-Some.next at in
-    by_cases (byte_next k c.args.flags c.in-Some.next x.0 (rw x.1 at h) (other c.in-Some.next at)
-    (sym c.is_sign.ensures ∙ c.if-is_sign.false)).1 (λ y. clash y.0 (sym c.is_ascii.ensures ∙ c.if-not-is_ascii.true))
+    let x = byte_at k c.args.flags _ c.in-Some.next (sym c.peek.ensures ∙ c.in-Some.is) h other
+    (sym c.is_sign.ensures ∙ c.if-is_sign.false) in
+    by_cases x.2.1 (λ y. clash y.0 (sym c.is_ascii.ensures ∙ c.if-not-is_ascii.true))
     (λ y. rw (encode_same c.in-Some-take_wide.character y.0 (rest c.take_wide.new.self) y.1
     (sym c.in-Some-take_wide.ensures.read.1 ∙ x.1 ∙ y.2.2)).1 y.3)
 

@@ -1,7 +1,5 @@
-use Rattle.determinize_syntax.proofs.Common.{◌∷◌, false, rules}
-use Rattle.determinize_syntax.proofs.Bytes.{clash}
+use Rattle.determinize_syntax.proofs.Common.{◌∷◌, clash, false, renamed, rules}
 use Rattle.determinize_syntax.proofs.Escapes.{past_boundary}
-use Rattle.determinize_syntax.proofs.Parts.{renamed}
 use Rattle.determinize_syntax.proofs.Stepping.{escape_here}
 use Rattle.determinize_syntax.proofs.parser.escaped_atom.Goals as goal
 

@@ -1,5 +1,4 @@
-use Rattle.determinize_syntax.proofs.Common.{◌∙◌, inl, rest, sym}
-use Rattle.determinize_syntax.proofs.Bytes.{at_end, front_of}
+use Rattle.determinize_syntax.proofs.Common.{◌∙◌, at_end, front_of, inl, rest, sym}
 use Rattle.determinize_syntax.proofs.Stepping.{no_stop, stop_here}
 use Rattle.determinize_syntax.proofs.parser.is_branch_end.Goals as goal
 

@@ -1,6 +1,5 @@
-use Rattle.determinize_syntax.proofs.Common.{◌∙◌, ◌∷◌, IsOneOf, [], ap, false, folded, meaning, only}
+use Rattle.determinize_syntax.proofs.Common.{◌∙◌, ◌∷◌, IsOneOf, [], ap, false, folded, meaning, ok_then, only}
 use Rattle.determinize_syntax.proofs.Characters.{has_one, one_of_listed}
-use Rattle.determinize_syntax.proofs.Parts.{ok_then}
 use Rattle.determinize_syntax.proofs.parser.numbered.Goals as goal
 
 pub returns : goal.returns

@@ -1,7 +1,6 @@
-use Rattle.determinize_syntax.proofs.Common.{meaning, not-true}
-use Rattle.determinize_syntax.specs.Spells.{asserted, character, escaped}
+use Rattle.determinize_syntax.proofs.Common.{character, meaning, not-true, ok_then}
+use Rattle.determinize_syntax.specs.Spells.{asserted, escaped}
 use Rattle.determinize_syntax.proofs.Escapes.{class_of, perl_class_of}
-use Rattle.determinize_syntax.proofs.Parts.{ok_then}
 use Rattle.determinize_syntax.specs.Spells as spells
 use Rattle.determinize_syntax.proofs.parser.of_escape.Goals as goal
 

@@ -1,11 +1,9 @@
-use Rattle.determinize_syntax.proofs.Common.{◌<◌, ◌∙◌, ◌≡◌, None, SpellsUnder, [], ap, arith, is_some, meaning, rest}
-use Rattle.determinize_syntax.proofs.Common.{rules, slice_get, sym, true}
-use Rattle.determinize_syntax.specs.Limits.{HasNameTwice, openings}
+use Rattle.determinize_syntax.proofs.Common.{◌<◌, ◌∙◌, ◌≡◌, HasNameTwice, NEST_LIMIT, None, SpellsUnder, [], ap, arith}
+use Rattle.determinize_syntax.proofs.Common.{is_some, meaning, openings, rest, rules, slice_get, sym, true}
 use Rattle.determinize_syntax.specs.declared.error.ErrorKind.TheVariants.{GroupNameDuplicate, NestLimitExceeded}
-use Rattle.determinize_syntax.specs.declared.parser.TheConstants.{NEST_LIMIT}
 use Rattle.determinize_syntax.proofs.Following.{text_follows}
 use Rattle.determinize_syntax.proofs.Limits.{names_none}
-use Rattle.determinize_syntax.proofs.Parts.{none_of, whole_read}
+use Rattle.determinize_syntax.proofs.Rules.{none_of, whole_read}
 use Rattle.determinize_syntax.proofs.Stepping.{whole_ended}
 use Rattle.determinize_syntax.proofs.parser.parse_with.Goals as goal
 

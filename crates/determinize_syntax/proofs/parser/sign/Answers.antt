@@ -1,6 +1,5 @@
-use Rattle.determinize_syntax.proofs.Common.{◌≡◌, arith, meaning}
+use Rattle.determinize_syntax.proofs.Common.{◌≡◌, arith, meaning, ok_then}
 use Rattle.determinize_syntax.specs.Spells.{dot, line_end, line_start}
-use Rattle.determinize_syntax.proofs.Parts.{ok_then}
 use Rattle.determinize_syntax.proofs.parser.sign.Goals as goal
 
 pub returns-in-94 : goal.returns-in-94

@@ -1,5 +1,4 @@
-use Rattle.determinize_syntax.proofs.Common.{◌∙◌, ap, rest, sym}
-use Rattle.determinize_syntax.proofs.Parts.{ok_then, prefixed}
+use Rattle.determinize_syntax.proofs.Common.{◌∙◌, ap, ok_then, prefixed, rest, sym}
 use Rattle.determinize_syntax.proofs.parser.single.Goals as goal
 
 pub returns-then-take-clause-read : goal.returns-then-take-clause-read

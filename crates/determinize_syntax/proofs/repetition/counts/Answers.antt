@@ -1,7 +1,7 @@
 use Rattle.determinize_syntax.proofs.Common.{◌∙◌, ◌∷◌, ap, arith, refl, rest, rules, slice_get, sym}
 use Rattle.determinize_syntax.proofs.Counting.{at_least_passed, counted, counted_twice, exactly_passed, first_count}
 use Rattle.determinize_syntax.proofs.Counting.{one_follows, past_sign}
-use Rattle.determinize_syntax.proofs.Parts.{at_least_read, between_read, exactly_read}
+use Rattle.determinize_syntax.proofs.Rules.{at_least_read, between_read, exactly_read}
 use Rattle.determinize_syntax.proofs.repetition.counts.Goals as goal
 
 pub returns-then-take-clause-read : goal.returns-then-take-clause-read

@@ -1,5 +1,4 @@
-use Rattle.determinize_syntax.proofs.Common.{◌*◌, ◌+◌, ◌<◌, ◌∙◌, ◌≤◌, ap, arith, rest}
-use Rattle.std.proofs.Common.{◌^◌}
+use Rattle.determinize_syntax.proofs.Common.{◌*◌, ◌+◌, ◌<◌, ◌^◌, ◌∙◌, ◌≤◌, ap, arith, rest}
 use Rattle.determinize_syntax.proofs.Numbers.{begun, ended, grown, number_begun, number_grown, over, some_digit}
 use Rattle.determinize_syntax.proofs.repetition.decimal.Goals as goal
 

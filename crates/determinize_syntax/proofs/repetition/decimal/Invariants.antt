@@ -1,5 +1,4 @@
-use Rattle.determinize_syntax.proofs.Common.{◌≡◌, Bytes, NoDigit, Part, Reads, Some, length, number, rest, ℕ}
-use Rattle.determinize_syntax.specs.Private.Following.{IsCount}
+use Rattle.determinize_syntax.proofs.Common.{◌≡◌, Bytes, IsCount, NoDigit, Part, Reads, Some, length, number, rest, ℕ}
 use Rattle.determinize_syntax.proofs.Numbers.{Left}
 use Rattle.determinize_syntax.proofs.repetition.decimal.Given as goal
 

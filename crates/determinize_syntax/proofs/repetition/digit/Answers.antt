@@ -1,5 +1,4 @@
-use Rattle.determinize_syntax.proofs.Common.{◌∙◌, ◌≡◌, IsDigit, arith, is_digit, refl, sym, true}
-use Rattle.determinize_syntax.proofs.Parts.{took}
+use Rattle.determinize_syntax.proofs.Common.{◌∙◌, ◌≡◌, IsDigit, arith, is_digit, refl, sym, took, true}
 use Rattle.determinize_syntax.proofs.Numbers.{value_of}
 use Rattle.determinize_syntax.proofs.repetition.digit.Goals as goal
 

@@ -1,6 +1,5 @@
-use Rattle.determinize_syntax.proofs.Common.{◌∈◌, ◌∙◌, ◌≡◌, Operator, Some, ap, arith, false, rest, rules}
-use Rattle.determinize_syntax.proofs.Common.{some_injective, sym, ℕ}
-use Rattle.determinize_syntax.proofs.Parts.{prefixed, took}
+use Rattle.determinize_syntax.proofs.Common.{◌∈◌, ◌∙◌, ◌≡◌, Operator, Some, ap, arith, false, prefixed, rest, rules}
+use Rattle.determinize_syntax.proofs.Common.{some_injective, sym, took, ℕ}
 use Rattle.determinize_syntax.proofs.Stepping.{counts_begin, no_sign, sign_passed}
 use Rattle.determinize_syntax.proofs.repetition.operator.Goals as goal
 

@@ -1,9 +1,7 @@
 use Rattle.determinize_syntax.proofs.Common.{◌++◌, ◌∙◌, ◌∷◌, ◌≡◌, AddsChars, HasBytes, [], ap, arith, char_pairs, cond}
-use Rattle.determinize_syntax.proofs.Common.{drop, folded, set_of, subst, sym, turned}
+use Rattle.determinize_syntax.proofs.Common.{drop, folded, on_ok, pairs, set_of, subst, sym, turned}
 use Rattle.std.proofs.lemmas.List.{drop_all}
-use Rattle.determinize_pattern.specs.Classes.{pairs}
 use Rattle.determinize_syntax.proofs.Characters.{all_added, class_added, folded_ascii}
-use Rattle.determinize_syntax.proofs.Parts.{on_ok}
 use Rattle.determinize_syntax.proofs.bracket.Items.add_class.Goals as goal
 
 pub returns-then-not-negated-clause-ranges : goal.returns-then-not-negated-clause-ranges

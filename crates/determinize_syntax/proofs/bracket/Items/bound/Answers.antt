@@ -1,7 +1,6 @@
-use Rattle.determinize_syntax.proofs.Common.{◌∙◌, ◌∷◌, Bound, Reads, Some, Wide, ap, rest, rules, slice_get, sym}
-use Rattle.determinize_syntax.proofs.Bytes.{at_end, clash, front_of}
-use Rattle.determinize_syntax.proofs.Nexts.{bound_byte, bound_escape, bound_wide, no_bound, no_hyphen, no_other_end}
-use Rattle.determinize_syntax.proofs.Parts.{ok_then, prefixed, renamed, took}
+use Rattle.determinize_syntax.proofs.Common.{◌∙◌, ◌∷◌, Bound, Reads, Some, ap, at_end, clash, front_of, ok_then}
+use Rattle.determinize_syntax.proofs.Common.{prefixed, renamed, rest, rules, slice_get, sym, took}
+use Rattle.determinize_syntax.proofs.Nexts.{bound_byte, bound_escape, bound_listed, bound_wide, no_bound, no_hyphen, no_other_end}
 use Rattle.determinize_syntax.specs.Spells as s
 use Rattle.determinize_syntax.proofs.bracket.Items.bound.Goals as goal
 
@@ -42,27 +41,27 @@ returns-in_err-escape-clause-whole c h u part =
 
 pub returns-in-Byte-clause-whole : goal.returns-in-Byte-clause-whole
 returns-in-Byte-clause-whole c h u part =
-    let e = bound_escape c.args.flags h u _ (rw (c.take.ensures.read c.if-take.true) at part) in
-    let y = c.in_ok-escape.ensures.whole e.0 u e.1 (λ look same. absurd (rw same at e.2)) in
-    let same = rw (← y.0, c.in-Byte.is) at e.2 in (c.from.ensures ∙ same, y.1)
+    let x = bound_listed c.args.flags h u _ (rw (c.take.ensures.read c.if-take.true) at part)
+    c.in_ok-escape.ensures.whole in
+    let same = rw c.in-Byte.is at x.0 in (c.from.ensures ∙ same, x.1)
 
 pub returns-in-Wide-clause-whole : goal.returns-in-Wide-clause-whole
 returns-in-Wide-clause-whole c h u part =
-    let e = bound_escape c.args.flags h u _ (rw (c.take.ensures.read c.if-take.true) at part) in
-    let y = c.in_ok-escape.ensures.whole e.0 u e.1 (λ look same. absurd (rw same at e.2)) in
-    let same = rw (← y.0, c.in-Wide.is) at e.2 in (same.1, y.1)
+    let x = bound_listed c.args.flags h u _ (rw (c.take.ensures.read c.if-take.true) at part)
+    c.in_ok-escape.ensures.whole in
+    let same = rw c.in-Wide.is at x.0 in (same.1, x.1)
 
 pub returns-in-Wide-2-clause-whole : goal.returns-in-Wide-2-clause-whole
 returns-in-Wide-2-clause-whole c h u part =
-    let e = bound_escape c.args.flags h u _ (rw (c.take.ensures.read c.if-take.true) at part) in
-    let y = c.in_ok-escape.ensures.whole e.0 u e.1 (λ look same. absurd (rw same at e.2)) in
-    let same = rw (← y.0, c.in-Wide-2.is) at e.2 in clash same.0 c.if-flags.false
+    let x = bound_listed c.args.flags h u _ (rw (c.take.ensures.read c.if-take.true) at part)
+    c.in_ok-escape.ensures.whole in
+    let same = rw c.in-Wide-2.is at x.0 in clash same.0 c.if-flags.false
 
 pub returns-in_default-escape-clause-whole : goal.returns-in_default-escape-clause-whole
 returns-in_default-escape-clause-whole c h u part =
-    let e = bound_escape c.args.flags h u _ (rw (c.take.ensures.read c.if-take.true) at part) in
-    let y = c.in_ok-escape.ensures.whole e.0 u e.1 (λ look same. absurd (rw same at e.2)) in
-    no_other_end c.args.flags h c.in_ok-escape.escape (rw (← y.0) at e.2) c.in_default-escape.not-Byte
+    let x = bound_listed c.args.flags h u _ (rw (c.take.ensures.read c.if-take.true) at part)
+    c.in_ok-escape.ensures.whole in
+    no_other_end c.args.flags h c.in_ok-escape.escape x.0 c.in_default-escape.not-Byte
     c.in_default-escape.not-Wide
 
 pub returns-then-take-2-clause-whole : goal.returns-then-take-2-clause-whole

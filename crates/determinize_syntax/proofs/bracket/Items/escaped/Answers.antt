@@ -1,8 +1,8 @@
-use Rattle.determinize_syntax.proofs.Common.{◌∷◌, char_pairs, rules}
-use Rattle.determinize_syntax.proofs.Bytes.{clash}
+use Rattle.determinize_syntax.proofs.Common.{subst}
+use Rattle.determinize_syntax.specs.Private.Letters.{Listed}
+use Rattle.determinize_syntax.proofs.Common.{◌∷◌, char_pairs, clash, renamed, rules}
 use Rattle.determinize_syntax.proofs.Listing.{class_listed, escaped_listed, wide_listed}
-use Rattle.determinize_syntax.proofs.Nexts.{escape_next}
-use Rattle.determinize_syntax.proofs.Parts.{renamed}
+use Rattle.determinize_syntax.proofs.Nexts.{escape_listed, escape_next}
 use Rattle.determinize_syntax.proofs.bracket.Items.escaped.Goals as goal
 
 pub returns-in_ok-add_escaped-in-Byte-clause-read : goal.returns-in_ok-add_escaped-in-Byte-clause-read
@@ -33,37 +33,33 @@ returns-in_err-escape-clause-whole c u h =
 
 pub returns-in_ok-add_escaped-in-Byte-clause-whole : goal.returns-in_ok-add_escaped-in-Byte-clause-whole
 returns-in_ok-add_escaped-in-Byte-clause-whole c u h =
-    let x = escape_next c.args.flags u c.args.self.now.before _ h in
-    let y = c.in_ok-escape.ensures.whole x.1 x.2 x.3 (λ look same. absurd (rw same at x.4)) in
-    let z = rw (← y.0, c.in-Byte.is) at x.4 in
-    rw (c.in_ok-add_escaped-in-Byte.ensures.before, c.from.ensures, ← z, y.1) x.5
+    let x = escape_listed c.args.flags u c.args.self.now.before _ h c.in_ok-escape.ensures.whole in
+    let z = subst (λ d. Listed c.args.flags d x.0) c.in-Byte.is x.1 in
+    rw (c.in_ok-add_escaped-in-Byte.ensures.before, c.from.ensures, ← z) x.2
 
 pub returns-in_ok-add_escaped-in-Wide-clause-whole : goal.returns-in_ok-add_escaped-in-Wide-clause-whole
 returns-in_ok-add_escaped-in-Wide-clause-whole c u h =
-    let x = escape_next c.args.flags u c.args.self.now.before _ h in
-    let y = c.in_ok-escape.ensures.whole x.1 x.2 x.3 (λ look same. absurd (rw same at x.4)) in
-    let z = rw (← y.0, c.in-Wide.is) at x.4 in rw (c.in_ok-add_escaped-in-Wide.ensures.before, ← z.1, y.1) x.5
+    let x = escape_listed c.args.flags u c.args.self.now.before _ h c.in_ok-escape.ensures.whole in
+    let z = subst (λ d. Listed c.args.flags d x.0) c.in-Wide.is x.1 in rw
+    (c.in_ok-add_escaped-in-Wide.ensures.before, ← z.1) x.2
 
 pub returns-in_ok-add_class-in-Class-2-clause-whole : goal.returns-in_ok-add_class-in-Class-2-clause-whole
 returns-in_ok-add_class-in-Class-2-clause-whole c u h =
-    let x = escape_next c.args.flags u c.args.self.now.before _ h in
-    let y = c.in_ok-escape.ensures.whole x.1 x.2 x.3 (λ look same. absurd (rw same at x.4)) in
-    let z = rw (← y.0, c.in-Class-2.is) at x.4 in rw (c.in_ok-add_class-in-Class-2.ensures.before, ← z.1, y.1) x.5
+    let x = escape_listed c.args.flags u c.args.self.now.before _ h c.in_ok-escape.ensures.whole in
+    let z = subst (λ d. Listed c.args.flags d x.0) c.in-Class-2.is x.1 in rw
+    (c.in_ok-add_class-in-Class-2.ensures.before, ← z.1) x.2
 
 pub returns-in-Look-clause-whole : goal.returns-in-Look-clause-whole
 returns-in-Look-clause-whole c u h =
-    let x = escape_next c.args.flags u c.args.self.now.before _ h in
-    let y = c.in_ok-escape.ensures.whole x.1 x.2 x.3 (λ look same. absurd (rw same at x.4)) in
-    absurd (rw (← y.0, c.in-Look.is) at x.4)
+    let x = escape_listed c.args.flags u c.args.self.now.before _ h c.in_ok-escape.ensures.whole in
+    absurd ((subst (λ d. Listed c.args.flags d x.0) c.in-Look.is x.1))
 
 pub returns-in-Wide-2-clause-whole : goal.returns-in-Wide-2-clause-whole
 returns-in-Wide-2-clause-whole c u h =
-    let x = escape_next c.args.flags u c.args.self.now.before _ h in
-    let y = c.in_ok-escape.ensures.whole x.1 x.2 x.3 (λ look same. absurd (rw same at x.4)) in
-    let z = rw (← y.0, c.in-Wide-2.is) at x.4 in clash z.0 c.if-flags.false
+    let x = escape_listed c.args.flags u c.args.self.now.before _ h c.in_ok-escape.ensures.whole in
+    let z = subst (λ d. Listed c.args.flags d x.0) c.in-Wide-2.is x.1 in clash z.0 c.if-flags.false
 
 pub returns-in-Class-clause-whole : goal.returns-in-Class-clause-whole
 returns-in-Class-clause-whole c u h =
-    let x = escape_next c.args.flags u c.args.self.now.before _ h in
-    let y = c.in_ok-escape.ensures.whole x.1 x.2 x.3 (λ look same. absurd (rw same at x.4)) in
-    let z = rw (← y.0, c.in-Class.is) at x.4 in clash c.if-flags-2.true z.0
+    let x = escape_listed c.args.flags u c.args.self.now.before _ h c.in_ok-escape.ensures.whole in
+    let z = subst (λ d. Listed c.args.flags d x.0) c.in-Class.is x.1 in clash c.if-flags-2.true z.0

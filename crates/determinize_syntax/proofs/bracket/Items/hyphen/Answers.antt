@@ -1,9 +1,8 @@
-use Rattle.determinize_syntax.proofs.Common.{◌∙◌, [], ap, char_pairs, not, refl, rest, sym}
+use Rattle.determinize_syntax.proofs.Common.{◌∙◌, [], ap, at_end, char_pairs, not, refl, rest, sym}
 use Rattle.determinize_syntax.specs.declared.bracket.Before.TheVariants.{First}
-use Rattle.determinize_syntax.proofs.Bytes.{at_end}
 use Rattle.determinize_syntax.proofs.Listing.{hyphen_listed, hyphens_listed}
 use Rattle.determinize_syntax.proofs.Nexts.{hyphen_next, not_ended}
-use Rattle.determinize_syntax.proofs.Parts.{none_of}
+use Rattle.determinize_syntax.proofs.Rules.{none_of}
 use Rattle.determinize_syntax.proofs.bracket.Items.hyphen.Goals as goal
 
 pub returns-in_ok-add-in-First-clause-read : goal.returns-in_ok-add-in-First-clause-read

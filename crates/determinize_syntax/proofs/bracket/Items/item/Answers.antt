@@ -1,5 +1,4 @@
-use Rattle.determinize_syntax.proofs.Common.{◌∙◌, ap, rest, sym}
-use Rattle.determinize_syntax.proofs.Parts.{on_ok, part_shorter, prefixed}
+use Rattle.determinize_syntax.proofs.Common.{◌∙◌, ap, on_ok, part_shorter, prefixed, rest, sym}
 use Rattle.determinize_syntax.proofs.bracket.Items.item.Goals as goal
 
 pub returns-then-take-clause-read : goal.returns-then-take-clause-read

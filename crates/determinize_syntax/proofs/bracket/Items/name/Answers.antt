@@ -1,6 +1,5 @@
 use Rattle.determinize_syntax.proofs.Common.{◌++◌, ◌∙◌, ◌≡◌, None, Some, ap, char_pairs, named_class, rest, set_of}
-use Rattle.determinize_syntax.proofs.Common.{slice_get, sym}
-use Rattle.determinize_syntax.proofs.Bytes.{tails}
+use Rattle.determinize_syntax.proofs.Common.{slice_get, sym, tails}
 use Rattle.determinize_syntax.proofs.Listing.{any_name_read}
 use Rattle.determinize_syntax.proofs.Munch.{name_passed}
 use Rattle.determinize_syntax.proofs.Nexts.{colon, name_next}

@@ -1,8 +1,7 @@
-use Rattle.determinize_syntax.proofs.Common.{◌∙◌, ◌∷◌, ◌≡◌, [], by_cases, char_pairs, rest, rules, sym}
-use Rattle.determinize_syntax.proofs.Bytes.{at_end, clash, front_of}
+use Rattle.determinize_syntax.proofs.Common.{◌∙◌, ◌∷◌, ◌≡◌, [], at_end, by_cases, char_pairs, clash, front_of, renamed}
+use Rattle.determinize_syntax.proofs.Common.{rest, rules, sym, took}
 use Rattle.determinize_syntax.proofs.Listing.{plain_listed, wide_listed}
 use Rattle.determinize_syntax.proofs.Nexts.{plain_next, starts}
-use Rattle.determinize_syntax.proofs.Parts.{renamed, took}
 use Rattle.determinize_syntax.proofs.bracket.Items.plain.Goals as goal
 
 pub returns-then-not-is_ascii-clause-read : goal.returns-then-not-is_ascii-clause-read

@@ -1,8 +1,7 @@
-use Rattle.determinize_syntax.proofs.Common.{arith, char_pairs, rules}
+use Rattle.determinize_syntax.proofs.Common.{arith, char_pairs, renamed, rules}
 use Rattle.determinize_syntax.specs.declared.bracket.Before.TheVariants.{AfterOne}
 use Rattle.determinize_syntax.proofs.Listing.{range_listed}
 use Rattle.determinize_syntax.proofs.Nexts.{hyphen_next}
-use Rattle.determinize_syntax.proofs.Parts.{renamed}
 use Rattle.determinize_syntax.proofs.bracket.Items.range.Goals as goal
 
 pub returns-clause-read : goal.returns-clause-read

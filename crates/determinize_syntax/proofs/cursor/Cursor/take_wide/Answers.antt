@@ -1,10 +1,7 @@
-use Rattle.determinize_syntax.proofs.Common.{◌++◌, ◌<◌, ◌∙◌, ◌∷◌, ◌≡◌, ◌≤◌, Bytes, Some, [], ap, append-nil, arith}
-use Rattle.determinize_syntax.proofs.Common.{encode_same, encode_utf8, len_utf8, length, length-encode, rest, slice_get}
-use Rattle.determinize_syntax.proofs.Common.{some_injective, sym, ℕ}
+use Rattle.determinize_syntax.proofs.Common.{◌++◌, ◌<◌, ◌∙◌, ◌∷◌, ◌≡◌, ◌≤◌, Bytes, IsUtf8-encode, IsWide, Some, [], ap}
+use Rattle.determinize_syntax.proofs.Common.{append-nil, arith, at_end, encode_same, encode_utf8, len_utf8, length}
+use Rattle.determinize_syntax.proofs.Common.{length-encode, rest, slice_get, some_injective, sym, ℕ}
 use Rattle.std.specs.Str.Iter.{chars_rest}
-use Rattle.std.proofs.lemmas.Str.{IsUtf8-encode}
-use Rattle.determinize_syntax.specs.Spells.{IsWide}
-use Rattle.determinize_syntax.proofs.Bytes.{at_end}
 use Rattle.determinize_syntax.proofs.Stepping.{encode_starts}
 use Rattle.determinize_syntax.proofs.Munch.{filled}
 use Rattle.determinize_syntax.proofs.Widths.{front_is, long_enough}

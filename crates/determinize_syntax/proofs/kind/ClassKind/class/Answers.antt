@@ -1,6 +1,5 @@
-use Rattle.determinize_syntax.proofs.Common.{HasBytes, folded, has, set_of, subst, turned}
+use Rattle.determinize_syntax.proofs.Common.{HasBytes, folded, has, ok_then, set_of, subst, turned}
 use Rattle.determinize_syntax.proofs.Classes.{kind_class}
-use Rattle.determinize_syntax.proofs.Parts.{ok_then}
 use Rattle.determinize_syntax.proofs.kind.ClassKind.class.Goals as goal
 
 pub returns : goal.returns

@@ -1,19 +1,13 @@
-use Rattle.determinize_syntax.proofs.Common.{◌∙◌, ◌∷◌, ◌≡◌, ◌≤◌, ClassKind, List, Some, [], ap, arith, by_test, codes}
-use Rattle.determinize_syntax.proofs.Common.{ltb-false, ltb-true, name_of, named_class, nat_lt, refl, slice_get, subst}
-use Rattle.determinize_syntax.proofs.Common.{sym, true, ℕ}
+use Rattle.determinize_syntax.proofs.Common.{◌<◌, and_parts}
+use Rattle.determinize_syntax.proofs.Common.{◌∙◌, ◌≡◌, ◌≤◌, ClassKind, Some, ap, arith, by_test, codes}
+use Rattle.determinize_syntax.proofs.Common.{ltb-false, ltb-true, name_of, named_class, nat_lt, slice_get, subst}
+use Rattle.determinize_syntax.proofs.Common.{sym, ℕ}
 use Rattle.std.proofs.lemmas.Option.{get_or_from_slice_get}
 use Rattle.std.proofs.Math.ListN.{get_or}
 use Rattle.ordered_reach.proofs.Cases.{by_option}
-use Rattle.determinize_syntax.specs.declared.kind.ClassKind.TheVariants.{Alnum, Alpha, Ascii, Blank, Cntrl, Digit}
-use Rattle.determinize_syntax.specs.declared.kind.ClassKind.TheVariants.{Graph, Lower, Print, Punct, Space, Upper, Word}
-use Rattle.determinize_syntax.specs.declared.kind.ClassKind.TheVariants.{Xdigit}
-use Rattle.determinize_syntax.proofs.Munch.{named_kind, text_differs, text_is}
+use Rattle.determinize_syntax.specs.declared.kind.ClassKind.TheVariants.{Alnum}
+use Rattle.determinize_syntax.proofs.Munch.{kinds, named_kind, text_differs, text_is}
 use Rattle.determinize_syntax.proofs.kind.ClassKind.from_name.Goals as goal
-
--- the kinds in their order
-abbrev kinds : List ClassKind
-kinds = Alnum ∷ Alpha ∷ Ascii ∷ Blank ∷ Cntrl ∷ Digit ∷ Graph ∷ Lower ∷ Print ∷ Punct ∷ Space ∷ Upper ∷ Word ∷ Xdigit
-    ∷ []
 
 listed : (i j : ℕ) (k : ClassKind) → i ≡ j → slice_get kinds i ≡ Some k → get_or kinds j Alnum ≡ k
 listed i j k here at = get_or_from_slice_get kinds j k Alnum (subst (λ n. slice_get kinds n ≡ Some k) here at)
@@ -34,25 +28,7 @@ loop-kind-preserved c i k less at same =
 pub returns-clause-none : goal.returns-clause-none
 returns-clause-none c =
     by_option (named_class c.args.name.now) (λ e. e)
-    (λ s e. let x = named_kind c.args.name.now s e in absurd (never x.0 x.1)) where
-      at : (k : ClassKind) (i : ℕ) → nat_lt i 14 ≡ true → slice_get kinds i ≡ Some k
-          → c.args.name.now ≡ codes (name_of k) → ⊥
-      at k i less here same = c.loop-kind.invariant i k
-          (let over : 14 ≤ c.loop-kind.kind-index = c.loop-kind-test.false in omega (arith, over, ltb-true i 14 less))
-          here same
-
-      never : (k : ClassKind) → c.args.name.now ≡ codes (name_of k) → ⊥
-      never Alnum = at Alnum 0 refl refl
-      never Alpha = at Alpha 1 refl refl
-      never Ascii = at Ascii 2 refl refl
-      never Blank = at Blank 3 refl refl
-      never Cntrl = at Cntrl 4 refl refl
-      never Digit = at Digit 5 refl refl
-      never Graph = at Graph 6 refl refl
-      never Lower = at Lower 7 refl refl
-      never Print = at Print 8 refl refl
-      never Punct = at Punct 9 refl refl
-      never Space = at Space 10 refl refl
-      never Upper = at Upper 11 refl refl
-      never Word = at Word 12 refl refl
-      never Xdigit = at Xdigit 13 refl refl
+    (λ s e. let x = named_kind c.args.name.now s e in
+    let over : 14 ≤ c.loop-kind.kind-index = c.loop-kind-test.false in
+    let less : x.0 < 14 = ltb-true x.0 14 (and_parts (nat_lt x.0 14) _ x.4).0 in
+    absurd (c.loop-kind.invariant x.0 x.1 (omega (arith, over, less)) x.2 x.3))

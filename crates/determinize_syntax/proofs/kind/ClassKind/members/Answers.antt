@@ -1,5 +1,5 @@
-use Rattle.determinize_syntax.proofs.Common.{◌+◌, ◌∙◌, ClassBytesRange, HasBelow, ap, refl, set_of, subst, sym}
-use Rattle.std.proofs.Common.{Global, Vec}
+use Rattle.determinize_syntax.proofs.Common.{◌∙◌, ClassBytesRange, Global, Vec, ap, refl, set_of}
+use Rattle.determinize_syntax.proofs.Common.{sym}
 use Rattle.determinize_syntax.proofs.Classes.{below_with, below_without}
 use Rattle.determinize_syntax.proofs.kind.ClassKind.members.Goals.{then-contains+in_ok-push, else-contains}
 use Rattle.determinize_syntax.proofs.kind.ClassKind.members.Goals as goal
@@ -14,7 +14,6 @@ loop-i-preserved c =
           c.loop-i.invariant (ap (λ (v : Vec ClassBytesRange Global). v.items) w.members-is
           ∙ w.in_ok-push.ensures.items) refl (sym c.contains.ensures ∙ w.if-contains.true)
       | else-contains w ↦
-          subst (λ (v : Vec ClassBytesRange Global). HasBelow s (c.loop-i.i + 1) v.items) (sym w.members-is)
-          (below_without s c.loop-i.i c.loop-i.members.items c.loop-i.invariant
+          rw w.members-is (below_without s c.loop-i.i c.loop-i.members.items c.loop-i.invariant
           (sym c.contains.ensures ∙ w.if-contains.false))
     ]
