@@ -167,8 +167,7 @@ maybe n false read left = ([], sym (left refl), tt)
 
 -- what was read before a name, with the name, and the text
 pub read_name : {text a b t n after : Bytes} (read : Bytes) → text ≡ read ++ 0x3C ∷ a → a ≡ t ++ b → n ≡ t
-    → b ≡ 0x3E ∷ after
-    → text ≡ (read ++ bracketed n) ++ after
+    → b ≡ 0x3E ∷ after → text ≡ (read ++ bracketed n) ++ after
 read_name {b = b} {n = n} {after = after} read e f same close =
     let there : (read ++ bracketed n) ++ after ≡ read ++ 0x3C ∷ (n ++ 0x3E ∷ after) =
     append_assoc read (bracketed n) after ∙ ap (λ l. read ++ 0x3C ∷ l) (append_assoc n (0x3E ∷ []) after) in

@@ -1,5 +1,5 @@
 -- Rules of the grammar whose parts were read.
--- Main statements: item_read, branch_read, choice_read, group_read, set_read, again_read, and a lemma for each other one.
+-- Main statements: item_read, branch_read, choice_read, group_read, set_read, and a lemma for each other rule.
 -- Used by: the proofs of the parser.
 -- Idea: a rule joins parts that follow one after the other.
 use Rattle.determinize_syntax.proofs.Common.{◌&&◌, ◌++◌, ◌+◌, ◌<◌, ◌^◌, ◌∙◌, ◌∷◌, ◌≡◌, ◌≤◌, Atom, Bool, Branches, Flags}

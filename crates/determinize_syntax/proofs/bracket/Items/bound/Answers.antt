@@ -61,8 +61,7 @@ pub returns-in_default-escape-clause-whole : goal.returns-in_default-escape-clau
 returns-in_default-escape-clause-whole c h u part =
     let x = bound_listed c.args.flags h u _ (rw (c.take.ensures.read c.if-take.true) at part)
     c.in_ok-escape.ensures.whole in
-    no_other_end c.args.flags h c.in_ok-escape.escape x.0 c.in_default-escape.not-Byte
-    c.in_default-escape.not-Wide
+    no_other_end c.args.flags h c.in_ok-escape.escape x.0 c.in_default-escape.not-Byte c.in_default-escape.not-Wide
 
 pub returns-then-take-2-clause-whole : goal.returns-then-take-2-clause-whole
 returns-then-take-2-clause-whole c h u part =

@@ -27,8 +27,7 @@ loop-kind-preserved c i k less at same =
 
 pub returns-clause-none : goal.returns-clause-none
 returns-clause-none c =
-    by_option (named_class c.args.name.now) (λ e. e)
-    (λ s e. let x = named_kind c.args.name.now s e in
+    by_option (named_class c.args.name.now) (λ e. e) (λ s e. let x = named_kind c.args.name.now s e in
     let over : 14 ≤ c.loop-kind.kind-index = c.loop-kind-test.false in
     let less : x.0 < 14 = ltb-true x.0 14 (and_parts (nat_lt x.0 14) _ x.4).0 in
     absurd (c.loop-kind.invariant x.0 x.1 (omega (arith, over, less)) x.2 x.3))
