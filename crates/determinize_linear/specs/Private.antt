@@ -2,7 +2,6 @@ pub mod Following
 pub mod Left
 pub mod Marks
 pub mod Paid
-pub mod Reading
 pub mod RowMarks
 pub mod Spent
 pub mod Walks

@@ -6,19 +6,25 @@
 //! that it was at is marked, if the next row listed no match. A later walk begins where that match
 //! ends or behind it. So a marked pair that it comes to was marked behind the match, from where no
 //! further match was listed, and the walk ends there: all walks go on alike from a pair.
+//!
+//! No later walk is at the position where a walk begins, except to begin there. So its first step
+//! marks nothing, and neither does the last one of a walk that reads the whole text.
 
 ghost use Rattle.std.specs.Prelude.{◌≡◌, ℕ, ◌*◌, ◌<◌, ◌≤◌, ◌-◌, ◌+◌, ◌^◌, ◌⊎◌, All, IfOk, IsTrue, None, Some, false, length, option_map, true};
-ghost use Rattle.std.specs.Option.{IfNone, IfSome};
+ghost use Rattle.determinize_below.specs.Nfa.{IsAccepted};
+ghost use Rattle.determinize_below.specs.Semantics.{before_at};
 ghost use Rattle.determinize_below.specs.Truth.{IsUnit};
 ghost use Rattle.determinize_below.specs.declared.search.MatchKind.TheVariants as kinds;
 ghost use Rattle.determinize_core.specs.Chain.{units};
-ghost use Rattle.determinize_dense.specs.Table.{row_over};
+ghost use Rattle.determinize_dense.specs.Dfa.{IsDfaOf};
+ghost use Rattle.determinize_dense.specs.Reading.{IsDead};
+ghost use Rattle.determinize_dense.specs.Table.{start_row};
 ghost use Rattle.determinize_engine.specs.Searches.{has_start};
 ghost use Rattle.determinize_find.specs.Matches.{AreMatches};
 ghost use Rattle.determinize_find.specs.Private.BestAt.{IsBestAt, from_index};
 ghost use Rattle.determinize_linear.specs.Private.Following.{IsWalkable, following, steps_left};
-ghost use Rattle.determinize_linear.specs.Private.RowMarks.{HasMark, is_set, place};
-ghost use Rattle.determinize_linear.specs.Private.Walks.{IsWalked};
+ghost use Rattle.determinize_linear.specs.Private.RowMarks.{bit_of, is_set};
+ghost use Rattle.determinize_linear.specs.Private.Walks.{HasStepped, HasWalked, IsWalked};
 ghost use Rattle.determinize_linear.specs.Tries.{most_steps};
 
 use crate::choices::byte_before;
@@ -26,80 +32,152 @@ use crate::in_turn::find_all_by;
 use crate::matcher::Matcher;
 use crate::row_marks::RowMarks;
 use crate::tries::{Counter, Tries};
-use determinize_below::{Anchored, HalfMatch, Input, Match, NFA, PatternID};
+use determinize_below::{Anchored, HalfMatch, Input, Match, NFA};
 use determinize_core::start::Config;
-use determinize_dense::{Dfa, RowId};
+use determinize_dense::{Dfa, RowId, Walker};
 use determinize_engine::text::Text;
 use std::alloc::{AllocError, Allocator};
+use std::marker::Model;
 use std::sync::ledger::Ledger;
 
-/// Returns the row after a row over a unit.
-#[inline(always)]
-fn over<N: Allocator, M: Allocator + Copy>(
-    dfa: &Dfa<'_, N, M>,
-    row: RowId,
-    unit: Option<u8>,
-) -> RowId
-    ensures { result ≡ row_over dfa.now.table row unit }
-{
-    match unit {
-        Some(byte) => dfa.next_state(row, byte),
-        None => dfa.next_eoi_state(row),
+/// A walk over a text under way, with the last match that its rows have listed.
+#[derive(Drop)]
+struct Walk<'d, 'n, N: Allocator, M: Allocator> {
+    walker: Walker<'d, 'n, N, M>,
+    /// The position of the next unit.
+    at: usize,
+    /// The last row that listed a match, or the dead row.
+    listing: RowId,
+    /// The end of its match.
+    end: usize,
+}
+
+impl<'d, 'n, N: Allocator, M: Allocator> Model for Walk<'d, 'n, N, M> {
+    ghost use Rattle.determinize_core.specs.LastMatch.{ended_at};
+    ghost use Rattle.determinize_dense.specs.Table.{patterns_at};
+    ghost use Rattle.determinize_linear.specs.Private.Walks.{WalkValue};
+
+    ghost Value = { WalkValue };
+
+    ghost view = { λ w. record {
+      dfa = w.walker.dfa;
+      row = w.walker.row;
+      at = w.at;
+      found = ended_at w.end (patterns_at w.walker.dfa.table w.listing);
+    } };
+}
+
+impl<'d, 'n, N: Allocator, M: Allocator + Copy> Walk<'d, 'n, N, M> {
+    /// Returns an anchored walk that begins at a position of a text.
+    #[inline(always)]
+    fn new(dfa: &'d Dfa<'n, N, M>, text: &Text<'_>, from: usize) -> Walk<'d, 'n, N, M>
+        ensures value { result ≡ record {
+          dfa = dfa.now;
+          row = start_row dfa.now.nfa dfa.now.table true (before_at text.now from);
+          at = from;
+          found = None;
+        } }
+        ensures means { IsDfaOf dfa.now.nfa dfa.now.kind dfa.now.table }
+        ensures dead { IsDead dfa.now.table 0 }
+        ensures accepted { IsAccepted dfa.now.nfa }
+        ensures behind { IsUnit (before_at text.now from) }
+    {
+        let start = Config::new()
+            .anchored(Anchored::Yes)
+            .look_behind(byte_before(text, from));
+        Walk {
+            walker: dfa.walker(&start),
+            at: from,
+            listing: RowId::DEAD,
+            end: from,
+        }
+    }
+
+    /// Takes a step over a unit, and returns whether the next row lists a match.
+    #[inline(always)]
+    fn step(&mut self, unit: Option<u8>) -> bool
+        requires { self.old.at < 2 ^ 63 }
+        ensures { HasStepped self.old unit self.new result }
+    {
+        self.walker.step(unit);
+        let lists = self.walker.is_match();
+        if lists {
+            self.listing = self.walker.row();
+            self.end = self.at;
+        }
+        self.at += 1;
+        lists
+    }
+
+    /// Returns whether a byte follows, and behind it a match may be listed.
+    #[inline(always)]
+    fn may_follow<A: Allocator>(&self, text: &Text<'_>, marks: &RowMarks<A>) -> bool
+        requires { self.now.at < length text.now.bytes
+            → bit_of marks.now self.now.at (self.now.row * (self.now.dfa.table.class_count + 1))
+            < 64 * length marks.now.words }
+        ensures more { result ≡ true → (self.now.at < length text.now.bytes)
+            × (is_set self.now.dfa.table marks.now self.now.at self.now.row ≡ false) }
+        ensures less { result ≡ false → self.now.at < length text.now.bytes → (self.now.row ≡ 0)
+            ⊎ (is_set self.now.dfa.table marks.now self.now.at self.now.row ≡ true) }
+        ensures units { All IsUnit (units text.now) }
+    {
+        self.at < text.len()
+            && !self.walker.is_dead()
+            && !marks.is_set(self.at, self.walker.offset())
+    }
+
+    /// Returns the last match that the rows have listed.
+    ///
+    /// - `dfa` is the DFA of the walk.
+    #[inline(always)]
+    fn found(&self, dfa: &Dfa<'_, N, M>) -> Option<HalfMatch>
+        requires { dfa.now ≡ self.now.dfa }
+        ensures { result ≡ self.now.found }
+    {
+        let pattern = dfa.match_pattern(self.listing, 0)?;
+        Some(HalfMatch {
+            pattern,
+            offset: self.end,
+        })
     }
 }
 
-/// Returns whether a match may be listed behind a pair of a position and a row.
+/// Walks over the bytes of a text, up to its end or to where no match is listed behind.
 #[inline(always)]
-fn may_follow<N: Allocator, M: Allocator + Copy, A: Allocator>(
-    dfa: &Dfa<'_, N, M>,
+fn walk_bytes<N: Allocator, M: Allocator + Copy, A: Allocator, C: Counter>(
+    walk: &mut Walk<'_, '_, N, M>,
     text: &Text<'_>,
-    marks: &RowMarks<A>,
-    at: usize,
-    row: RowId,
-) -> bool
-    requires place { at ≤ length text.now.bytes
-        → place marks.now at row < 64 * length marks.now.words }
-    requires limit { at ≤ length text.now.bytes → place marks.now at row < 2 ^ 64 }
-    ensures more { result ≡ true
-        → (at ≤ length text.now.bytes) × (is_set marks.now at row ≡ false) }
-    ensures less { result ≡ false → at ≤ length text.now.bytes
-        → (row ≡ 0) ⊎ (is_set marks.now at row ≡ true) }
-    ensures units { All IsUnit (units text.now) }
-    ensures limit { length text.now.bytes < 2 ^ 63 }
-{
-    at <= text.len() && !dfa.is_dead_state(row) && !marks.is_set(at, row)
-}
-
-/// Returns the last match after a step from a pair to a row that lists this pattern first. Marks
-/// the pair if the row lists none.
-#[inline(always)]
-fn after_step<A: Allocator>(
     marks: &mut RowMarks<A>,
-    at: usize,
-    row: RowId,
-    first: Option<PatternID>,
-    found: Option<HalfMatch>,
-) -> Option<HalfMatch>
-    requires place { place marks.old at row < 64 * length marks.old.words }
-    requires limit { place marks.old at row < 2 ^ 64 }
-    ensures some { IfSome first (λ pattern.
-        (result ≡ Some record { pattern = pattern; offset = at }) × (marks.new ≡ marks.old)) }
-    ensures none { IfNone first ((result ≡ found) × HasMark marks.old at row marks.new) }
+    counter: &mut C,
+)
+    requires walkable { IsWalkable walk.old.dfa marks.old walk.old.dfa.nfa text.now walk.old.at }
+    requires within { walk.old.at ≤ length text.now.bytes }
+    requires below { walk.old.row < length walk.old.dfa.table.patterns }
+    requires dead { IsDead walk.old.dfa.table 0 }
+    requires start { walk.old.found ≡ None }
+    ensures walked { IsWalked text.now walk.old marks.old marks.new walk.new 1
+        (IsTrue C.counts) (C.total counter.old) (C.total counter.new) }
+    ensures within { walk.new.at ≤ length text.now.bytes }
+    ensures ends { walk.new.at < length text.now.bytes
+        → following walk.old.dfa.table text.now walk.new.at walk.new.row ≡ None }
 {
-    match first {
-        Some(pattern) => Some(HalfMatch {
-            pattern,
-            offset: at,
-        }),
-        None => {
-            marks.set(at, row);
-            found
+    if walk.at == text.len() {
+        return;
+    }
+    counter.count();
+    walk.step(Some(text.byte(walk.at)));
+    while walk.may_follow(text, marks) {
+        counter.count();
+        let (at, offset) = (walk.at, walk.walker.offset());
+        if !walk.step(Some(text.byte(at))) {
+            marks.set(at, offset);
         }
     }
 }
 
 /// Returns the pattern and the end of the most preferred match that begins at a position of a text,
 /// if any.
+#[inline(always)]
 fn walk_from<N: Allocator, M: Allocator + Copy, A: Allocator, C: Counter>(
     dfa: &Dfa<'_, N, M>,
     text: &Text<'_>,
@@ -110,26 +188,20 @@ fn walk_from<N: Allocator, M: Allocator + Copy, A: Allocator, C: Counter>(
     requires within { from ≤ length text.now.bytes }
     requires walkable { IsWalkable dfa.now marks.old dfa.now.nfa text.now from }
     ensures best { IsBestAt dfa.now.nfa text.now from (option_map (from_index from) result) }
-    ensures walked { (start : ℕ) × (at : ℕ) × (row : ℕ) × IsWalked dfa.now.table text.now
-        marks.old marks.new from at row result (following dfa.now.table text.now from start)
-        (IsTrue C.counts) (C.total counter.old) (C.total counter.new)
-        × (following dfa.now.table text.now at row ≡ None) }
+    ensures walked { HasWalked dfa.now text.now from marks.old marks.new result
+        (IsTrue C.counts) (C.total counter.old) (C.total counter.new) }
 {
-    let start = Config::new()
-        .anchored(Anchored::Yes)
-        .look_behind(byte_before(text, from));
-    let (mut row, mut at, mut found) = (dfa.start_state(&start), from, None);
-    while may_follow(dfa, text, marks, at, row) {
-        counter.count();
-        let next = over(dfa, row, text.unit(at));
-        found = after_step(marks, at, row, dfa.match_pattern(next, 0), found);
-        row = next;
-        at += 1;
+    let mut walk = Walk::new(dfa, text, from);
+    walk_bytes(&mut walk, text, marks, counter);
+    if walk.at < text.len() {
+        return walk.found(dfa);
     }
-    found
+    counter.count();
+    walk.step(text.ahead());
+    walk.found(dfa)
 }
 
-/// Walks by a DFA over one text.
+/// Walks by one DFA over one text.
 #[derive(Drop)]
 struct Walks<'d, 'n, N: Allocator, M: Allocator, A: Allocator> {
     dfa: &'d Dfa<'n, N, M>,
@@ -139,10 +211,13 @@ struct Walks<'d, 'n, N: Allocator, M: Allocator, A: Allocator> {
 impl<'d, 'n, M: Allocator + Copy, D: Allocator, A: Allocator> Matcher for Walks<'d, 'n, D, M, A> {
     ghost is_ready = { λ w nfa text k. IsWalkable w.dfa.now w.marks nfa text k };
 
-    ghost left = { λ w nfa text k. steps_left w.marks text k };
+    ghost left = { λ w nfa text k. steps_left w.dfa.now.table text w.marks k };
 
     ghost most = { λ nfa. 0 };
 
+    ghost extra = { 3 };
+
+    #[inline(always)]
     fn search_from<N: Allocator, C: Counter>(
         &mut self,
         _nfa: &NFA<N>,
@@ -172,7 +247,8 @@ fn find_all_with<N: Allocator, M: Allocator + Copy, A: Allocator + Copy, C: Coun
         return Ok(Vec::new(alloc));
     }
     let text = Text::of_input(input, false);
-    let marks = RowMarks::new(alloc, text.len() + 1, dfa.len())?;
+    let columns = dfa.byte_classes().alphabet_len();
+    let marks = RowMarks::new(alloc, text.len() + 1, dfa.len(), columns)?;
     let mut walks = Walks { dfa, marks };
     find_all_by(alloc, &mut walks, dfa.nfa(), input, &text, counter)
 }

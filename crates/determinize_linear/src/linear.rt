@@ -9,11 +9,11 @@
 
 ghost use Rattle.std.specs.Prelude.{◌≡◌, ◌≤◌, ◌-◌, ◌+◌, IfOk, IsTrue, None, OnOk, false, length, option_map, true};
 ghost use Rattle.std.specs.Option.{IfNone, IfSome};
+ghost use Rattle.determinize_below.specs.Nfa.{IsAccepted};
 ghost use Rattle.determinize_engine.specs.Searches.{has_start};
 ghost use Rattle.determinize_find.specs.Matches.{AreMatches};
 ghost use Rattle.determinize_find.specs.Private.BestAt.{IsBestAt, from_index};
 ghost use Rattle.determinize_linear.specs.Private.Paid.{IsPaid, end_of};
-ghost use Rattle.determinize_linear.specs.Private.Reading.{IsForward};
 ghost use Rattle.determinize_linear.specs.Private.Left.{left, most_choices};
 ghost use Rattle.determinize_linear.specs.Private.Spent.{HasPlaces, IsSpent};
 ghost use Rattle.determinize_linear.specs.Tries.{most_tries};
@@ -39,7 +39,8 @@ fn search_from<N: Allocator, A: Allocator, C: Counter>(
     stack: &mut Vec<(usize, StateID), A>,
     counter: &mut C,
 ) -> Result<Option<HalfMatch>, AllocError>
-    requires nfa { IsForward nfa.now }
+    requires accepted { IsAccepted nfa.now }
+    requires forward { nfa.now.reverse ≡ false }
     requires within { from ≤ length text.now.bytes }
     requires places { HasPlaces nfa.now text.now visited.old }
     requires spent { IsSpent nfa.now text.now from visited.old }
@@ -89,6 +90,8 @@ impl<A: Allocator> Matcher for DepthFirst<A> {
     ghost left = { λ s nfa text k. left nfa text k s.visited };
 
     ghost most = { most_choices };
+
+    ghost extra = { 1 };
 
     fn search_from<N: Allocator, C: Counter>(
         &mut self,

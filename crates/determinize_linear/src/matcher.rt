@@ -1,12 +1,12 @@
 //! A search of one text from one position after another: after a match none begins before its end,
 //! and else none before the last one began.
 
-ghost use Rattle.std.specs.Prelude.{◌≤◌, ◌+◌, ℕ, IfOk, IsTrue, length, option_map};
+ghost use Rattle.std.specs.Prelude.{◌≡◌, ◌≤◌, ◌+◌, ℕ, IfOk, IsTrue, false, length, option_map};
 ghost use Rattle.std.specs.Option.{IfNone, IfSome};
+ghost use Rattle.determinize_below.specs.Nfa.{IsAccepted};
 ghost use Rattle.determinize_below.specs.Semantics as semantics;
 ghost use Rattle.determinize_find.specs.Private.BestAt.{IsBestAt, from_index};
 ghost use Rattle.determinize_linear.specs.Private.Paid.{IsPaid, end_of};
-ghost use Rattle.determinize_linear.specs.Private.Reading.{IsForward};
 
 use crate::tries::Counter;
 use determinize_below::{HalfMatch, NFA};
@@ -25,6 +25,9 @@ pub(crate) trait Matcher {
     /// How many tries at most a match restores at the position where it ends.
     ghost most: { semantics.Nfa → ℕ };
 
+    /// How many tries at most a search takes besides those that are left.
+    ghost extra: { ℕ };
+
     /// Returns the pattern and the end of the most preferred match that begins at a position, if
     /// any.
     fn search_from<N: Allocator, C: Counter>(
@@ -34,7 +37,8 @@ pub(crate) trait Matcher {
         from: usize,
         counter: &mut C,
     ) -> Result<Option<HalfMatch>, AllocError>
-        requires nfa { IsForward nfa.now }
+        requires accepted { IsAccepted nfa.now }
+        requires forward { nfa.now.reverse ≡ false }
         requires within { from ≤ length text.now.bytes }
         requires ready { is_ready self.old nfa.now text.now from }
         ensures best { IfOk result
@@ -45,11 +49,11 @@ pub(crate) trait Matcher {
             → is_ready self.new nfa.now text.now k) }
         ensures paid { IsTrue C.counts → IfOk result (λ found. IfSome found (λ m.
             IsPaid (left self.new nfa.now text.now) (most nfa.now)
-            (left self.old nfa.now text.now from) from m.offset 1
+            (left self.old nfa.now text.now from) from m.offset extra
             (C.total counter.old) (C.total counter.new))) }
         ensures unpaid { IsTrue C.counts → IfOk result (λ found. IfNone found ((k : ℕ) → from ≤ k
             → C.total counter.new + left self.new nfa.now text.now k
-            ≤ C.total counter.old + 1 + left self.old nfa.now text.now from)) }
+            ≤ C.total counter.old + extra + left self.old nfa.now text.now from)) }
         ensures bounded { IsTrue C.counts → C.total counter.new
-            ≤ C.total counter.old + 1 + left self.old nfa.now text.now from };
+            ≤ C.total counter.old + extra + left self.old nfa.now text.now from };
 }

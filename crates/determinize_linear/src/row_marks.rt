@@ -1,18 +1,22 @@
 //! Marks of the pairs of a position and a row from which the next step of a walk listed no match.
+//!
+//! A walk knows its row by the offset in the table of the DFA, which is the number of the row times
+//! the number of columns. So the words of a row begin at its offset times the number of words for
+//! each entry of the table.
 
-ghost use Rattle.std.specs.Prelude.{◌≡◌, ℕ, ◌*◌, ◌<◌, ◌≤◌, ◌||◌, ◌^◌, IfOk, false, length, nat_eq};
+ghost use Rattle.std.specs.Prelude.{◌≡◌, ℕ, ◌*◌, ◌+◌, ◌/◌, ◌<◌, ◌≤◌, ◌||◌, IfOk, false, length, nat_eq};
 ghost use Rattle.determinize_below.specs.Private.Sparse.{has_bit};
-ghost use Rattle.determinize_linear.specs.Private.RowMarks.{HasMark, is_set, place};
+ghost use Rattle.determinize_linear.specs.Private.RowMarks.{HasMark, bit_of};
 
-use determinize_dense::RowId;
 use std::alloc::{AllocError, Allocator};
 use std::marker::Model;
 
 /// A mark for each pair of a position and a row.
 #[derive(Drop)]
 pub(crate) struct RowMarks<A: Allocator> {
-    rows: usize,
-    /// A bit for each row at each position, one position after the other.
+    /// The number of words for each entry of the table.
+    span: usize,
+    /// A bit for each position at each row, one row after the other.
     words: Vec<u64, A>,
 }
 
@@ -21,61 +25,71 @@ impl<A: Allocator> Model for RowMarks<A> {
 
     ghost Value = { marks.RowMarks };
 
-    ghost view = { λ m. record { rows = m.rows; words = m.words.items } };
+    ghost view = { λ m. record { span = m.span; words = m.words.items } };
 }
 
-/// Returns whether the bit with this index is set.
+/// Returns whether a bit is set.
+///
+/// - `index` is its index among those from word `first` on.
 #[inline(always)]
 #[tactic(auto, using(crate::proofs::walks::Unset::one_bit))]
-fn is_bit_set(words: &[u64], index: usize) -> bool
-    requires { index < 64 * length words.now }
-    ensures { result ≡ has_bit words.now index }
+fn is_bit_set(words: &[u64], first: usize, index: usize) -> bool
+    requires { first + index / 64 < length words.now }
+    ensures { result ≡ has_bit words.now (64 * first + index) }
 {
-    (words[index / 64] >> (index % 64)) & 1 == 1
+    (words[first + index / 64] >> (index % 64)) & 1 == 1
 }
 
-/// Sets the bit with this index.
+/// Sets a bit.
+///
+/// - `index` is its index among those from word `first` on.
 #[inline(always)]
 #[tactic(auto, using(crate::proofs::walks::Unset::one_bit))]
-fn set_bit(words: &mut [u64], index: usize)
-    requires { index < 64 * length words.old }
+fn set_bit(words: &mut [u64], first: usize, index: usize)
+    requires { first + index / 64 < length words.old }
     ensures { (other : ℕ)
-        → has_bit words.new other ≡ (nat_eq other index || has_bit words.old other) }
+        → has_bit words.new other ≡ (nat_eq other (64 * first + index) || has_bit words.old other) }
 {
-    words[index / 64] |= 1 << (index % 64);
+    words[first + index / 64] |= 1 << (index % 64);
 }
 
 impl<A: Allocator> RowMarks<A> {
-    /// Returns a table without marks.
+    /// Returns a table without marks for this number of positions, and for the rows of a table with
+    /// this number of columns.
     #[tactic(auto, using(crate::proofs::walks::Unset::one_bit))]
-    pub(crate) fn new(alloc: A, positions: usize, rows: usize) -> Result<RowMarks<A>, AllocError>
-        ensures rows { IfOk result (λ m. m.rows ≡ rows) }
-        ensures places { IfOk result (λ m. positions * rows ≤ 64 * length m.words) }
-        ensures limit { IfOk result (λ m. positions * rows < 2 ^ 64) }
+    pub(crate) fn new(
+        alloc: A,
+        positions: usize,
+        rows: usize,
+        columns: usize,
+    ) -> Result<RowMarks<A>, AllocError>
+        requires { 0 < columns }
+        ensures room { IfOk result (λ m. positions ≤ 64 * (columns * m.span)) }
+        ensures words { IfOk result (λ m. length m.words ≡ rows * (columns * m.span)) }
         ensures none { IfOk result (λ m. (i : ℕ) → has_bit m.words i ≡ false) }
     {
-        let count = positions.checked_mul(rows).ok_or(AllocError)?;
-        let words = vec![in alloc; 0u64; count.div_ceil(64)]?;
-        Ok(RowMarks { rows, words })
+        let span = positions.div_ceil(64).div_ceil(columns);
+        let count = span.checked_mul(columns).ok_or(AllocError)?;
+        let count = count.checked_mul(rows).ok_or(AllocError)?;
+        let words = vec![in alloc; 0u64; count]?;
+        Ok(RowMarks { span, words })
     }
 
-    /// Returns whether a pair is marked.
+    /// Returns whether the pair of a position and the row with this offset is marked.
     #[inline(always)]
-    pub(crate) fn is_set(&self, at: usize, row: RowId) -> bool
-        requires place { place self.now at row < 64 * length self.now.words }
-        requires limit { place self.now at row < 2 ^ 64 }
-        ensures { result ≡ is_set self.now at row }
+    pub(crate) fn is_set(&self, at: usize, offset: usize) -> bool
+        requires { bit_of self.now at offset < 64 * length self.now.words }
+        ensures { result ≡ has_bit self.now.words (bit_of self.now at offset) }
     {
-        is_bit_set(&self.words, at * self.rows + row.as_usize())
+        is_bit_set(&self.words, offset * self.span, at)
     }
 
-    /// Marks a pair.
+    /// Marks the pair of a position and the row with this offset.
     #[inline(always)]
-    pub(crate) fn set(&mut self, at: usize, row: RowId)
-        requires place { place self.old at row < 64 * length self.old.words }
-        requires limit { place self.old at row < 2 ^ 64 }
-        ensures { HasMark self.old at row self.new }
+    pub(crate) fn set(&mut self, at: usize, offset: usize)
+        requires { bit_of self.old at offset < 64 * length self.old.words }
+        ensures { HasMark self.old (bit_of self.old at offset) self.new }
     {
-        set_bit(&mut self.words, at * self.rows + row.as_usize());
+        set_bit(&mut self.words, offset * self.span, at);
     }
 }

@@ -1,13 +1,12 @@
 -- The choices that are left to a search, and how many there can be.
--- Main statements: left_marked, left_later, left_cleared, left_past, left_most, paid_match, paid_after,
--- if_some, if_none, left_least, start_pays, next_pays, end_pays.
+-- Main statements: left_marked, left_later, left_cleared, left_past, left_most, paid_match, if_none, start_pays.
 -- Used by: the searches.
 -- Idea: sums over the pairs of a text: at each position they have at most one choice for each state and one for each
 -- epsilon transition of the NFA.
 use Rattle.std.specs.List.{flat_map}
 use Rattle.std.specs.Option.{IfNone, IfSome}
 use Rattle.std.specs.Prelude.{nat_lt, slice_get, slice_index_or}
-use Rattle.std.proofs.Common.{◌≡◌, ◌<◌, ◌≤◌, ◌*◌, ◌+◌, ◌-◌, ◌++◌, ◌∷◌, ◌||◌, ◌==◌, ℕ, Bool, List, None, Option, Some}
+use Rattle.std.proofs.Common.{◌≡◌, ◌<◌, ◌≤◌, ◌*◌, ◌+◌, ◌++◌, ◌∷◌, ◌||◌, ◌==◌, ℕ, Bool, List, None, Option, Some}
 use Rattle.std.proofs.Common.{[], ap, arith, false, length, length-append, map, nat_eq, not, refl, suc, true, zero}
 use Rattle.std.proofs.lemmas.Bool.Decides.{nat_tests}
 use Rattle.std.proofs.lemmas.List.{length-map}
@@ -16,16 +15,13 @@ use Rattle.determinize_below.specs.Edges.{edges}
 use Rattle.determinize_below.specs.Positions.{byte_edges, true_edges, truth}
 use Rattle.determinize_below.specs.Semantics.{Nfa, Text, after_at, before_at, choices}
 use Rattle.determinize_below.proofs.nfas.Edges.{length-edges, length-target}
-use Rattle.ordered_reach.proofs.Cases.{by_cases, by_test}
-use Rattle.std.proofs.lemmas.Bool.{cases_lt}
+use Rattle.ordered_reach.proofs.Cases.{by_test}
 use Rattle.ordered_reach.proofs.graph.FiniteGraphs.{below_member, length_below, same_decides}
 use Rattle.ordered_reach.proofs.graph.SearchBound.{weight, weight_one}
 use Rattle.ordered_reach.proofs.lists.Elements.{In_flat_map, In_map, In_member, member_In}
 use Rattle.ordered_reach.proofs.runs.ByPosition.{pair_eq, same_pairs}
 use Rattle.ordered_reach.specs.Reach.{edge_count, member, nodes_below, with_node}
 use Rattle.ordered_reach.specs.Runs.{placed}
-use Rattle.determinize_below.specs.declared.search.Match.{Match}
-use Rattle.determinize_find.specs.Private.Left.{left as matches_left}
 use Rattle.determinize_linear.specs.Private.Paid.{IsPaid}
 use Rattle.determinize_linear.specs.Private.Left.{count_choices, left, most_choices, pairs_in}
 use Rattle.determinize_linear.specs.Private.Marks.{is_marked, with_mark, without_marks}
@@ -192,23 +188,6 @@ module _ (nfa : Nfa) (text : Text) where
     here = omega (arith, left_cleared at rows l, left_later from at rows low, one, paid, some);
   }
 
--- where a match is found after some positions without one
-pub paid_after : (base start at : ℕ) (m : Match) (left : ℕ → ℕ) (most before here old total new : ℕ)
-    → base ≤ start → start ≤ at
-    → (m.start ≡ at) × IsPaid left most here (at - base) (m.end - base) 1 total new
-    → total + here ≤ old + (at - start) + before
-    → (start ≤ m.start) × IsPaid left most before (start - base) (m.end - base) (m.start - start + 1) old new
-paid_after base start at m left most before here old total new b l h paid =
-    let z : m.start ≡ at = h.0 in
-    let cost : m.start - start + 1 ≡ (at - start) + 1 = omega arith in (
-      omega arith,
-      record {
-        low = omega (arith, h.1.low);
-        further = λ k e. omega (arith, h.1.further k e, paid, cost);
-        here = omega (arith, h.1.here, paid, cost);
-      },
-    )
-
 pub if_some : {A : Type 0} (P Q : A → Type 0) (o : Option A) → ((a : A) → P a → Q a) → IfSome o P → IfSome o Q
 if_some P Q None f h = h
 if_some P Q (Some a) f h = f a h
@@ -218,37 +197,12 @@ if_none P Q None f h = f h
 if_none P Q (Some a) f h = h
 
 -- the tries that are left before the first match are enough
-tries_enough : (d n : ℕ) → (n + 1) * d + (d + 3) * (n + 2) ≤ 3 * (d + 1) * (n + 2)
+tries_enough : (d n : ℕ) → (n + 1) * d + (d + 1) * (n + 1) ≤ 3 * (d + 1) * (n + 2)
 tries_enough d zero = omega arith
 tries_enough d (suc n) = omega (arith, tries_enough d n)
 
--- each match uses up at least one of those that may follow
-match_pays : (d a b x : ℕ) → a < b → x ≤ b - a → x + 2 + d + (d + 3) * a ≤ (d + 3) * b
-match_pays d a zero x l m = absurd (omega arith)
-match_pays d a (suc b) x l m = by_cases (cases_lt a b)
-    (λ k. omega (arith, match_pays d a b (x - 1) k (omega arith)))
-    (λ k. let z : a ≡ b = omega arith in rw z (omega (arith, l, m, z)))
-
-last_pays : (d b : ℕ) → 3 * b ≤ (d + 3) * b
-last_pays d zero = omega arith
-last_pays d (suc b) = omega (arith, last_pays d b)
-
-pub left_least : (end start : ℕ) (before : Option ℕ) → end + 1 - start ≤ matches_left end start before
-left_least end start None = omega arith
-left_least end start (Some last) = omega arith
-
 -- what is left at the start and what matches may take
 pub start_pays : (s e n len left : ℕ) → len ≡ n → left ≤ (len + 1) * (s + e)
-    → left + (s + e + 3) * (n + 2) ≤ 3 * (s + e + 1) * (n + 2)
+    → left + (s + e + 1) * (n + 1) ≤ 3 * (s + e + 1) * (n + 2)
 start_pays s e n len left z l =
     let few : left ≤ (n + 1) * (s + e) = rw z at l in omega (arith, few, tries_enough (s + e) n)
-
--- what was counted, what is left and what later matches may take, after a match and at the end
-pub next_pays : (d a b x old most total left more rest : ℕ) → a < b → x ≤ b - a
-    → more + rest ≤ total + (x + 2) + left + d
-    → total + left + (d + 3) * b ≤ old + most → more + rest + (d + 3) * a ≤ old + most
-next_pays d a b x old most total left more rest l h paid before = omega (arith, match_pays d a b x l h, paid, before)
-
-pub end_pays : (d b x old most total left more : ℕ) → x ≤ 3 * b → more ≤ total + x + left
-    → total + left + (d + 3) * b ≤ old + most → more ≤ old + most
-end_pays d b x old most total left more l paid before = omega (arith, last_pays d b, l, paid, before)

@@ -1,10 +1,12 @@
 -- A walk from a position, one step after another.
--- Main statements: followed_start, followed_some, followed_none, followed_all, followed_end, following-done,
--- following-dead, following-marked.
+-- Main statements: followed_start, followed_step, followed_mark, followed_all, followed_end, following-done,
+-- following-dead, following-none, following-marked.
 -- Used by: Walked.
 -- Idea: what follows the marked pairs is what follows the pair where the walk is, until a match is listed.
-use Rattle.std.proofs.Common.{◌≡◌, ◌<◌, ◌≤◌, ◌+◌, ◌∙◌, ◌⊎◌, ℕ, List, None, Option, Some, [], ◌∷◌, ap, arith, inl, inr}
-use Rattle.std.proofs.Common.{length, refl, slice_get, suc, sym, true}
+use Rattle.std.proofs.Common.{◌≡◌, ◌<◌, ◌≤◌, ◌*◌, ◌+◌, ◌&&◌, ◌∙◌, ◌⊎◌, ℕ, List, None, Option, Some, [], ◌∷◌, ap, arith, inl}
+use Rattle.std.proofs.Common.{inr, length, nat_eq, refl, slice_get, suc, sym, true}
+use Rattle.std.proofs.lemmas.Bool.Decides.{nat_tests}
+use Rattle.ordered_reach.proofs.Cases.{by_test}
 use Rattle.std.specs.Option.{option_or}
 use Rattle.std.specs.Prelude.{All, drop}
 use Rattle.std.proofs.lemmas.List.Elements.{All-drop, All-head, All-tail}
@@ -20,7 +22,7 @@ use Rattle.determinize_dense.specs.Table.{Table, patterns_at, row_over}
 use Rattle.determinize_dense.proofs.Along.{lists_along-done, lists_along-more}
 use Rattle.determinize_linear.specs.Private.Following.{NoneFollows, following}
 use Rattle.determinize_linear.specs.Private.Paid.{end_of}
-use Rattle.determinize_linear.specs.Private.RowMarks.{HasMark, RowMarks, is_set}
+use Rattle.determinize_linear.specs.Private.RowMarks.{HasBits, HasMark, RowMarks, bit_of, is_set}
 use Rattle.determinize_linear.specs.Private.Walks.{IsFollowed}
 use Rattle.determinize_linear.proofs.walks.Unset.{is_set-with}
 
@@ -55,73 +57,84 @@ module _ (d : Table) (text : Text) where
   following-dead at row all dead =
       none_along d (drop at (units text)) row at dead (All-drop IsUnit at (units text) all)
 
+  pub following-none : (at row next : ℕ) (u : Option ℕ) → slice_get (units text) at ≡ Some u → next ≡ row_over d row u
+      → patterns_at d next ≡ [] → following d text at row ≡ following d text (at + 1) next
+  following-none at row next u unit goes none =
+      let step : following d text at row
+      ≡ option_or (following d text (at + 1) next) (ended_at at (patterns_at d next))
+      = rw goes (following-more at row u unit) in
+      let same : option_or (following d text (at + 1) next) (ended_at at (patterns_at d next))
+      ≡ following d text (at + 1) next = rw none (option_or-None (following d text (at + 1) next)) in
+      step ∙ same
+
   pub followed_start : (m : RowMarks) (from row : ℕ) → NoneFollows d text from m
       → IsFollowed d text m from from row None (following d text from row)
   followed_start m from row none = record {
     so_far = rw (option_or-None) refl;
     low = omega arith;
     order = omega arith;
-    spent = λ p r l b e. inl (none p r l b e);
+    spent = λ p r l n b e. inl (none p r l n b e);
   }
-
-  module _ (m : RowMarks) (from at row next : ℕ) (u : Option ℕ) (found all : Option HalfMatch)
-      (is : IsFollowed d text m from at row found all) (unit : slice_get (units text) at ≡ Some u)
-      (goes : next ≡ row_over d row u) where
-    step : following d text at row ≡ option_or (following d text (at + 1) next) (ended_at at (patterns_at d next))
-    step = rw goes (following-more at row u unit)
-
-    -- a step to a row that lists a match
-    pub followed_some : (x : ℕ) → slice_get (patterns_at d next) 0 ≡ Some x
-        → IsFollowed d text m from (at + 1) next (Some record { pattern = x; offset = at }) all
-    followed_some x listed =
-        let here : ended_at at (patterns_at d next) ≡ Some record { pattern = x; offset = at } = rw listed refl in
-        record {
-          so_far = ap (λ o. option_or (following d text (at + 1) next) o) (sym (rw here refl))
-              ∙ sym (option_or-assoc (following d text (at + 1) next) (ended_at at (patterns_at d next)) found)
-              ∙ ap (λ o. option_or o found) (sym step) ∙ is.so_far;
-          low = omega arith;
-          order = omega (arith, is.low, is.order);
-          spent = λ p r l b e. before p l (is.spent p r (omega (arith, is.low, l)) b e);
-        }
-      where
-        before : {P Q R : Type 0} (p : ℕ) → at ≤ p → P ⊎ ((p < at) × Q) → P ⊎ R
-        before p l (inl a) = inl a
-        before p l (inr b) = absurd (let no : p < at = b.0 in omega arith)
-
-    -- a step to a row that lists none
-    pub followed_none : (new : RowMarks) → HasMark m at row new → row < m.rows
-        → slice_get (patterns_at d next) 0 ≡ None → IsFollowed d text new from (at + 1) next found all
-    followed_none new marked below listed =
-        let here : following d text at row ≡ following d text (at + 1) next
-        = step ∙ rw listed (rw (option_or-None) refl) in
-        record {
-          so_far = ap (λ o. option_or o found) (sym here) ∙ is.so_far;
-          low = omega (arith, is.low);
-          order = is.order;
-          spent = λ p r l b e.
-              let b : r < m.rows = rw (← marked.rows) b in
-              more p r here (λ f. is.spent p r l b f) (is_set-with m new at row p r marked below b e);
-        }
-      where
-        still : (p r : ℕ) → following d text at row ≡ following d text (at + 1) next
-            → (following d text p r ≡ None) ⊎ ((p < at) × (following d text p r ≡ following d text at row))
-            → (following d text p r ≡ None) ⊎ ((p < at + 1) × (following d text p r ≡ following d text (at + 1) next))
-        still p r here (inl a) = inl a
-        still p r here (inr b) = inr (omega (arith, b.0), b.1 ∙ here)
-
-        more : (p r : ℕ) → following d text at row ≡ following d text (at + 1) next
-            → (is_set m p r ≡ true
-            → (following d text p r ≡ None) ⊎ ((p < at) × (following d text p r ≡ following d text at row)))
-            → ((at ≡ p) × (row ≡ r)) ⊎ (is_set m p r ≡ true)
-            → (following d text p r ≡ None) ⊎ ((p < at + 1) × (following d text p r ≡ following d text (at + 1) next))
-        more p r here old (inl a) =
-            inr (omega (arith, a.0), ap (λ n. following d text n r) (sym a.0) ∙ ap (λ n. following d text at n) (sym a.1) ∙ here)
-        more p r here old (inr b) = still p r here (old b)
 
   module _ (m : RowMarks) (from at row : ℕ) (found all : Option HalfMatch) (is : IsFollowed d text m from at row found all)
     where
-      pub following-marked : row < m.rows → is_set m at row ≡ true → following d text at row ≡ None
-      following-marked below e = here (is.spent at row is.low below e)
+      -- a step
+      pub followed_step : (next : ℕ) (u : Option ℕ) (now : Option HalfMatch) → slice_get (units text) at ≡ Some u
+          → next ≡ row_over d row u → now ≡ option_or (ended_at at (patterns_at d next)) found
+          → IsFollowed d text m from (at + 1) next now all
+      followed_step next u now unit goes is_now = go (patterns_at d next) refl
+        where
+          rest : option_or (following d text (at + 1) next) now ≡ all
+          rest = ap (λ o. option_or (following d text (at + 1) next) o) is_now
+              ∙ sym (option_or-assoc (following d text (at + 1) next) (ended_at at (patterns_at d next)) found)
+              ∙ ap (λ o. option_or o found) (sym (rw goes (following-more at row u unit))) ∙ is.so_far
+
+          before : {P Q R : Type 0} (p : ℕ) → at ≤ p → P ⊎ ((p < at) × Q) → P ⊎ R
+          before p l (inl a) = inl a
+          before p l (inr b) = absurd (let no : p < at = b.0 in omega arith)
+
+          still : (p r : ℕ) → following d text at row ≡ following d text (at + 1) next
+              → (following d text p r ≡ None) ⊎ ((p < at) × (following d text p r ≡ following d text at row))
+              → (following d text p r ≡ None) ⊎ ((p < at + 1) × (following d text p r ≡ following d text (at + 1) next))
+          still p r here (inl a) = inl a
+          still p r here (inr b) = inr (omega (arith, b.0), b.1 ∙ here)
+
+          go : (ps : List ℕ) → patterns_at d next ≡ ps → IsFollowed d text m from (at + 1) next now all
+          go [] e =
+              let same : now ≡ found = is_now ∙ ap (λ ps. option_or (ended_at at ps) found) e in
+              rw same record {
+                so_far = rw same at rest;
+                low = omega (arith, is.low);
+                order = is.order;
+                spent = λ p r l n b k. still p r (following-none at row next u unit goes e) (is.spent p r l n b k);
+              }
+          go (x ∷ xs) e =
+              let same : now ≡ Some record { pattern = x; offset = at }
+              = is_now ∙ ap (λ ps. option_or (ended_at at ps) found) e in
+              rw same record {
+                so_far = rw same at rest;
+                low = omega arith;
+                order = omega (arith, is.low, is.order);
+                spent = λ p r l n b k. before p l (is.spent p r (omega (arith, is.low, l)) n b k);
+              }
+
+      -- a mark more
+      pub followed_mark : (new : RowMarks) (p r : ℕ) → HasBits d (length text.bytes + 1) m
+          → HasMark m (bit_of m p (r * (d.class_count + 1))) new → p < at → p ≤ length text.bytes
+          → following d text p r ≡ following d text at row → IsFollowed d text new from at row found all
+      followed_mark new p r has more l n here = record {
+        so_far = is.so_far;
+        low = is.low;
+        order = is.order;
+        spent = λ q s j k b e. by_test (nat_eq q p && nat_eq s r)
+            (λ z. inr (grind (arith, nat_tests, z, l, here)))
+            (λ z. is.spent q s j k b
+            (grind (arith, z, e, is_set-with d (length text.bytes + 1) m has new p r q s more (omega arith) (omega arith))));
+      }
+
+      pub following-marked : at ≤ length text.bytes → row < length d.patterns → is_set d m at row ≡ true
+          → following d text at row ≡ None
+      following-marked l below e = here (is.spent at row is.low l below e)
         where
           here : (following d text at row ≡ None) ⊎ ((at < at) × (following d text at row ≡ following d text at row))
               → following d text at row ≡ None
@@ -134,7 +147,7 @@ module _ (d : Table) (text : Text) where
         followed_all = ap (λ o. option_or o found) (sym none) ∙ is.so_far
 
         pub followed_end : NoneFollows d text (end_of from found) m
-        followed_end p r l b e = old (is.spent p r l b e)
+        followed_end p r l n b e = old (is.spent p r l n b e)
           where
             old : (following d text p r ≡ None) ⊎ ((p < at) × (following d text p r ≡ following d text at row))
                 → following d text p r ≡ None

@@ -1,6 +1,6 @@
 -- What the rows of a DFA list behind a position of a text, and marks of pairs behind which it is
 -- nothing.
-use Rattle.std.specs.Prelude.{◌≡◌, ◌*◌, ◌+◌, ◌-◌, ◌<◌, ◌≤◌, ◌^◌, ℕ, None, Option, drop, length, true}
+use Rattle.std.specs.Prelude.{◌≡◌, ◌+◌, ◌-◌, ◌<◌, ◌≤◌, ℕ, None, Option, drop, length, true}
 use Rattle.determinize_below.specs.Semantics.{Nfa, Text}
 use Rattle.determinize_below.specs.declared.search.HalfMatch.{HalfMatch}
 use Rattle.determinize_below.specs.declared.search.MatchKind.TheVariants.{LeftmostFirst}
@@ -9,7 +9,7 @@ use Rattle.determinize_core.specs.Walk.{last_listed}
 use Rattle.determinize_dense.specs.Least.{HasRows}
 use Rattle.determinize_dense.specs.Reading.{lists_along}
 use Rattle.determinize_dense.specs.Table.{DfaValue, Table}
-use Rattle.determinize_linear.specs.Private.RowMarks.{RowMarks, count_unset, is_set}
+use Rattle.determinize_linear.specs.Private.RowMarks.{HasBits, RowMarks, count_unset, is_set}
 
 -- the last match that is listed behind a position, where a walk is in a row
 abbrev pub following : Table → Text → ℕ → ℕ → Option HalfMatch
@@ -17,8 +17,8 @@ following d text at row = last_listed at (lists_along d row (drop at (units text
 
 -- from a position on, none is listed behind a marked pair
 abbrev pub NoneFollows : Table → Text → ℕ → RowMarks → Type 0
-NoneFollows d text k m = (at row : ℕ) → k ≤ at → row < m.rows → is_set m at row ≡ true
-    → following d text at row ≡ None
+NoneFollows d text k m = (at row : ℕ) → k ≤ at → at ≤ length text.bytes → row < length d.patterns
+    → is_set d m at row ≡ true → following d text at row ≡ None
 
 -- walks by this DFA, with these marks, may go on from a position of a text
 pub record IsWalkable (dfa : DfaValue) (m : RowMarks) (nfa : Nfa) (text : Text) (k : ℕ) : Type 0
@@ -26,12 +26,13 @@ pub record IsWalkable (dfa : DfaValue) (m : RowMarks) (nfa : Nfa) (text : Text) 
     pub same : dfa.nfa ≡ nfa
     pub kind : dfa.kind ≡ LeftmostFirst
     pub rows : HasRows dfa.nfa dfa.table
-    pub count : m.rows ≡ length dfa.table.patterns
-    pub places : (length text.bytes + 1) * m.rows ≤ 64 * length m.words
-    pub limit : (length text.bytes + 1) * m.rows < 2 ^ 64
+    pub bits : HasBits dfa.table (length text.bytes + 1) m
     pub none : NoneFollows dfa.table text k m
 
+-- the pairs of a position of a text and a row that are not marked
+abbrev pub unmarked : Table → Text → RowMarks → ℕ
+unmarked d text m = count_unset (is_set d m) (length text.bytes + 1) (length d.patterns)
+
 -- the steps that are left: one for each pair that is not marked, and for each position
-abbrev pub steps_left : RowMarks → Text → ℕ → ℕ
-steps_left m text k =
-    count_unset m.words ((length text.bytes + 1) * m.rows) + (length text.bytes + 1 - k)
+abbrev pub steps_left : Table → Text → RowMarks → ℕ → ℕ
+steps_left d text m k = unmarked d text m + (length text.bytes + 1 - k)

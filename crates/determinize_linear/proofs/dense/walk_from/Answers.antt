@@ -1,91 +1,75 @@
-use Rattle.std.proofs.Common.{rules, ◌≡◌, ℕ, Option, IsTrue, subst, sym, true}
+use Rattle.std.proofs.Common.{◌≡◌, ◌∙◌, IsTrue, None, Option, Some, ap, arith, length, sym}
 use Rattle.std.specs.Prelude.{option_map}
-use Rattle.determinize_below.specs.Semantics.{before_at}
-use Rattle.determinize_below.specs.Truth.{IsUnit}
 use Rattle.determinize_below.specs.declared.search.HalfMatch.{HalfMatch}
-use Rattle.determinize_below.specs.declared.search.MatchKind.{MatchKind}
-use Rattle.determinize_core.specs.Chain.{units}
-use Rattle.determinize_dense.specs.Dfa.{IsDfaOf}
-use Rattle.determinize_dense.specs.Table.{start_row}
+use Rattle.determinize_engine.proofs.Texts.{unit-last}
 use Rattle.determinize_find.specs.Private.BestAt.{IsBestAt, from_index}
+use Rattle.determinize_linear.specs.Private.Following.{IsWalkable, following}
+use Rattle.determinize_linear.specs.Private.Walks.{IsWalked, WalkValue}
 use Rattle.determinize_linear.proofs.walks.Preferred.{best_of_walk}
-use Rattle.determinize_linear.proofs.walks.Walked.{has_place, nothing_follows, unit_at, walked_all, walked_start}
-use Rattle.determinize_linear.proofs.walks.Walked.{walked_step}
+use Rattle.determinize_linear.proofs.walks.Walked.{has_walked, none_past, walked_all, walked_more}
+use Rattle.determinize_linear.proofs.dense.walk_from.Given.{Over}
+use Rattle.determinize_linear.proofs.dense.walk_from.Goals.{After-len, After-step}
 use Rattle.determinize_linear.proofs.dense.walk_from.Goals as goal
 
-pub loop-row-init : goal.loop-row-init
-loop-row-init g c =
-    let is : c.start_state-row.result
-    ≡ start_row c.args.dfa.now.nfa c.args.dfa.now.table true (before_at c.args.text.now c.args.from) = search rules in
-    let unit : IsUnit (before_at c.args.text.now c.args.from)
-    = subst (λ (u : Option ℕ). IsUnit u) c.byte_before.ensures.value c.byte_before.ensures.unit in
-    record {
-      walked = walked_start c.args.dfa.now c.args.marks.now c.args.text.now c.args.from c.requires.walkable
-          (IsTrue g.C.Counter.counts) (g.C.Counter.total c.args.counter.now) c.start_state-row.result _ is
-          (c.requires.walkable.rows.starts true (before_at c.args.text.now c.args.from) unit) c.requires.within;
-    }
+can : (g : Over) (c : After-len g) → IsWalkable c.new-walk.result.dfa c.args.marks.now c.new-walk.result.dfa.nfa
+    c.args.text.now c.new-walk.result.at
+can g c = rw c.new-walk.ensures.value c.requires.walkable
 
-pub may_follow-requires-clause-place : goal.may_follow-requires-clause-place
-may_follow-requires-clause-place g c = λ l.
-    let w = c.loop-row.invariant.walked in
-    (has_place c.args.dfa.now c.args.marks.now c.args.dfa.now.nfa c.args.text.now c.args.from c.loop-row.at
-    c.loop-row.row c.requires.walkable c.loop-row.marks w.rows w.words w.below l).0
+-- the last match that is listed behind the start of the walk is the best
+best : (g : Over) (c : After-len g) (found : Option HalfMatch)
+    → found ≡ following c.new-walk.result.dfa.table c.args.text.now c.new-walk.result.at c.new-walk.result.row
+    → IsBestAt c.args.dfa.now.nfa c.args.text.now c.args.from (option_map (from_index c.args.from) found)
+best g c found is =
+    let e = c.new-walk.ensures in
+    rw (is, e.value)
+    (best_of_walk c.args.dfa.now.nfa c.args.text.now c.args.from c.args.dfa.now.table e.accepted
+    (rw c.requires.walkable.kind at e.means) c.requires.within e.behind c.len.ensures.units)
 
-pub may_follow-requires-clause-limit : goal.may_follow-requires-clause-limit
-may_follow-requires-clause-limit g c = λ l.
-    let w = c.loop-row.invariant.walked in
-    (has_place c.args.dfa.now c.args.marks.now c.args.dfa.now.nfa c.args.text.now c.args.from c.loop-row.at
-    c.loop-row.row c.requires.walkable c.loop-row.marks w.rows w.words w.below l).1
+pub returns-then-walk-len-clause-best : goal.returns-then-walk-len-clause-best
+returns-then-walk-len-clause-best g c =
+    let l = (goal.at.returns-then-walk-len-clause-best g c).After-len in
+    let at : c.walk.inside.at ≡ c.walk_bytes.new.walk.at = ap (λ (w : WalkValue). w.at) c.walk.view_is in
+    let none = c.walk_bytes.ensures.ends (omega (arith, at, c.if-walk-len.true, c.len.ensures.value)) in
+    best g l c.found.result (c.found.ensures ∙ walked_all c.args.text.now c.new-walk.result c.args.marks.now (can g l)
+    (IsTrue g.C.Counter.counts) (g.C.Counter.total c.args.counter.now) c.walk_bytes.new.marks c.walk_bytes.new.walk 1 _
+    c.walk_bytes.ensures.walked none)
 
-pub after_step-found-requires-clause-place : goal.after_step-found-requires-clause-place
-after_step-found-requires-clause-place g c =
-    let w = c.loop-row.invariant.walked in
-    (has_place c.args.dfa.now c.args.marks.now c.args.dfa.now.nfa c.args.text.now c.args.from c.loop-row.at
-    c.loop-row.row c.requires.walkable c.loop-row.marks w.rows w.words w.below
-    (c.may_follow.ensures.more c.loop-row-test.true).0).0
+-- the walk with its last step
+last : (g : Over) (c : After-step g) → IsWalked c.args.text.now c.new-walk.result c.args.marks.now c.walk_bytes.new.marks
+    c.step.new.self 2 (IsTrue g.C.Counter.counts) (g.C.Counter.total c.args.counter.now)
+    (g.C.Counter.total c.count.new.self)
+last g c =
+    let at : c.walk.inside.at ≡ c.walk_bytes.new.walk.at = ap (λ (w : WalkValue). w.at) c.walk.view_is in
+    let end : c.walk_bytes.new.walk.at ≡ length c.args.text.now.bytes
+    = omega (arith, at, c.if-walk-len.false, c.len.ensures.value, c.walk_bytes.ensures.within) in
+    walked_more c.args.text.now c.new-walk.result c.args.marks.now (rw c.new-walk.ensures.value c.requires.walkable)
+    (IsTrue g.C.Counter.counts) (g.C.Counter.total c.args.counter.now) c.walk_bytes.new.marks c.walk_bytes.new.walk 1 _
+    c.walk_bytes.ensures.walked c.ahead.result c.step.new.self c.step.result c.step.ensures
+    (g.C.Counter.total c.count.new.self)
+    (unit-last c.args.text.now c.walk_bytes.new.walk.at end ∙ ap Some (sym c.ahead.ensures)) c.len.ensures.units
+    c.walk_bytes.ensures.within c.count.ensures
 
-pub after_step-found-requires-clause-limit : goal.after_step-found-requires-clause-limit
-after_step-found-requires-clause-limit g c =
-    let w = c.loop-row.invariant.walked in
-    (has_place c.args.dfa.now c.args.marks.now c.args.dfa.now.nfa c.args.text.now c.args.from c.loop-row.at
-    c.loop-row.row c.requires.walkable c.loop-row.marks w.rows w.words w.below
-    (c.may_follow.ensures.more c.loop-row-test.true).0).1
-
-pub loop-row-preserved : goal.loop-row-preserved
-loop-row-preserved g c =
-    let more = c.may_follow.ensures.more c.loop-row-test.true in
-    record {
-      walked = walked_step c.args.dfa.now c.args.marks.now c.args.text.now c.args.from c.requires.walkable
-          (IsTrue g.C.Counter.counts) (g.C.Counter.total c.args.counter.now) c.loop-row.marks c.loop-row.at
-          c.loop-row.row c.loop-row.found _ (g.C.Counter.total c.loop-row.counter) c.loop-row.invariant.walked
-          c.unit.result c.over-next.result c.match_pattern.result c.after_step-found.new.marks c.after_step-found.result
-          (g.C.Counter.total c.count.new.self) c.unit.ensures
-          (unit_at (units c.args.text.now) c.loop-row.at c.unit.result c.may_follow.ensures.units c.unit.ensures)
-          c.over-next.ensures c.match_pattern.ensures more.0 more.1 c.count.ensures c.after_step-found.ensures.some
-          c.after_step-found.ensures.none;
-    }
+none : (g : Over) (c : After-step g) → following c.new-walk.result.dfa.table c.args.text.now c.step.new.self.at
+    c.step.new.self.row ≡ None
+none g c =
+    let at : c.walk.inside.at ≡ c.walk_bytes.new.walk.at = ap (λ (w : WalkValue). w.at) c.walk.view_is in
+    none_past c.args.text.now c.new-walk.result c.args.marks.now (rw c.new-walk.ensures.value c.requires.walkable)
+    (IsTrue g.C.Counter.counts) (g.C.Counter.total c.args.counter.now) c.walk_bytes.new.marks c.step.new.self 2 _
+    (last g c) (omega (arith, at, c.if-walk-len.false, c.len.ensures.value, c.step.ensures.at))
 
 pub returns-clause-best : goal.returns-clause-best
 returns-clause-best g c =
-    let none = nothing_follows c.args.dfa.now c.args.marks.now c.args.text.now c.args.from c.requires.walkable
-    (IsTrue g.C.Counter.counts) (g.C.Counter.total c.args.counter.now) c.loop-row.marks c.loop-row.at c.loop-row.row
-    c.loop-row.found _ (g.C.Counter.total c.loop-row.counter) c.loop-row.invariant.walked c.may_follow.ensures.units
-    c.start_state-row.ensures.dead (c.may_follow.ensures.less c.loop-row-test.false) in
-    let unit : IsUnit (before_at c.args.text.now c.args.from)
-    = subst (λ (u : Option ℕ). IsUnit u) c.byte_before.ensures.value c.byte_before.ensures.unit in
-    subst (λ (o : Option HalfMatch). IsBestAt c.args.dfa.now.nfa c.args.text.now c.args.from
-    (option_map (from_index c.args.from) o))
-    (sym (walked_all c.args.dfa.now c.args.marks.now c.args.text.now c.args.from c.requires.walkable
-    (IsTrue g.C.Counter.counts) (g.C.Counter.total c.args.counter.now) c.loop-row.marks c.loop-row.at c.loop-row.row
-    c.loop-row.found _ (g.C.Counter.total c.loop-row.counter) c.loop-row.invariant.walked none))
-    (best_of_walk c.args.dfa.now.nfa c.args.text.now c.args.from c.args.dfa.now.table c.start_state-row.ensures.accepted
-    (subst (λ (k : MatchKind). IsDfaOf c.args.dfa.now.nfa k c.args.dfa.now.table) c.requires.walkable.kind
-    c.start_state-row.ensures.means) c.requires.within unit c.may_follow.ensures.units)
+    let s = (goal.at.returns-clause-best g c).After-step in
+    let l = (goal.at.returns-clause-best g c).After-len in
+    best g l c.found-2.result (c.found-2.ensures ∙ walked_all c.args.text.now c.new-walk.result c.args.marks.now (can g l)
+    (IsTrue g.C.Counter.counts) (g.C.Counter.total c.args.counter.now) c.walk_bytes.new.marks c.step.new.self 2 _
+    (last g s) (none g s))
 
 pub returns-clause-walked : goal.returns-clause-walked
 returns-clause-walked g c =
-    let none = nothing_follows c.args.dfa.now c.args.marks.now c.args.text.now c.args.from c.requires.walkable
-    (IsTrue g.C.Counter.counts) (g.C.Counter.total c.args.counter.now) c.loop-row.marks c.loop-row.at c.loop-row.row
-    c.loop-row.found _ (g.C.Counter.total c.loop-row.counter) c.loop-row.invariant.walked c.may_follow.ensures.units
-    c.start_state-row.ensures.dead (c.may_follow.ensures.less c.loop-row-test.false) in
-    (_, c.loop-row.at, c.loop-row.row, c.loop-row.invariant.walked, none)
+    let s = (goal.at.returns-clause-walked g c).After-step in
+    let l = (goal.at.returns-clause-walked g c).After-len in
+    rw c.found-2.ensures (rw c.new-walk.ensures.value at
+    (has_walked c.args.text.now c.new-walk.result c.args.marks.now (can g l)
+    (IsTrue g.C.Counter.counts) (g.C.Counter.total c.args.counter.now) c.walk_bytes.new.marks c.step.new.self 2 _
+    (last g s) (none g s) (omega arith)))

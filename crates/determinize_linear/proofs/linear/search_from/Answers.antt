@@ -30,7 +30,7 @@ loop-at-init g c =
     record {
       way = subst
           (λ (l : List (ℕ × ℕ)). IsUnderWay c.args.nfa.now c.args.text.now c.args.from c.args.visited.now (reverse l))
-          (sym items) (begun c.args.nfa.now c.requires.nfa.accepted c.args.text.now c.args.from c.args.visited.now
+          (sym items) (begun c.args.nfa.now c.requires.accepted c.args.text.now c.args.from c.args.visited.now
           c.requires.within start c.requires.spent);
       places = c.requires.places;
       paid = λ k. omega (arith, ap (λ (l : List (ℕ × ℕ)). length l) items);
@@ -48,8 +48,8 @@ returns-in-Match-clause-best g c =
     (rw c.in-Match.is at here) in
     subst (λ (h : HalfMatch). IsBestAt c.args.nfa.now c.args.text.now c.args.from (Some (from_index c.args.from h)))
     (sym c.new.ensures)
-    (best_match c.args.nfa.now c.requires.nfa.accepted c.args.text.now c.args.from (c.in-Some.at, c.in-Some.id)
-    c.in-Match.pattern_id (stopped c.args.nfa.now c.requires.nfa.accepted c.args.text.now c.args.from c.loop-at.visited
+    (best_match c.args.nfa.now c.requires.accepted c.args.text.now c.args.from (c.in-Some.at, c.in-Some.id)
+    c.in-Match.pattern_id (stopped c.args.nfa.now c.requires.accepted c.args.text.now c.args.from c.loop-at.visited
     (c.in-Some.at, c.in-Some.id) (reverse c.pop.new.self.items) t.way
     (ap (λ n. is_some (pattern_in n)) node)) node)
 
@@ -72,7 +72,7 @@ returns-in-Match-clause-spent g c =
     (sym c.clear-in-Match.ensures)
     (subst (λ (k : ℕ). IsSpent c.args.nfa.now c.args.text.now k (without_marks c.loop-at.visited c.in-Some.at))
     (sym (ap (λ (h : HalfMatch). h.offset) c.new.ensures))
-    (spent_after c.args.nfa.now c.requires.nfa.accepted c.args.text.now c.args.from c.loop-at.visited
+    (spent_after c.args.nfa.now c.requires.accepted c.args.text.now c.args.from c.loop-at.visited
     (c.in-Some.at, c.in-Some.id) (reverse c.pop.new.self.items) t.way t.row))
 
 pub returns-in-Match-clause-paid : goal.returns-in-Match-clause-paid
@@ -108,7 +108,7 @@ loop-at-smaller-in-Continue-branch-2 g c =
     ≡ run_steps c.args.nfa.now c.args.text.now (c.in-Some.at, c.in-Some.id) ++ reverse c.pop.new.self.items
     = pushed c.pop.new.self.items c.push_choices.new.stack.items
     (choices c.args.nfa.now c.args.text.now (c.in-Some.at, c.in-Some.id)) items in
-    fewer_new c.args.nfa.now c.requires.nfa.accepted c.args.text.now c.loop-at.visited c.insert.new.self
+    fewer_new c.args.nfa.now c.requires.accepted c.args.text.now c.loop-at.visited c.insert.new.self
     (c.in-Some.at, c.in-Some.id) (reverse c.loop-at.stack.items) (reverse c.pop.new.self.items)
     (reverse c.push_choices.new.stack.items) t.top t.row t.mark more after new
 
@@ -137,7 +137,7 @@ loop-at-preserved-in-Continue-branch-2 g c =
           (subst (λ (rows : List (List Bool)). IsUnderWay c.args.nfa.now c.args.text.now c.args.from rows
           (run_steps c.args.nfa.now c.args.text.now (c.in-Some.at, c.in-Some.id) ++ reverse c.pop.new.self.items))
           (sym more)
-          (entered c.args.nfa.now c.requires.nfa.accepted c.args.text.now c.args.from c.loop-at.visited
+          (entered c.args.nfa.now c.requires.accepted c.args.text.now c.args.from c.loop-at.visited
           (c.in-Some.at, c.in-Some.id) (reverse c.pop.new.self.items) t.way t.row t.mark new plain));
       places = subst (λ (rows : List (List Bool)). HasPlaces c.args.nfa.now c.args.text.now rows) (sym more)
           (places_with c.args.nfa.now c.args.text.now c.loop-at.visited c.in-Some.at c.in-Some.id t.row
@@ -173,7 +173,7 @@ loop-at-smaller g c =
     let same : c.insert.new.self ≡ with_mark c.loop-at.visited c.in-Some.at c.in-Some.id = search rules in
     let more : c.insert.new.self ≡ c.loop-at.visited
     = same ∙ with_mark-marked c.loop-at.visited c.in-Some.at c.in-Some.id old in
-    fewer_held c.args.nfa.now c.requires.nfa.accepted c.args.text.now c.loop-at.visited c.insert.new.self
+    fewer_held c.args.nfa.now c.requires.accepted c.args.text.now c.loop-at.visited c.insert.new.self
     (c.in-Some.at, c.in-Some.id) (reverse c.loop-at.stack.items) (reverse c.pop.new.self.items)
     (reverse c.pop.new.self.items) t.top more refl old
 
@@ -190,7 +190,7 @@ loop-at-preserved g c =
     record {
       way = subst (λ (rows : List (List Bool)). IsUnderWay c.args.nfa.now c.args.text.now c.args.from rows
           (reverse c.pop.new.self.items)) (sym more)
-          (skipped c.args.nfa.now c.requires.nfa.accepted c.args.text.now c.args.from c.loop-at.visited
+          (skipped c.args.nfa.now c.requires.accepted c.args.text.now c.args.from c.loop-at.visited
           (c.in-Some.at, c.in-Some.id) (reverse c.pop.new.self.items) t.way old);
       places = subst (λ (rows : List (List Bool)). HasPlaces c.args.nfa.now c.args.text.now rows) (sym more)
           c.loop-at.invariant.places;
@@ -213,8 +213,8 @@ returns-clause-best g c =
     let way : IsUnderWay c.args.nfa.now c.args.text.now c.args.from c.loop-at.visited []
     = subst (λ (l : List (ℕ × ℕ)). IsUnderWay c.args.nfa.now c.args.text.now c.args.from c.loop-at.visited l) none
     c.loop-at.invariant.way in
-    best_nothing c.args.nfa.now c.requires.nfa.accepted c.args.text.now c.args.from
-    (ended c.args.nfa.now c.requires.nfa.accepted c.args.text.now c.args.from c.loop-at.visited way).0
+    best_nothing c.args.nfa.now c.requires.accepted c.args.text.now c.args.from
+    (ended c.args.nfa.now c.requires.accepted c.args.text.now c.args.from c.loop-at.visited way).0
 
 pub returns-clause-spent : goal.returns-clause-spent
 returns-clause-spent g c =
@@ -222,4 +222,4 @@ returns-clause-spent g c =
     let way : IsUnderWay c.args.nfa.now c.args.text.now c.args.from c.loop-at.visited []
     = subst (λ (l : List (ℕ × ℕ)). IsUnderWay c.args.nfa.now c.args.text.now c.args.from c.loop-at.visited l) none
     c.loop-at.invariant.way in
-    (ended c.args.nfa.now c.requires.nfa.accepted c.args.text.now c.args.from c.loop-at.visited way).1
+    (ended c.args.nfa.now c.requires.accepted c.args.text.now c.args.from c.loop-at.visited way).1

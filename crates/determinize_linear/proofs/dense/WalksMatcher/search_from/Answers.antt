@@ -3,7 +3,7 @@ use Rattle.std.specs.Prelude.{option_map}
 use Rattle.determinize_below.specs.Semantics.{Nfa}
 use Rattle.determinize_find.specs.Private.BestAt.{IsBestAt, from_index}
 use Rattle.determinize_linear.specs.Private.Following.{IsWalkable}
-use Rattle.determinize_linear.proofs.walks.Walked.{cost_most, cost_none, cost_some, walked_end}
+use Rattle.determinize_linear.proofs.walks.Walked.{cost_most, cost_none, cost_some}
 use Rattle.determinize_linear.proofs.dense.WalksMatcher.search_from.Goals as goal
 
 pub walk_from-requires-clause-walkable : goal.walk_from-requires-clause-walkable
@@ -17,38 +17,24 @@ returns-clause-best g c =
     (option_map (from_index c.args.from) c.walk_from.result)) c.requires.ready.same c.walk_from.ensures.best
 
 pub returns-clause-within : goal.returns-clause-within
-returns-clause-within g c = c.walk_from.ensures.walked.3.within
+returns-clause-within g c = c.walk_from.ensures.walked.within
 
 pub returns-clause-ready : goal.returns-clause-ready
 returns-clause-ready g c = λ k l.
-    let w = c.walk_from.ensures.walked in
-    let can : IsWalkable c.args.self.now.dfa.now c.args.self.now.marks c.args.self.now.dfa.now.nfa c.args.text.now
-    c.args.from
-    = subst (λ (n : Nfa). IsWalkable c.args.self.now.dfa.now c.args.self.now.marks n c.args.text.now c.args.from)
-    (sym c.requires.ready.same) c.requires.ready in
     subst (λ (n : Nfa). IsWalkable c.args.self.now.dfa.now c.walk_from.new.marks n c.args.text.now k)
-    c.requires.ready.same
-    (walked_end c.args.self.now.dfa.now c.args.self.now.marks c.args.text.now c.args.from can
-    (IsTrue g.C.Counter.counts) (g.C.Counter.total c.args.counter.now) c.walk_from.new.marks w.1 w.2 c.walk_from.result
-    _ (g.C.Counter.total c.walk_from.new.counter) w.3 w.4 k l)
+    c.requires.ready.same (c.walk_from.ensures.walked.walkable k l)
 
 pub returns-clause-paid : goal.returns-clause-paid
-returns-clause-paid g c = λ t.
-    let w = c.walk_from.ensures.walked in
-    cost_some c.args.self.now.dfa.now.table c.args.self.now.marks c.walk_from.new.marks c.args.text.now c.args.from w.1
-    w.2 c.walk_from.result _ (IsTrue g.C.Counter.counts) (g.C.Counter.total c.args.counter.now)
-    (g.C.Counter.total c.walk_from.new.counter) w.3 t
+returns-clause-paid g c = λ t. cost_some c.args.self.now.dfa.now c.args.text.now c.args.from c.args.self.now.marks
+    c.walk_from.new.marks c.walk_from.result (IsTrue g.C.Counter.counts) (g.C.Counter.total c.args.counter.now)
+    (g.C.Counter.total c.walk_from.new.counter) c.walk_from.ensures.walked t
 
 pub returns-clause-unpaid : goal.returns-clause-unpaid
-returns-clause-unpaid g c = λ t.
-    let w = c.walk_from.ensures.walked in
-    cost_none c.args.self.now.dfa.now.table c.args.self.now.marks c.walk_from.new.marks c.args.text.now c.args.from w.1
-    w.2 c.walk_from.result _ (IsTrue g.C.Counter.counts) (g.C.Counter.total c.args.counter.now)
-    (g.C.Counter.total c.walk_from.new.counter) w.3 t
+returns-clause-unpaid g c = λ t. cost_none c.args.self.now.dfa.now c.args.text.now c.args.from c.args.self.now.marks
+    c.walk_from.new.marks c.walk_from.result (IsTrue g.C.Counter.counts) (g.C.Counter.total c.args.counter.now)
+    (g.C.Counter.total c.walk_from.new.counter) c.walk_from.ensures.walked t
 
 pub returns-clause-bounded : goal.returns-clause-bounded
-returns-clause-bounded g c = λ t.
-    let w = c.walk_from.ensures.walked in
-    cost_most c.args.self.now.dfa.now.table c.args.self.now.marks c.walk_from.new.marks c.args.text.now c.args.from w.1
-    w.2 c.walk_from.result _ (IsTrue g.C.Counter.counts) (g.C.Counter.total c.args.counter.now)
-    (g.C.Counter.total c.walk_from.new.counter) w.3 t
+returns-clause-bounded g c = λ t. cost_most c.args.self.now.dfa.now c.args.text.now c.args.from c.args.self.now.marks
+    c.walk_from.new.marks c.walk_from.result (IsTrue g.C.Counter.counts) (g.C.Counter.total c.args.counter.now)
+    (g.C.Counter.total c.walk_from.new.counter) c.walk_from.ensures.walked t

@@ -1,9 +1,10 @@
-use Rattle.std.proofs.Common.{◌*◌, ap, arith}
-use Rattle.determinize_linear.specs.Private.RowMarks.{RowMarks}
+use Rattle.std.proofs.Common.{arith}
 use Rattle.determinize_linear.proofs.row_marks.RowMarks.set.Goals as goal
 
-pub overflow_mul-at : goal.overflow_mul-at
-overflow_mul-at g c = omega (arith, c.requires.limit, ap (λ (m : RowMarks). c.args.at * m.rows) c.self.view_is)
+pub overflow_mul-offset : goal.overflow_mul-offset
+overflow_mul-offset g c =
+    let inside = rw (← c.self.view_is) at c.requires in omega (arith, inside, c.deref_mut.ensures.len)
 
-pub overflow_add-at : goal.overflow_add-at
-overflow_add-at g c = omega (arith, c.requires.limit, ap (λ (m : RowMarks). c.args.at * m.rows) c.self.view_is)
+pub set_bit-requires : goal.set_bit-requires
+set_bit-requires g c =
+    let inside = rw (← c.self.view_is) at c.requires in omega (arith, inside, c.deref_mut.ensures.len)
