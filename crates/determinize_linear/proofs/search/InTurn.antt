@@ -6,7 +6,7 @@
 -- further on.
 use Rattle.std.specs.Prelude.{option_map}
 use Rattle.std.proofs.Common.{◌≡◌, ◌<◌, ◌≤◌, ◌*◌, ◌+◌, ◌-◌, ◌++◌, ◌∷◌, ◌∙◌, ℕ, Bool, List, None, Option, Some, []}
-use Rattle.std.proofs.Common.{arith, false, refl, subst, suc, sym, true}
+use Rattle.std.proofs.Common.{arith, cond, false, refl, subst, suc, sym, true}
 use Rattle.std.proofs.lemmas.Bool.{cases_lt, true≢false}
 use Rattle.std.proofs.lemmas.Bool.Decides.{nat_tests}
 use Rattle.std.proofs.Math.Nat.{mul-le-mul_left}
@@ -18,7 +18,8 @@ use Rattle.determinize_engine.specs.Searches.{text_of}
 use Rattle.determinize_find.specs.LeftmostIn.{IsLeftmostIn, is_anchored, moved}
 use Rattle.determinize_find.specs.Matches.{AreMatches, IsNext, IsTaken, from, touches}
 use Rattle.determinize_find.specs.Private.BestAt.{IsBestAt, IsBestIn, from_index}
-use Rattle.determinize_find.proofs.leftmost.SearchInTurn.{NothingBefore, found_in_turn, found_past, more_nothing}
+use Rattle.determinize_find.proofs.leftmost.SearchInTurn.{NothingBefore, found_here, found_last, found_past}
+use Rattle.determinize_find.proofs.leftmost.SearchInTurn.{latest_is, more_nothing}
 use Rattle.determinize_find.proofs.matches.NextMatch.{AreFirst, all_found, next_plain, one_more}
 use Rattle.determinize_nfa.proofs.runs.Shifts.{each_run_reads_forward}
 use Rattle.ordered_reach.proofs.Cases.{by_cases, by_test, some_injective}
@@ -79,11 +80,14 @@ module _ (nfa : Nfa) (asked : Asked) where
       → NothingBefore nfa (from asked start) at → (is_anchored nfa asked.anchored ≡ true → at ≡ start)
       → IsBestIn nfa asked at (Some m) → IsLeftmostIn nfa (from asked start) (Some m)
   leftmost start at m inside low high nothing anchored best =
-      found_in_turn nfa (from asked start) at (Some m) low high
-      (by_test (is_anchored nfa asked.anchored)
-      (λ e. rw e (let z : at ≡ start = anchored e in omega arith))
-      (λ e. rw e (omega arith)))
-      nothing (best_rest nfa asked start at (Some m) inside low high best) (λ z. absurd (cc))
+      let last = latest_is nfa (from asked start) _ nfa (omega arith) refl refl in
+      let upto : at ≤ cond (is_anchored nfa asked.anchored) start asked.end = by_test (is_anchored nfa asked.anchored)
+      (λ e. rw e (omega (arith, anchored e))) (λ e. rw e high) in
+      let rest = best_rest nfa asked start at (Some m) inside low high best in
+      by_cases (cases_lt at (cond (is_anchored nfa asked.anchored) start asked.end))
+      (λ l. found_here nfa nfa (from asked start) at _ m refl last low l nothing rest)
+      (λ l. found_last nfa nfa (from asked start) at _ (Some m) refl last (omega arith) nothing
+      (let z : at ≡ cond (is_anchored nfa asked.anchored) start asked.end = omega arith in rw z at rest))
 
   -- the next match from where an empty one ended
   module _ (at : ℕ) (m : Match) (is : IsLeftmostIn nfa (from asked at) (Some m)) (empty : touches (Some at) m ≡ true) where
@@ -187,8 +191,10 @@ module _ (nfa : Nfa) (asked : Asked) where
           let z : at ≡ turned.start = turned.anchored e in
           all_found None nfa nfa asked (from asked turned.start) turned.start turned.before ms refl refl turned.first (
             None,
-            found_in_turn nfa (from asked turned.start) at None turned.low high (rw e (omega (arith, z))) turned.nothing
-                (best_rest nfa asked turned.start at None turned.inside turned.low high none) (λ _. rw e (omega (arith, z))),
+            found_last nfa nfa (from asked turned.start) at turned.start None refl
+                (latest_is nfa (from asked turned.start) turned.start nfa (omega (arith, turned.low)) refl (rw e refl))
+                turned.low turned.nothing
+                (rw z at (best_rest nfa asked turned.start at None turned.inside turned.low high none)),
             refl,
           )
 

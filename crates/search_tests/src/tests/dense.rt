@@ -111,7 +111,10 @@ pub fn dfa<'n, R: Abort + AllocGlobal>(
 }
 
 /// Returns the smallest DFA that lists the same as another one.
-pub fn least<'n, R: Abort + AllocGlobal>(rt: &R, dfa: &Dfa<'n>) -> Dfa<'n> {
+pub fn least<'n, R: Abort + AllocGlobal>(rt: &R, dfa: &Dfa<'n>) -> Dfa<'n>
+    ensures nfa { result.nfa ≡ dfa.now.nfa }
+    ensures kind { result.kind ≡ dfa.now.kind }
+{
     dfa.minimize(rt.alloc()).expect(rt, "memory")
 }
 

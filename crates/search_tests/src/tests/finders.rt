@@ -8,6 +8,7 @@ ghost use Rattle.determinize_find.specs.Prefix.{HasPrefix};
 ghost use Rattle.determinize_find.specs.Reversal.{IsReverseOf};
 
 use crate::tests::find::{Ends, WORDS, backward_of, expect_matches, expect_same, nfa};
+use crate::tests::linear::expect_linear;
 use crate::tests::stored_walks::{Place, STORED, prefixed};
 use crate::tests::{dense, holds, same};
 use determinize_below::{Anchored, Input, MatchKind, NFA, StateID};
@@ -47,7 +48,8 @@ fn expect_all<R: Abort + AllocGlobal, F: Finder>(
     expect_same(rt, found.as_slice(), wanted);
 }
 
-/// Asserts it of both engines in turn: of a lazy DFA, which is borrowed, and of a whole one.
+/// Asserts it of both engines in turn: of a lazy DFA, which is borrowed, and of a whole one; and of
+/// the searches in a linear number of steps.
 fn expect_in_turn<R: Abort + AllocGlobal>(
     rt: &R,
     nfa: &NFA,
@@ -58,10 +60,12 @@ fn expect_in_turn<R: Abort + AllocGlobal>(
     requires forward { nfa.now.reverse ≡ false }
     requires nfa { whole.now.nfa ≡ nfa.now }
     requires kind { whole.now.kind ≡ kinds.LeftmostFirst }
+    requires start { has_start input.now.anchored ≡ true }
 {
     let mut lazy = Lazy::new(rt.alloc(), nfa, MatchKind::LeftmostFirst, 50);
     expect_all(rt, &mut Plain::new(nfa, &mut lazy), input, wanted);
     expect_all(rt, &mut Plain::new(nfa, whole), input, wanted);
+    expect_linear(rt, whole, input, wanted);
 }
 
 /// Asserts it of a whole DFA that finds the ends and a lazy one that finds the starts.
@@ -111,6 +115,7 @@ fn expect_by_each<R: Abort + AllocGlobal>(
     requires forward { nfa.now.reverse ≡ false }
     requires prefix { HasPrefix nfa.now }
     requires reverse { IsReverseOf backward.now nfa.now }
+    requires start { has_start input.now.anchored ≡ true }
 {
     let ends = dense::dfa(rt, nfa, MatchKind::LeftmostFirst, 1000);
     let starts = dense::dfa(rt, backward, MatchKind::All, 1000);
