@@ -83,8 +83,8 @@ static ANCHORED: [Case; 4] = [
     (&[r"\B[ab]", r"\b"], b"-ab-", 2, 4, &[(0, 2, 3)]),
 ];
 
-/// Asserts that a whole DFA finds these matches of an input in a linear number of steps, and so does
-/// its NFA.
+/// Asserts that a whole DFA finds these matches of an input in a linear number of steps, and so
+/// does its NFA.
 pub fn expect_linear<R: Abort + AllocGlobal>(
     rt: &R,
     dfa: &Dfa<'_>,
