@@ -49,7 +49,7 @@ fn push_moved<A: Allocator>(
 
 /// Returns all matches of an input, by searches of the text of its range.
 ///
-/// An empty match is found again where it ends, and then skipped. So the search goes on one byte
+/// An empty match is found again where it ends, and then skipped. So the search continues one byte
 /// further. An empty match where the one before ended is skipped, too, if that one was not empty.
 #[inline(always)]
 pub(crate) fn find_all_by<S: Matcher, N: Allocator, A: Allocator, C: Counter>(

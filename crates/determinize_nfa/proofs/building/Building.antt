@@ -98,7 +98,7 @@ module _ (b : BuilderValue) (start : ℕ) where
         (λ e k. absurd (grind (arith, nat_tests, k)));
   }
 
--- some state has a transition to the prefix, or none
+-- whether some state has a transition to the prefix
 module _ (b : BuilderValue) (start union skip : ℕ) (e : union ≡ length b.states)
     (k : skip ≡ suc (length b.states)) where
   pub is_ahead : (i : ℕ) → has_transition_to union skip (get_or b.states i Fail) ≡ true

@@ -68,7 +68,7 @@ module _ (nfa : Nfa) (text : Text) (h : ℕ → Assertion → Bool) (has : HasPr
       closed p q c i e =
           grind (arith, nat_tests, under_leads nfa text h p q c e, has.first, has.any, same, i)
 
-  -- from the state that passes over a byte a choice leads to the unanchored start, over a byte
+  -- from the state that passes over a byte a choice is the unanchored start, over a byte
   from_x : (k c : ℕ) (t : ℕ × ℕ) → slice_get (graph (k, x)) c ≡ Some t
       → (k < length text.bytes) × (t ≡ (suc k, u))
   from_x k c t e =

@@ -51,7 +51,7 @@ module _ (nfa backward : Nfa) (met : List ℕ) (h : Turned) (made : IsMadeOf nfa
   mirrored : IsMirrored text back j
   mirrored = each_reading_is_mirrored text j within
 
-  -- a transition that leads on in the text, and in the text in the other direction
+  -- a transition that a run takes over the text, and over the text in the other direction
   abbrev TakesOn : ℕ → ℕ → Arc → Type 0
   TakesOn i k a = Takes (slice_get text.bytes i) (true_at nfa text i) i k a
 
@@ -171,7 +171,7 @@ module _ (nfa backward : Nfa) (met : List ℕ) (h : Turned) (made : IsMadeOf nfa
     ),
   )
 
-  -- from a state that has transitions without input alone
+  -- from a state that has only transitions without input
   free_step : (r x c : ℕ) (q : ℕ × ℕ) (ids : List ℕ) (node : Node) → state_at backward x ≡ node
       → arcs_of node ≡ map Free ids → slice_get (steps (r, x)) c ≡ Some q → (q.0 ≡ r) × In q.1 ids
   free_step r x c q ids node z e k =

@@ -21,7 +21,7 @@ use Rattle.determinize_nfa.specs.Private.Turning.{IsTurnedOver}
 use Rattle.std.proofs.lemmas.Bool.{cases_eq}
 use Rattle.std.proofs.lemmas.List.{get_or-replicate, get_or-set_same}
 
--- the state with this transition alone
+-- the state with only this transition
 abbrev pub alone : Arc → Node
 alone (Range r) = ByteRange r
 alone (Test look next) = Look look next
@@ -33,7 +33,7 @@ turned_to s (Range r) = Range record { start = r.start; end = r.end; next = s }
 turned_to s (Test look next) = Test (reversed look) s
 turned_to s (Free next) = Free s
 
--- the id of the recorded transition of s: s itself, or that of a state with the turned transition alone
+-- the id of the recorded transition of s: s itself, or that of a state with only the turned transition
 abbrev pub IsAt : ℕ → List Node → ℕ → ℕ → Arc → Type 0
 IsAt n rest y s a = ((a ≡ Free (next_of a)) × (y ≡ s))
     ⊎ ((i : ℕ) × (y ≡ n + 2 + i) × (slice_get rest i ≡ Some (alone (turned_to s a))))

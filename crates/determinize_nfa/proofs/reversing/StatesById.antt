@@ -22,7 +22,7 @@ edges-gathered holds xs = grind arith
 pub pattern-gathered : (xs : List ℕ) → pattern_in (gathered xs) ≡ None
 pattern-gathered xs = grind arith
 
--- a state with one transition has no pattern, and the turned transition leads to s
+-- a state with one transition has no pattern, and the target of the turned transition is s
 pub arcs-alone : (a : Arc) → arcs_of (alone a) ≡ a ∷ []
 arcs-alone a = grind arith
 

@@ -79,7 +79,7 @@ choice_arc nfa text h p q c e = under_cases nfa text h p q c e
     (λ z m. rw z (byte_taken (slice_get text.bytes p.0) (h p.0) (state_at nfa p.1) p.0 q.1 m))
     (λ z m. rw z (edge_taken (slice_get text.bytes p.0) (h p.0) (state_at nfa p.1) p.0 q.1 m))
 
--- and each transition is a choice, where it leads on
+-- and each transition that can be taken is a choice
 pub arc_choice : (nfa : Nfa) (text : Text) (i k s : ℕ) (a : Arc) → is_sparse_sound (state_at nfa s) ≡ true
     → In a (arcs_of (state_at nfa s)) → Takes (slice_get text.bytes i) (true_at nfa text i) i k a
     → In (k, next_of a) (choices nfa text (i, s))
