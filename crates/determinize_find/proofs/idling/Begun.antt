@@ -13,7 +13,7 @@ use Rattle.determinize_find.proofs.Common.{length-drop, List, Match, Nfa, None, 
 use Rattle.determinize_find.proofs.Common.{parted, pass, pass_all, pass_first, pattern_in, preferred, refl}
 use Rattle.determinize_find.proofs.Common.{same_decides, Scanned, skip, skip_before, slice_get, Some, some_injective}
 use Rattle.determinize_find.proofs.Common.{state_at, stays_out, sym, tests_capture, true, u_not_a, u_not_x, unshape}
-use Rattle.determinize_find.proofs.Common.{zero, [], ℕ, ◌++◌, ◌+◌, ◌<◌, ◌∙◌, ◌∷◌, ◌≡◌, ◌≤◌}
+use Rattle.determinize_find.proofs.Common.{[], ℕ, ◌++◌, ◌+◌, ◌<◌, ◌∙◌, ◌∷◌, ◌≡◌, ◌≤◌}
 use Rattle.std.proofs.Math.Nat.{zero-add}
 use Rattle.determinize_find.proofs.runs.Cuts.{begun, graph, there, true_path, passes, same_path}
 use Rattle.determinize_find.proofs.idling.Recorded.{none_before, recorded, ends_later}

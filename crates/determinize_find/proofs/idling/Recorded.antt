@@ -9,7 +9,7 @@ use Rattle.determinize_find.proofs.Common.{IsPath, IsScan, last_match, LeftmostF
 use Rattle.determinize_find.proofs.Common.{map-append, MatchKind, Nfa, None, Option, option_map, option_or, refl}
 use Rattle.determinize_find.proofs.Common.{same_decides, same_least, Scanned, slice_get, Some, some_injective}
 use Rattle.determinize_find.proofs.Common.{start_value, step, suc, sym, units_read, Value, value_after, zero, [], ℕ}
-use Rattle.determinize_find.proofs.Common.{◌++◌, ◌+◌, ◌∙◌, ◌∷◌, ◌≡◌, ◌≤◌, ◌⊎◌}
+use Rattle.determinize_find.proofs.Common.{◌++◌, ◌∙◌, ◌∷◌, ◌≡◌, ◌≤◌, ◌⊎◌}
 use Rattle.ordered_reach.specs.Runs.{IsLeastRun, ListsReached}
 use Rattle.determinize_core.proofs.walk.UnitLists.{chain_is_future}
 use Rattle.determinize_core.proofs.walk.WalkOfRuns.{each_chain_reaches}

@@ -1,11 +1,11 @@
 -- The leftmost match of an input, as one of the text of its range.
 -- Main statements: in_text, none_in_text, leftmost_in, found_past.
 -- Used by: all that follows of the leftmost match of an input, or shows what it is.
--- Idea: where the range does not start past its end, the match of the text and the same match in the haystack are in one
--- record.
-use Rattle.determinize_find.proofs.Common.{ap, Asked, by_cases, cases_lt, false, IsLeftmost, IsLeftmostIn}
-use Rattle.determinize_find.proofs.Common.{IsLeftmostMatch, latest, le-ltb, lt-ltb, Match, moved, Nfa, None, Option}
-use Rattle.determinize_find.proofs.Common.{option_map, refl, Some, sym, text_of, true≢false, ◌+◌, ◌<◌, ◌∙◌, ◌≡◌, ◌≤◌}
+-- Idea: where the range does not start past its end, the match of the text and the same match in the haystack are in
+-- one record.
+use Rattle.determinize_find.proofs.Common.{ap, arith, Asked, by_cases, cases_lt, false, IsLeftmost, IsLeftmostIn}
+use Rattle.determinize_find.proofs.Common.{IsLeftmostMatch, latest, le-ltb, lt-ltb, ltb-false, ltb-true, Match, moved}
+use Rattle.determinize_find.proofs.Common.{Nfa, None, Option, option_map, refl, Some, text_of, ◌+◌, ◌<◌, ◌≡◌, ◌≤◌}
 
 -- the match of the text that is this match of the haystack
 pub record IsInText (nfa : Nfa) (asked : Asked) (m : Match) : Type 0 where
@@ -46,15 +46,10 @@ none_in_text {nfa} {asked} h l = go (h.found (le-ltb _ _ l))
 
 -- the leftmost match of the text is that of the input
 pub leftmost_in : (nfa : Nfa) (asked : Asked) (o : Option Match) → asked.start ≤ asked.end
-    → IsLeftmost nfa (text_of false asked) (latest nfa asked) o → IsLeftmostIn nfa asked (option_map (moved asked.start) o)
-leftmost_in nfa asked o l is = record {
-  done = λ d. absurd (true≢false (sym d ∙ le-ltb _ _ l));
-  found = λ d. (o, is, refl);
-}
+    → IsLeftmost nfa (text_of false asked) (latest nfa asked) o
+    → IsLeftmostIn nfa asked (option_map (moved asked.start) o)
+leftmost_in nfa asked o l is = record { done = λ d. absurd (omega (arith, ltb-true _ _ d)); found = λ d. (o, is, refl) }
 
 -- and a range that starts past its end has none
 pub found_past : (nfa : Nfa) (asked : Asked) → asked.end < asked.start → IsLeftmostIn nfa asked None
-found_past nfa asked l = record {
-  done = λ d. refl;
-  found = λ d. absurd (true≢false (sym (lt-ltb _ _ l) ∙ d));
-}
+found_past nfa asked l = record { done = λ d. refl; found = λ d. absurd (omega (arith, ltb-false _ _ d)) }

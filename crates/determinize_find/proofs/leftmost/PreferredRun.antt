@@ -2,10 +2,10 @@
 -- Main statements: from_start, to_start, each_preferred_is_leftmost, each_anchored_is_leftmost.
 -- Used by: `laws::prefix_law`, TwoSearches, InputMatches, Certain, Fresh, and ListsOfPatterns of `determinize_regex`.
 -- Idea: after the prefix a run that skips fewer bytes is preferred, so the preferred run begins leftmost.
-use Rattle.determinize_find.proofs.Common.{Accepts, AcceptsFrom, All, ap, arith, Before, Before-asym, by_cases, choices}
+use Rattle.determinize_find.proofs.Common.{Accepts, AcceptsFrom, All, ap, arith, Before, Before-asym, by_cases}
 use Rattle.determinize_find.proofs.Common.{EachAnchoredIsLeftmost, EachPreferredIsLeftmost, end_of, HalfMatch}
 use Rattle.determinize_find.proofs.Common.{HasPrefix, IsLeftmost, IsPreferredRun, length, List, Match, Nfa, None}
-use Rattle.determinize_find.proofs.Common.{Option, option_map, pattern_in, preferred, refl, shape, skip, skip_before}
+use Rattle.determinize_find.proofs.Common.{Option, option_map, pattern_in, refl, shape, skip, skip_before}
 use Rattle.determinize_find.proofs.Common.{skip_same, Some, Text, true_at, unshape, ℕ, ◌+◌, ◌<◌, ◌∷◌, ◌≡◌, ◌≤◌, ◌⊎◌}
 
 module _ (nfa : Nfa) (text : Text) (has : HasPrefix nfa) (small : All (λ b. b < 256) text.bytes) where

@@ -1,23 +1,18 @@
 -- Anchored searches from one index after another find the leftmost match.
 -- Main statements: text-since, best_in, more_nothing, found_here, found_last.
--- Used by: `plain::find_at` and `find_in_turn`, CoveredStarts, Rests, and in determinize_linear Matches and `find_from`.
+-- Used by: `plain::find_at` and `find_in_turn`, CoveredStarts, Rests, and the searches in turn of `determinize_linear`.
 -- Idea: the text from a later index is the rest of the text (LaterRuns), and the first index with a match is the least
 -- one where a run accepts.
 use Rattle.determinize_find.proofs.Common.{Accepts, AcceptsFrom, ap, arith, Asked, asked_of, before, before_at, between}
-use Rattle.determinize_find.proofs.Common.{by_cases, byte_before, cases_lt, choices, cond, drop, drop-drop, drop-take}
+use Rattle.determinize_find.proofs.Common.{by_cases, byte_before, cases_lt, cond, drop, drop-drop, drop-take}
 use Rattle.determinize_find.proofs.Common.{each_run_moves, false, from, HalfMatch, is_anchored, IsLeftmost}
 use Rattle.determinize_find.proofs.Common.{IsLeftmostIn, IsSearchResult, latest, le-ltb, LeftmostFirst, List, Match}
-use Rattle.determinize_find.proofs.Common.{moved, nat_lt, nat_tests, Nfa, None, NothingFrom, Option, option_map}
-use Rattle.determinize_find.proofs.Common.{preferred, refl, since, slice_get, slice_get-drop, slice_get-take}
-use Rattle.determinize_find.proofs.Common.{slice_range, Some, suc, Text, text_of, Yes, zero, ℕ, ◌+◌, ◌-◌, ◌<◌, ◌∙◌, ◌≡◌}
-use Rattle.determinize_find.proofs.Common.{◌≤◌}
+use Rattle.determinize_find.proofs.Common.{moved, nat_tests, Nfa, None, NothingFrom, Option, option_map}
+use Rattle.determinize_find.proofs.Common.{refl, since, slice_get, slice_get-drop, slice_get-take, slice_range, Some}
+use Rattle.determinize_find.proofs.Common.{suc, Text, text_of, Yes, zero, ℕ, ◌+◌, ◌-◌, ◌<◌, ◌∙◌, ◌≡◌, ◌≤◌}
 use Rattle.determinize_find.specs.Private.BestAt.{from_index, IsBestAt, IsBestIn}
 use Rattle.determinize_find.proofs.leftmost.Inputs.{leftmost_in}
 use Rattle.determinize_find.proofs.runs.LaterRuns.{later_run}
-pub use Rattle.determinize_find.proofs.leftmost.Inputs.{found_past}
-
-pub not_past : (a b : ℕ) → a ≤ b → nat_lt b a ≡ false
-not_past a b h = le-ltb b a h
 
 -- the range from a later start on is the rest of the range
 range-since : (xs : List ℕ) (start k end : ℕ) → start + k ≤ end
@@ -74,8 +69,8 @@ module _ (nfa : Nfa) (asked : Asked) (at : ℕ) (forward : nfa.reverse ≡ false
           (
             p.0,
             record {
-              accepts = rw z at ((each_run_moves nfa (text_of false asked) base 0 nfa.start_anchored p.0 p.1 h.pattern).1
-                  (rw text_is at p.3.accepts));
+              accepts = rw z at ((each_run_moves nfa (text_of false asked) base 0 nfa.start_anchored p.0 p.1
+                  h.pattern).1 (rw text_is at p.3.accepts));
               preferred = λ ds j other acc. p.3.preferred ds (j - base) other (here ds j other acc);
             },
           ),
@@ -139,12 +134,13 @@ pub found_here : (nfa now : Nfa) (asked : Asked) (at value : ℕ) (m : Match) �
     → asked.start ≤ at → at < value
     → NothingBefore nfa asked at → IsBestIn now asked at (Some m) → IsLeftmostIn nfa asked (Some m)
 found_here nfa now asked at value m e v low s before best =
-    found_in_turn nfa asked at (Some m) low (omega (arith, v.high)) (omega (arith, v.is)) before (rw e at best) (λ z. cc)
+    found_in_turn nfa asked at (Some m) low (omega (arith, v.high)) (omega (arith, v.is)) before (rw e at best)
+    (λ z. cc)
 
 -- and so is what the last search says
 pub found_last : (nfa now : Nfa) (asked : Asked) (at value : ℕ) (answer : Option Match) → now ≡ nfa
     → IsLatest nfa asked value → value ≤ at
     → NothingBefore nfa asked at → IsBestIn now asked value answer → IsLeftmostIn nfa asked answer
 found_last nfa now asked at value answer e v s before best =
-    found_in_turn nfa asked value answer v.low v.high (omega (arith, v.is)) (λ n m. before n (omega arith)) (rw e at best)
-    (λ z. v.is)
+    found_in_turn nfa asked value answer v.low v.high (omega (arith, v.is)) (λ n m. before n (omega arith))
+    (rw e at best) (λ z. v.is)

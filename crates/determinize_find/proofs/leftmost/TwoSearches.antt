@@ -1,5 +1,5 @@
 -- A search forward finds the end of the leftmost match, and one backward its start.
--- Main statements: starts_differ, leftmost_end, found_in, begin_found.
+-- Main statements: starts_differ, leftmost_end, found_in, some_found, begin_found.
 -- Used by: the calls of `Regex`, and of starts_differ Rests and FoundOfPatterns of `determinize_regex`.
 -- Idea: runs of any pattern that end where the leftmost match ends begin where it does or later, so the farthest
 -- backward is its start.
@@ -8,7 +8,7 @@ use Rattle.determinize_find.proofs.Common.{asked_of, between, Bool, by_cases, by
 use Rattle.determinize_find.proofs.Common.{each_run_reads_forward, end_of, Err, false, Fits, HalfMatch, has_start}
 use Rattle.determinize_find.proofs.Common.{HasMatch, HasPrefix, IfOk, in_haystack, is_anchored, is_done, IsEnded}
 use Rattle.determinize_find.proofs.Common.{IsEnding, IsFarthestMatch, IsLeftmost, IsLeftmostIn, IsLeftmostMatch}
-use Rattle.determinize_find.proofs.Common.{IsPreferredMatch, IsReverseOf, IsSearchResult, last_in, le-ltb, left}
+use Rattle.determinize_find.proofs.Common.{IsPreferredMatch, IsReverseOf, IsSearchResult, last_in, le-ltb}
 use Rattle.determinize_find.proofs.Common.{LeftmostFirst, length, length-drop, length-reverse, length-take, List}
 use Rattle.determinize_find.proofs.Common.{lt-ltb, Match, moved, nat_eq, ne_eqb, Nfa, No, no_run_leaves_the_text, None}
 use Rattle.determinize_find.proofs.Common.{Ok, Option, option_map, or_some, Pattern, refl, Result, slice_get-drop}
@@ -149,51 +149,51 @@ module _ {nfa backward : Nfa} (is : IsReverseOf backward nfa) {text : Text} {m :
       (λ k. absurd (left.leftmost (m.end - h.offset) k r.0 m.end r.1 r.2))
       (λ k. omega (arith, order, f.1 accepts_back.0 (m.end - m.start) accepts_back.1 accepts_back.2))
 
--- where the end of a match lies
-pub ended_within : {nfa : Nfa} {haystack : List ℕ} {start end : ℕ} (asked : Asked) (m : Match)
-    → IsEnded nfa haystack start end asked m → (start ≤ end) × (end ≤ length haystack)
-ended_within {nfa} asked m e =
-    let l = lies nfa asked m (rw e.same e.within) e.leftmost in
-    (omega (arith, l.low, l.order, e.starts, e.ends), omega (arith, l.high, e.within, e.ends))
+-- the start of a leftmost match with this end
+module _ {nfa : Nfa} {haystack : List ℕ} {start end : ℕ} {asked : Asked} {m : Match}
+    (e : IsEnded nfa haystack start end asked m) where
+  within : asked.end ≤ length asked.haystack
+  within = rw e.same e.within
 
--- a search backward finds the start of the match
-pub record IsAt (found : Option HalfMatch) (index : ℕ) : Type 0 where
-  pub half : HalfMatch
-  pub is : found ≡ Some half
-  pub offset : half.offset ≡ index
+  text : IsInText nfa asked m
+  text = in_text e.leftmost
 
-module _ {nfa backward : Nfa} (is : IsReverseOf backward nfa) (forward : nfa.reverse ≡ false) {asked : Asked}
-    {m : Match} (within : asked.end ≤ length asked.haystack) (t : IsInText nfa asked m) (lie : LiesIn asked m) where
-  inside : t.match.end ≤ length (slice_range asked.haystack asked.start asked.end)
-  inside = omega (arith, length-range asked within, t.end, lie.high)
+  lie : LiesIn asked m
+  lie = lies nfa asked m within e.leftmost
 
-  reads_back : backward.reverse ≡ true
-  reads_back = rw (is.direction, forward)
+  pub ended_within : (start ≤ end) × (end ≤ length haystack)
+  ended_within = (omega (arith, lie, e.starts, e.ends), omega (arith, lie, e.within, e.ends))
 
-  text_back : text_of backward.reverse (asked_of asked.haystack asked.start m.end Yes)
-      ≡ turned (upto (text_of false asked) t.match.end)
-  text_back = rw (reads_back, t.end) (text-back asked t.match.end (omega (arith, t.end, lie.high)) within)
+  module _ {backward : Nfa} (is : IsReverseOf backward nfa) (forward : nfa.reverse ≡ false) where
+    inside : text.match.end ≤ length (slice_range asked.haystack asked.start asked.end)
+    inside = omega (arith, length-range asked within, text.end, lie.high)
 
-  -- from the end of the leftmost match of an input
-  begin_back : (found : Option HalfMatch)
-      → IsSearchResult backward kinds.All (asked_of asked.haystack asked.start m.end Yes) found → IsAt found m.start
-  begin_back None s =
-      let a = accepts_back is inside t.leftmost in
-      absurd (s.none (le-ltb _ _ (omega (arith, lie.low, lie.order)))
-      (a.0, t.match.end - t.match.start, a.1, rw text_back a.2))
-  begin_back (Some q) s =
-      let f = s.farthest refl in
-      let offset : q.offset ≡ m.end - f.0 = rw reads_back at f.1 in
-      let far = farthest_back is inside t.leftmost record { pattern = q.pattern; offset = f.0 } (rw text_back at f.2) in
-      record { half = q; is = refl; offset = omega (arith, offset, far, t.start, t.end) }
+    reads_back : backward.reverse ≡ true
+    reads_back = rw (is.direction, forward)
 
-pub begin_found : {nfa backward : Nfa} → IsReverseOf backward nfa → nfa.reverse ≡ false → {haystack : List ℕ}
-    {start end : ℕ} (asked : Asked) (m : Match) → IsEnded nfa haystack start end asked m → (found : Option HalfMatch)
-    → IsSearchResult backward kinds.All (asked_of haystack start end Yes) found → IsAt found m.start
-begin_found {nfa} is forward asked m e found s =
-    let within = rw (← e.same) at e.within in
-    begin_back is forward within (in_text e.leftmost) (lies nfa asked m within e.leftmost) found
-    (rw (← e.same, ← e.starts, ← e.ends) at s)
+    text_back : text_of backward.reverse (asked_of haystack start end Yes)
+        ≡ turned (upto (text_of false asked) text.match.end)
+    text_back =
+        let own : asked_of haystack start end Yes
+        ≡ asked_of asked.haystack asked.start (asked.start + text.match.end) Yes
+        = cc (e.same, e.starts, e.ends, text.end) in
+        rw (own, reads_back) (text-back asked text.match.end (omega (arith, text.end, lie.high)) within)
+
+    -- a search backward finds one
+    pub some_found : IsSearchResult backward kinds.All (asked_of haystack start end Yes) None → ⊥
+    some_found s =
+        let (cs, other, acc) = accepts_back is inside text.leftmost in
+        s.none (le-ltb _ _ ended_within.0) (cs, text.match.end - text.match.start, other, rw text_back acc)
+
+    -- and it is where the match begins
+    pub begin_found : (h : HalfMatch) → IsSearchResult backward kinds.All (asked_of haystack start end Yes) (Some h)
+        → m.start ≡ h.offset
+    begin_found h s =
+        let (i, offset, far) = s.farthest refl in
+        let at : h.offset ≡ end - i = rw reads_back at offset in
+        let back = farthest_back is inside text.leftmost record { pattern = h.pattern; offset = i }
+        (rw text_back at far) in
+        omega (arith, at, back, text.start, text.end, e.ends, ended_within.0)
 
 -- the elements of a list of bytes
 pub all_bytes : (xs : List ℕ) → ((i : ℕ) → Fits w8 (slice_index_or xs i 0)) → All (λ b. b < 256) xs

@@ -1,13 +1,13 @@
 -- The next match is one of two leftmost ones, and one more match keeps what was found a prefix of the list.
--- Main statements: next_plain, next_further, touched_within, fewer, one_more, all_found, after_one, after_all.
--- Used by: `further`, the loops over all matches of this crate and of determinize_linear, InputMatches and Steps.
+-- Main statements: next_plain, next_further, fewer, one_more, all_found, after_one, after_all.
+-- Used by: the loops over all matches of this crate and of determinize_linear, InputMatches and Steps.
 -- Idea: a list of all matches from the cursor on, after what was found, is the list of all matches.
 use Rattle.determinize_find.proofs.Common.{ap, append-nil, append_assoc, AreMatches, arith, Asked, before, false, from}
-use Rattle.determinize_find.proofs.Common.{IfSome, is_touching, IsLeftmostIn, IsNext, left, length, List, Match, Nfa}
-use Rattle.determinize_find.proofs.Common.{None, Option, refl, SearcherValue, Some, true, [], ℕ, ◌++◌, ◌+◌, ◌<◌, ◌∷◌}
-use Rattle.determinize_find.proofs.Common.{◌≡◌, ◌≤◌}
+use Rattle.determinize_find.proofs.Common.{is_touching, IsLeftmostIn, IsNext, left, length, List, Match, Nfa, None}
+use Rattle.determinize_find.proofs.Common.{Option, refl, SearcherValue, Some, true, [], ℕ, ◌++◌, ◌+◌, ◌<◌, ◌∷◌, ◌≡◌}
+use Rattle.determinize_find.proofs.Common.{◌≤◌}
 use Rattle.determinize_find.specs.Cursors.{after_match}
-use Rattle.determinize_find.proofs.matches.OneList.{IsLater, next_lies}
+use Rattle.determinize_find.proofs.matches.OneList.{next_lies}
 
 pub next_plain : (nfa : Nfa) (asked : Asked) (before : Option ℕ) (first : Option Match) → IsLeftmostIn nfa asked first
     → is_touching before first ≡ false → IsNext nfa asked before first
@@ -18,11 +18,6 @@ pub next_further : (nfa now : Nfa) (asked further : Asked) (before : Option ℕ)
     → IsLeftmostIn nfa asked first → is_touching before first ≡ true → IsLeftmostIn now further found
     → IsNext nfa asked before found
 next_further nfa now asked further before first found n f x t y = grind arith
-
--- where a match of a range is skipped, the range does not start past its end
-pub touched_within : (before : Option ℕ) (first : Option Match) (start end : ℕ) → is_touching before first ≡ true
-    → IfSome first (λ m. (start ≤ m.start) × (m.start ≤ m.end) × (m.end ≤ end)) → start ≤ end
-touched_within before first start end t within = grind arith
 
 -- each match leaves fewer indices
 pub fewer : (nfa now : Nfa) (asked rest : Asked) (start : ℕ) (before : Option ℕ) (m : Match) → now ≡ nfa

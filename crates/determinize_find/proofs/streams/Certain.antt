@@ -1,16 +1,15 @@
 -- The match of a search that is certain is the leftmost one, regardless of what follows.
--- Main statements: HasCertain, is_ended, certain_is, end_scan, scan_read.
--- Used by: `Regex::scan` and `certain`.
--- Idea: the last match of each walk is the same (FirstMatch), so its pattern and end are; and where it begins depends only
--- on what is before its end, or is the same for the first state.
-use Rattle.determinize_find.proofs.Common.{All, All-append, All-drop, All-nil, AllResolve, ap, append-nil, arith}
-use Rattle.determinize_find.proofs.Common.{between, by_cases, byte_before, cases_lt, certain_match, drop}
-use Rattle.determinize_find.proofs.Common.{drop-append-le, each_run_reads_forward, end_of, Err, from, HalfMatch}
-use Rattle.determinize_find.proofs.Common.{HasPrefix, IfOk, IsAccepted, IsBeginOf, IsCertain, IsEnded, IsEndOf}
-use Rattle.determinize_find.proofs.Common.{IsEndScan, IsLeftmost, IsLeftmostIn, IsLeftmostMatch, IsScan}
-use Rattle.determinize_find.proofs.Common.{LeftmostFirst, length, length-append, length-drop, List, Match, MatchKind}
-use Rattle.determinize_find.proofs.Common.{moved, Nfa, None, Ok, Option, option_map, preferred, refl, Result, Scanned}
-use Rattle.determinize_find.proofs.Common.{Some, sym, Text, whole, [], ℕ, ◌++◌, ◌+◌, ◌-◌, ◌<◌, ◌∙◌, ◌≡◌, ◌≤◌, ◌⊎◌}
+-- Main statements: HasCertain, is_ended, certain_is.
+-- Used by: `Regex::certain`.
+-- Idea: the last match of each walk is the same (FirstMatch), so its pattern and end are; and where it begins depends
+-- only on what is before its end, or is the same for the first state.
+use Rattle.determinize_find.proofs.Common.{All, All-append, All-drop, All-nil, ap, append-nil, arith, between, by_cases}
+use Rattle.determinize_find.proofs.Common.{byte_before, cases_lt, certain_match, drop, drop-append-le}
+use Rattle.determinize_find.proofs.Common.{each_run_reads_forward, end_of, from, HalfMatch, IsBeginOf, IsCertain}
+use Rattle.determinize_find.proofs.Common.{IsEnded, IsEndOf, IsEndScan, IsLeftmost, IsLeftmostIn, IsLeftmostMatch}
+use Rattle.determinize_find.proofs.Common.{LeftmostFirst, length, length-append, length-drop, List, Match, moved, Nfa}
+use Rattle.determinize_find.proofs.Common.{None, Option, option_map, preferred, refl, Scanned, Some, sym, Text, whole}
+use Rattle.determinize_find.proofs.Common.{[], ℕ, ◌++◌, ◌+◌, ◌<◌, ◌∙◌, ◌≡◌, ◌≤◌, ◌⊎◌}
 use Rattle.determinize_find.proofs.runs.Cuts.{same_path}
 use Rattle.determinize_find.proofs.leftmost.PreferredRun.{each_preferred_is_leftmost}
 use Rattle.determinize_find.proofs.streams.FirstMatch.{BeginsThere, certain_within, first_begins, IsFirst}
@@ -39,26 +38,6 @@ begins_before nfa behind bytes m inside left = record {
       let low = not_later nfa behind bytes more [] n m (omega arith) other left in
       let high = not_later nfa behind bytes [] more m n inside left other in omega arith;
 }
-
--- what a lazy DFA says of such a search
-pub end_scan : (nfa own : Nfa) (kind : MatchKind) (start : ℕ) (byte behind : Option ℕ) (bytes : List ℕ) {E : Type 0}
-    (r : Result Scanned E) → own ≡ nfa → kind ≡ LeftmostFirst → start ≡ nfa.start_unanchored → byte ≡ behind
-    → IsAccepted own → HasPrefix own → IfOk r (λ s. AllResolve own s.state.states)
-    → IfOk r (λ s. IsScan own kind start byte bytes s) → IfOk r (λ s. IsEndScan nfa behind bytes s)
-end_scan nfa own kind start byte behind bytes (Err _) e k z b accepted prefix resolve is = tt
-end_scan nfa own kind start byte behind bytes (Ok s) e k z b accepted prefix resolve is = record {
-  accepted = rw (← e) accepted;
-  prefix = rw (← e) prefix;
-  resolve = rw (← e) resolve;
-  scan = rw (e, k, z, b) at is;
-}
-
--- how many bytes it has read
-pub scan_read : (nfa : Nfa) (kind : MatchKind) (start : ℕ) (behind : Option ℕ) (bytes : List ℕ) {E : Type 0}
-    (r : Result Scanned E) {n : ℕ} → length bytes ≡ n → IfOk r (λ s. IsScan nfa kind start behind bytes s)
-    → IfOk r (λ s. s.read ≡ n)
-scan_read nfa kind start behind bytes (Err _) e is = tt
-scan_read nfa kind start behind bytes (Ok s) e is = is.read ∙ e
 
 -- a search over the bytes of a haystack from an index on, of which a match is certain
 pub record HasCertain (nfa : Nfa) (xs : List ℕ) (start : ℕ) (s : Scanned) (h : HalfMatch) : Type 0 where

@@ -5,7 +5,7 @@
 use Rattle.determinize_find.proofs.Common.{All, All-cons, All-nil, append-nil, AreApart, AreMatches, arith, drop}
 use Rattle.determinize_find.proofs.Common.{end_before, from, IsFinished, IsKept, IsNext, IsTaken, length, List, map}
 use Rattle.determinize_find.proofs.Common.{Match, moved, Nfa, None, Option, option_map, refl, Some, Streamed, sym}
-use Rattle.determinize_find.proofs.Common.{whole, [], ℕ, ◌++◌, ◌+◌, ◌-◌, ◌<◌, ◌∙◌, ◌∷◌, ◌≡◌, ◌≤◌}
+use Rattle.determinize_find.proofs.Common.{whole, [], ℕ, ◌++◌, ◌+◌, ◌<◌, ◌∙◌, ◌∷◌, ◌≡◌, ◌≤◌}
 use Rattle.determinize_find.specs.Private.Windows.{IsWindow}
 use Rattle.determinize_find.proofs.matches.OneList.{apart}
 use Rattle.determinize_find.proofs.streams.Rests.{shift_leftmost}

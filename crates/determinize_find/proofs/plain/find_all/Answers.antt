@@ -1,5 +1,5 @@
 use Rattle.determinize_find.proofs.Common.{arith, from, None, refl, rules, Some, [], ◌++◌, ◌∷◌, ◌≡◌}
-use Rattle.determinize_find.proofs.matches.NextMatch.{after_all, after_none, after_one, IsOneMore}
+use Rattle.determinize_find.proofs.matches.NextMatch.{after_all, after_one, IsOneMore}
 use Rattle.determinize_find.proofs.plain.find_all.Given.{Over}
 use Rattle.determinize_find.proofs.plain.find_all.Goals.{In-Some}
 use Rattle.determinize_find.proofs.plain.find_all.Goals as goal
@@ -15,15 +15,6 @@ after_next g c =
     after_one _ c.loop-found.lazy.nfa c.args.input.now _ _ _ c.in-Some.next c.loop-found.invariant.nfa
     (omega (arith, c.end.ensures.value, c.end.ensures.in_haystack)) c.loop-found.invariant.after
     (rw (rest, is) at c.in_ok-next.ensures.next) refl
-
-pub loop-found-init : goal.loop-found-init
-loop-found-init g c = record {
-  nfa = refl;
-  kind = refl;
-  limit = refl;
-  near = search rules;
-  after = after_none _ _ None _ _ (search rules) (search rules) (λ end e. cc);
-}
 
 pub returns-in_default-clause-all : goal.returns-in_default-clause-all
 returns-in_default-clause-all g c =

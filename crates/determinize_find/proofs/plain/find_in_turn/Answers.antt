@@ -15,7 +15,8 @@ pub returns-in-Some-clause-leftmost : goal.returns-in-Some-clause-leftmost
 returns-in-Some-clause-leftmost g c =
     let is : c.in_ok-found.field-0 ≡ Some c.in-Some.found = search rules in
     found_here _ _ c.args.input.now c.loop-at.at c.latest_start-latest.result c.in-Some.found
-    (ap (λ v. v.nfa) c.loop-at.invariant.same) (latest g (goal.at.returns-in-Some-clause-leftmost g c).After-latest_start-latest)
+    (ap (λ v. v.nfa) c.loop-at.invariant.same)
+    (latest g (goal.at.returns-in-Some-clause-leftmost g c).After-latest_start-latest)
     (omega (arith, c.start-start.ensures.value)) (omega arith) c.loop-at.invariant.nothing
     (rw is at c.in_ok-found.ensures.best)
 

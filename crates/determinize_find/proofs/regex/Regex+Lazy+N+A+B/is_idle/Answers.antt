@@ -9,7 +9,3 @@ returns-clause-fresh g c scan is =
     let nfa : c.nfa.result.now ≡ c.args.self.now.nfa = rw (c.nfa.ensures.value, ← c.self.view_is) in
     fresh c.args.self.now.nfa c.args.haystack.now c.args.start c.args.scan.now (c.is_apart.ensures.0 (search rules))
     (all_bytes c.args.haystack.now c.type_inv.haystack) some scan (rw nfa at (c.is_idle.ensures.0 is))
-
-pub returns-clause-idle : goal.returns-clause-idle
-returns-clause-idle g c apart idle within =
-    c.is_idle.ensures.1 (rw c.nfa.ensures.value (rw (← c.self.view_is) at idle))
