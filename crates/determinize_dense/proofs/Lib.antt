@@ -4,6 +4,7 @@ mod Building
 mod Collecting
 mod Common
 mod Counting
+mod Distances
 mod FirstRows
 mod IdleStates
 mod Inputs

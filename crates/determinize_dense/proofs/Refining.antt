@@ -1,10 +1,10 @@
 -- Partitions of the rows of a table, which are split until each column is settled.
--- Main statements: entry-below, partition-first, partition-split, refined-first, refined-more, refined-fewer.
+-- Main statements: entry-below, partition-first, partition-apart, partition-split, refined-more, refined-fewer.
 -- Used by: Offsets, `entry`, `partition`, `split_by` and `refine`.
 -- Idea: rows that are split were apart, or have entries in a column that were apart.
 use Rattle.determinize_dense.proofs.Common.{All-cons, All-nil, AreApart, AreEqual, arith, Blocks, by_cases, cases_eq}
 use Rattle.determinize_dense.proofs.Common.{entry, IsFilled, IsPartition, IsRefined, IsSplit, IsUnit, length}
-use Rattle.determinize_dense.proofs.Common.{length-replicate, List, patterns_at, slice_index, Table, [], ℕ, ◌+◌, ◌-◌}
+use Rattle.determinize_dense.proofs.Common.{length-replicate, List, patterns_at, slice_index, Table, [], ℕ, ◌+◌}
 use Rattle.determinize_dense.proofs.Common.{◌<◌, ◌∙◌, ◌∷◌, ◌≡◌, ◌≤◌}
 use Rattle.determinize_core.proofs.Common.{replicate}
 use Rattle.std.proofs.lemmas.List.{get_or-replicate}
@@ -45,19 +45,26 @@ partition-first d p q values whole are split = record {
     count : length p.numbers ≡ length d.patterns
     count = rw whole (length-replicate (length d.patterns) 0)
 
+-- rows that differ in a value are apart
+pub partition-apart : {d : Table} {p q : Blocks} {values : List ℕ} → IsPartition d p → IsSplit values p q
+    → ((r s : ℕ) → r < length d.patterns → s < length d.patterns → (AreEqual values r s → ⊥) → AreApart d r s)
+    → IsPartition d q
+partition-apart {d} {p} {q} {values} part split apart = record {
+  blocks = split.blocks;
+  count = split.count ∙ part.count;
+  patterns = λ r s h l same. part.patterns r s h l (grind (arith, split.together r s));
+  apart = λ r s h l other. by_cases (cases_eq (slice_index p.numbers r) (slice_index p.numbers s))
+      (λ same. apart r s h l (λ equal. other (grind (arith, part.count, split.together r s))))
+      (part.apart r s h l);
+}
+
 -- a pass over a column
 pub partition-split : (d : Table) → IsFilled d → (p q : Blocks) (c : ℕ) (values : List ℕ) → c < d.class_count + 1
     → IsPartition d p → AreTargets d p c values → IsSplit values p q → IsSplitBy d c p q
 partition-split d is p q c values inside part targets split = record {
-  partition = record {
-    blocks = split.blocks;
-    count = split.count ∙ part.count;
-    patterns = λ r s h l same. part.patterns r s h l (grind (arith, split.together r s));
-    apart = λ r s h l other. by_cases (cases_eq (slice_index p.numbers r) (slice_index p.numbers s))
-        (λ same. apart-entry d is r s c inside (part.apart (entry d r c) (entry d s c) (entry-below d is r c h inside)
-        (entry-below d is s c l inside) (λ together. grind (arith, split.together r s))))
-        (part.apart r s h l);
-  };
+  partition = partition-apart part split (λ r s h l other. apart-entry d is r s c inside (part.apart (entry d r c)
+      (entry d s c) (entry-below d is r c h inside) (entry-below d is s c l inside)
+      (λ together. other (grind (arith, targets.count, targets.blocks r, targets.blocks s)))));
   more = split.more;
   stays = grind (arith, split.stays, split.together);
 }

@@ -3,15 +3,15 @@
 -- Used by: the searches of `Dfa`, and `patterns_after`.
 -- Idea: the row lists what the value after the same units lists, so the last match is that of the last row with a list.
 use Rattle.determinize_dense.proofs.Common.{All, All-cons, All-head, All-nil, All-push, All-tail, ap, arith, Bool}
-use Rattle.determinize_dense.proofs.Common.{DfaValue, drop, ended_at, future, get_or, get_or_from_slice_get, HalfMatch}
+use Rattle.determinize_dense.proofs.Common.{DfaValue, drop, ended_at, future, get_or_from_slice_get, HalfMatch}
 use Rattle.determinize_dense.proofs.Common.{HasCome, inl, inr, is_some, IsDfa, IsFound, IsOrdered, IsRead, IsRowFrom}
-use Rattle.determinize_dense.proofs.Common.{IsSearched, IsUnit, last_match-push, length, length-map, List, map}
-use Rattle.determinize_dense.proofs.Common.{map_push, offset_of, Option, option_or, patterns_at, Reached, refl}
-use Rattle.determinize_dense.proofs.Common.{row_after, row_over, slice_get_within, Some, start_in, start_row}
+use Rattle.determinize_dense.proofs.Common.{IsSearched, IsUnit, last_match-push, length, List}
+use Rattle.determinize_dense.proofs.Common.{offset_of, Option, option_or, patterns_at, Reached, refl}
+use Rattle.determinize_dense.proofs.Common.{row_after, row_over, slice_get_within, start_in, start_row}
 use Rattle.determinize_dense.proofs.Common.{start_value, StaysOver, suc, sym, Table, take, take_all, take_more, Text}
-use Rattle.determinize_dense.proofs.Common.{true, units, units_listed, Value, value_after, value_from, [], ℕ, ◌++◌, ◌+◌}
+use Rattle.determinize_dense.proofs.Common.{true, units, Value, value_after, value_from, [], ℕ, ◌++◌, ◌+◌}
 use Rattle.determinize_dense.proofs.Common.{◌-◌, ◌<◌, ◌∙◌, ◌∷◌, ◌≡◌, ◌≤◌, ◌⊎◌}
-use Rattle.determinize_core.proofs.Common.{append-nil, append_assoc, is_nonempty, last_match, length-append}
+use Rattle.determinize_core.proofs.Common.{append-nil, append_assoc, is_nonempty, last_match}
 use Rattle.determinize_core.proofs.Common.{length-take-le, take-append-drop, true≢false, zero}
 use Rattle.determinize_core.specs.Chain.{chain}
 use Rattle.std.proofs.lemmas.List.Elements.{All-drop}

@@ -130,9 +130,10 @@ impl<'n, N: Allocator, A: Allocator + Copy> Dfa<'n, N, A> {
     ///
     /// States are merged if they list the same patterns along all units. A text has no unit behind
     /// EOI, so a table that agrees with this DFA after each text may have fewer states. A few
-    /// passes over the table suffice mostly; for a chain of states the time is quadratic in their
-    /// number, and it is never more. The lists of patterns are allocated by the allocator of this
-    /// DFA, all else by `alloc`.
+    /// passes over the table suffice mostly, also for a chain of states whose last one lists
+    /// patterns. For a chain of states that all list some, as that of `a{0,10000}`, the time is
+    /// quadratic in their number, and it is never more. The lists of patterns are allocated by the
+    /// allocator of this DFA, all else by `alloc`.
     pub fn minimize(&self, alloc: A) -> Result<Dfa<'n, N, A>, AllocError>
         ensures nfa { IfOk result (λ dfa. dfa.nfa ≡ self.now.nfa) }
         ensures kind { IfOk result (λ dfa. dfa.kind ≡ self.now.kind) }

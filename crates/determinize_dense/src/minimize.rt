@@ -1,13 +1,14 @@
 //! The fewest rows, by partition refinement.
 //!
-//! The blocks are first the rows that list the same patterns. A pass over a column splits each
-//! block by the blocks of its entries in the column. When a cycle of passes over all columns splits
-//! no block, each block becomes one row.
+//! The blocks are first the rows that list the same patterns and have the same distance: the least
+//! number of units to a row that lists any. So a chain of rows needs one cycle, where it would need
+//! one for each row. A pass over a column splits each block by the blocks of its entries in the
+//! column. When a cycle of passes over all columns splits no block, each block becomes one row.
 
-ghost use Rattle.std.specs.Prelude.{◌≡◌, ◌<◌, ◌≤◌, ◌+◌, IfOk, OnOk, bytes_eq, length, map};
+ghost use Rattle.std.specs.Prelude.{◌≡◌, ℕ, ◌<◌, ◌≤◌, ◌+◌, IfOk, IsTrue, OnOk, bytes_eq, false, length, map, slice_index, sum_by};
 ghost use Rattle.std.specs.HashMap.{get_by};
 ghost use Rattle.determinize_dense.specs.Least.{IsLeast};
-ghost use Rattle.determinize_dense.specs.Private.Minimizing.{AreFirstAlike, AreFirsts, AreMergedLists, AreMergedRows, AreMergedStarts, AreTargets, IsFirstAlike, IsGrouping, IsMerged, IsPartition, IsRefined, IsSplitBy, IsStable};
+ghost use Rattle.determinize_dense.specs.Private.Minimizing.{AreDistances, AreFirstAlike, AreFirsts, AreMergedLists, AreMergedRows, AreMergedStarts, AreDistancesSoFar, AreTargets, entry, IsFirstAlike, IsGrouping, IsMerged, IsPartition, IsDistanceSoFar, IsRefined, IsShort, IsSplitBy, IsStable};
 ghost use Rattle.determinize_dense.specs.Private.Rows.{IsFilled};
 
 use crate::partition::Partition;
@@ -70,6 +71,72 @@ impl<'n, N: Allocator, A: Allocator + Copy> Rows<'n, N, A> {
         Ok(values)
     }
 
+    /// Returns 0 for a row that lists patterns, and the number of rows for any other.
+    fn first_distance(&self, row: usize) -> usize
+        requires { row < length self.now.table.patterns }
+        ensures { IsDistanceSoFar self.now.table row result }
+    {
+        if self.patterns(row).is_empty() {
+            self.len()
+        } else {
+            0
+        }
+    }
+
+    /// Returns the least distance of the entries of a row.
+    fn nearest(&self, distances: &[usize], row: usize) -> usize
+        requires count { length distances.now ≡ length self.now.table.patterns }
+        requires row { row < length self.now.table.patterns }
+        ensures least { (c : ℕ) → c < self.now.table.class_count + 1
+            → result ≤ slice_index distances.now (entry self.now.table row c) }
+        ensures there { (c : ℕ) × (c < self.now.table.class_count + 1)
+            × (result ≡ slice_index distances.now (entry self.now.table row c)) }
+        ensures filled { IsFilled self.now.table }
+    {
+        let mut least = distances[self.entry(row, 0)];
+        for column in 1..self.classes.alphabet_len() {
+            least = least.min(distances[self.entry(row, column)]);
+        }
+        least
+    }
+
+    /// Shortens the distance of each row to one more than the least of its entries, the last row
+    /// first. Returns whether any distance became shorter.
+    fn shorten(&self, distances: &mut [usize]) -> bool
+        requires { AreDistancesSoFar self.now.table distances.old }
+        ensures so_far { AreDistancesSoFar self.now.table distances.new }
+        ensures short { result ≡ false → (r : ℕ) → r < length self.now.table.patterns
+            → IsShort self.now.table distances.new r }
+        ensures less { IsTrue result
+            → sum_by (λ n. n) distances.new < sum_by (λ n. n) distances.old }
+    {
+        let mut is_shorter = false;
+        let mut row = self.len();
+        while row > 0 {
+            row -= 1;
+            let distance = self.nearest(distances, row) + 1;
+            if distance < distances[row] {
+                distances[row] = distance;
+                is_shorter = true;
+            }
+        }
+        is_shorter
+    }
+
+    /// Returns for each row the least number of units to a row that lists patterns, or the number
+    /// of rows if no such row follows.
+    fn distances(&self, alloc: A) -> Result<Vec<usize, A>, AllocError>
+        ensures distances { IfOk result (λ values. AreDistances self.now.table values.items) }
+        ensures filled { IsFilled self.now.table }
+    {
+        let mut distances = Vec::with_capacity(alloc, self.patterns.len())?;
+        for row in 0..self.len() {
+            distances.push(self.first_distance(row))?;
+        }
+        while self.shorten(distances.as_mut_slice()) {}
+        Ok(distances)
+    }
+
     /// Returns the block of the entry of each row in a column.
     fn targets(
         &self,
@@ -125,7 +192,9 @@ impl<'n, N: Allocator, A: Allocator + Copy> Rows<'n, N, A> {
     {
         let whole = Partition::whole(alloc, self.len())?;
         let first_rows = self.first_rows(alloc)?;
-        let mut parts = whole.split(alloc, first_rows.as_slice())?;
+        let listing = whole.split(alloc, first_rows.as_slice())?;
+        let distances = self.distances(alloc)?;
+        let mut parts = listing.split(alloc, distances.as_slice())?;
         loop {
             let refined = self.refine(alloc, &parts)?;
             if refined.len() == parts.len() {

@@ -219,7 +219,14 @@ impl<'n, N: Allocator, A: Allocator + Copy> Dfa<'n, N, A> {
             return self.match_of(first.matched, first.offset);
         }
         if first.read < text.len() {
-            return self.search_rest(text, first, is_earliest);
+            return self.search_rest(
+                first.row,
+                text,
+                first.read,
+                first.matched,
+                first.offset,
+                is_earliest,
+            );
         }
         self.last_of(text, first)
     }
@@ -249,18 +256,33 @@ impl<'n, N: Allocator, A: Allocator + Copy> Dfa<'n, N, A> {
         at
     }
 
-    /// Searches the rest of a text as `search_text` does, with scans.
+    /// Searches the rest of a text as `search_text` does, with scans, from where a search has come
+    /// to: the numbers of a `Reached`, which are passed in registers if they are apart.
     ///
     /// The inner loop compares each row with `stop` once. In a pause between scans this is
     /// `last_match`, so that no row is scanned out of, and else `last_special`. Behind a match the
     /// text is read in blocks, since more matches may be near.
-    fn search_rest(&self, text: &Text<'_>, from: Reached, is_earliest: bool) -> Option<HalfMatch>
-        requires row { IsOffset self.now.table from.row }
-        requires matched { IsOffset self.now.table from.matched }
-        requires read { from.read ≤ length text.now.bytes }
-        ensures { FindsFrom self.now is_earliest text.now from result }
+    fn search_rest(
+        &self,
+        row: usize,
+        text: &Text<'_>,
+        read: usize,
+        matched: usize,
+        offset: usize,
+        is_earliest: bool,
+    ) -> Option<HalfMatch>
+        requires row { IsOffset self.now.table row }
+        requires matched { IsOffset self.now.table matched }
+        requires read { read ≤ length text.now.bytes }
+        ensures { FindsFrom self.now is_earliest text.now
+            (record { row = row; read = read; matched = matched; offset = offset }) result }
     {
-        let mut at = from;
+        let mut at = Reached {
+            row,
+            read,
+            matched,
+            offset,
+        };
         let mut pauses = Pauses::new();
         while at.read < text.len() {
             let (stop, until) = if at.read < pauses.end {

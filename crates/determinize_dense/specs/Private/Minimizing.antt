@@ -1,10 +1,11 @@
 -- Blocks of rows of a table, and the table of the blocks.
-use Rattle.std.specs.Prelude.{◌≡◌, ◌<◌, ◌≤◌, ◌+◌, ◌*◌, ◌/◌, ◌%◌, ℕ, List, None, Option, Some, [], get_or, length}
+use Rattle.std.specs.Prelude.{◌≡◌, ◌<◌, ◌≤◌, ◌+◌, ◌*◌, ◌/◌, ◌%◌, ℕ, All, List, None, Option, Some, [], get_or, length}
 use Rattle.std.specs.Prelude.{slice_index}
+use Rattle.determinize_below.specs.Truth.{IsUnit}
 use Rattle.determinize_dense.specs.Dfa.{IsDfaOf}
 use Rattle.determinize_dense.specs.Least.{AreApart, IsReachedRow}
 use Rattle.determinize_dense.specs.Private.Partition.{AreBlocks, AreTogether, Blocks}
-use Rattle.determinize_dense.specs.Table.{DfaValue, Table, patterns_at}
+use Rattle.determinize_dense.specs.Table.{DfaValue, Table, patterns_at, row_after}
 use Rattle.determinize_start.specs.declared.start.TheConstants.StartSlot.{COUNT}
 
 -- the row after a row in a column
@@ -35,6 +36,35 @@ pub record AreFirsts (d : Table) (n : ℕ) (find : List ℕ → Option ℕ) : Ty
 pub record AreFirstAlike (d : Table) (values : List ℕ) : Type 0 where
   pub count : length values ≡ length d.patterns
   pub firsts : (r : ℕ) → r < length values → IsFirstAlike d r (slice_index values r)
+
+-- after n units from the row, a row lists patterns
+pub record ListsAfter (d : Table) (r n : ℕ) : Type 0 where
+  pub us : List (Option ℕ)
+  pub units : All IsUnit us
+  pub count : length us ≡ n
+  pub lists : patterns_at d (row_after d r us) ≡ [] → ⊥
+
+-- the number is one of units after which a row lists patterns, or that of the rows; it is 0 for a
+-- row that lists some
+pub record IsDistanceSoFar (d : Table) (r n : ℕ) : Type 0 where
+  pub far : n ≤ length d.patterns
+  pub lists : n < length d.patterns → ListsAfter d r n
+  pub listing : (patterns_at d r ≡ [] → ⊥) → n ≡ 0
+
+-- the same for each row
+pub record AreDistancesSoFar (d : Table) (values : List ℕ) : Type 0 where
+  pub count : length values ≡ length d.patterns
+  pub each : (r : ℕ) → r < length values → IsDistanceSoFar d r (slice_index values r)
+
+-- the number of a row is at most one more than that of each of its entries
+abbrev pub IsShort : Table → List ℕ → ℕ → Type 0
+IsShort d values r = (c : ℕ) → c < d.class_count + 1
+    → slice_index values r ≤ slice_index values (entry d r c) + 1
+
+-- so they are the least such numbers
+pub record AreDistances (d : Table) (values : List ℕ) : Type 0 where
+  pub so_far : AreDistancesSoFar d values
+  pub short : (r : ℕ) → r < length d.patterns → IsShort d values r
 
 -- the block of the entry of each row in a column
 pub record AreTargets (d : Table) (p : Blocks) (c : ℕ) (values : List ℕ) : Type 0 where

@@ -1,6 +1,8 @@
 use Rattle.determinize_dense.proofs.Common.{arith, length-replicate, None, true}
+use Rattle.determinize_dense.proofs.Distances.{apart-distance}
 use Rattle.determinize_dense.proofs.Splitting.{few_blocks}
-use Rattle.determinize_dense.proofs.Refining.{partition-first}
+use Rattle.determinize_dense.specs.Private.Minimizing.{IsPartition}
+use Rattle.determinize_dense.proofs.Refining.{partition-apart, partition-first}
 use Rattle.determinize_dense.proofs.rows.Rows.partition.Goals as goal
 
 pub whole-requires : goal.whole-requires
@@ -10,7 +12,11 @@ pub split-requires : goal.split-requires
 split-requires g c = grind (arith, length-replicate)
 
 pub loop-parts-init : goal.loop-parts-init
-loop-parts-init g c = grind (arith, partition-first)
+loop-parts-init g c =
+    let listing : IsPartition c.args.self.now.table c.in_ok-listing.listing = grind (arith, partition-first) in
+    let apart = apart-distance c.args.self.now.table c.distances.ensures.filled c.in_ok-distances.distances.items
+    c.in_ok-distances.ensures.distances in
+    record { partition = partition-apart listing (rw c.as_slice-2.ensures.value at c.in_ok-parts.ensures) apart }
 
 pub loop-parts-smaller : goal.loop-parts-smaller
 loop-parts-smaller g c = grind (arith, few_blocks)

@@ -1,0 +1,80 @@
+-- The distance of a row to one that lists patterns, and rows of different distance.
+-- Main statements: apart-distance, so_far-set, less-set.
+-- Used by: `shorten`, `partition`.
+-- Idea: where one of two rows comes to a row that lists patterns first, the other lists none.
+use Rattle.determinize_dense.proofs.Common.{All, All-cons, All-head, All-tail, AreApart, AreEqual, arith, by_cases}
+use Rattle.determinize_dense.proofs.Common.{cases_eq, cases_lt, column_of, entry, IsFilled, IsUnit, length, List, Option}
+use Rattle.determinize_dense.proofs.Common.{patterns_at, row_after, row_over, slice_index, sym, Table, [], ℕ}
+use Rattle.determinize_dense.proofs.Common.{◌+◌, ◌<◌, ◌∙◌, ◌∷◌, ◌≡◌, ◌≤◌}
+use Rattle.determinize_core.proofs.Common.{get_or-set_other, get_or-set_same, length-set, slice_set}
+use Rattle.std.proofs.lemmas.List.Sums.{sum_by-set}
+use Rattle.std.specs.Prelude.{sum_by}
+use Rattle.determinize_dense.proofs.Refining.{entry-below}
+use Rattle.determinize_dense.specs.Private.Minimizing.{AreDistances, AreDistancesSoFar, IsDistanceSoFar, ListsAfter}
+
+module _ (d : Table) (is : IsFilled d) (values : List ℕ) where
+  -- one unit more
+  lists-more : (r c n : ℕ) → c < d.class_count + 1 → ListsAfter d (entry d r c) n → ListsAfter d r (n + 1)
+  lists-more r c n inside after =
+      let k = is.units c inside in record {
+        us = k.0 ∷ after.us;
+        units = All-cons IsUnit k.0 after.us k.1 after.units;
+        count = grind (arith, after.count);
+        lists = rw k.2 after.lists;
+      }
+
+  path : AreDistances d values → (r : ℕ) → r < length d.patterns → IsDistanceSoFar d r (slice_index values r)
+  path are r inside = are.so_far.each r (omega (arith, inside, are.so_far.count))
+
+  -- no row that lists patterns is nearer
+  least : AreDistances d values → (us : List (Option ℕ)) (r : ℕ) → All IsUnit us → r < length d.patterns
+      → (patterns_at d (row_after d r us) ≡ [] → ⊥) → slice_index values r ≤ length us
+  least are [] r all inside lists = omega (arith, (path are r inside).listing lists)
+  least are (u ∷ us) r all inside lists =
+      let unit = All-head IsUnit u us all in
+      let rest = least are us (row_over d r u) (All-tail IsUnit u us all) (is.within r u inside unit) lists in
+      let short = are.short r inside (column_of d u) (is.column u unit) in omega (arith, rest, short)
+
+  -- a nearer row is apart
+  nearer : AreDistances d values → (r s : ℕ) → r < length d.patterns → s < length d.patterns
+      → slice_index values r < slice_index values s → AreApart d r s
+  nearer are r s h l less =
+      let k = (path are r h).lists (omega (arith, less, (path are s l).far)) in (
+        k.us,
+        k.units,
+        λ same. let far = least are k.us s k.units l (rw same at k.lists) in
+            absurd (omega (arith, far, less, k.count)),
+      )
+
+  -- rows of different distance are apart
+  pub apart-distance : AreDistances d values → (r s : ℕ) → r < length d.patterns → s < length d.patterns
+      → (AreEqual values r s → ⊥) → AreApart d r s
+  apart-distance are r s h l other = by_cases (cases_lt (slice_index values r) (slice_index values s))
+      (nearer are r s h l)
+      (λ more. let a = nearer are s r l h (grind (arith, more, other)) in (a.0, a.1, λ same. a.2 (sym same)))
+
+  module _ (row c distance : ℕ) (room : row < length d.patterns) (inside : c < d.class_count + 1)
+      (is_more : distance ≡ slice_index values (entry d row c) + 1) (shorter : distance < slice_index values row)
+      (so_far : AreDistancesSoFar d values) where
+    before : (r : ℕ) → r < length d.patterns → IsDistanceSoFar d r (slice_index values r)
+    before r h = so_far.each r (omega (arith, h, so_far.count))
+
+    -- a shorter distance
+    pub so_far-set : AreDistancesSoFar d (slice_set values row distance)
+    so_far-set = record {
+      count = length-set values row distance ∙ so_far.count;
+      each = λ r h. by_cases (cases_eq r row)
+          (λ e. rw (e, get_or-set_same values row distance 0 (omega (arith, room, so_far.count))) record {
+            far = omega (arith, shorter, (before row room).far);
+            lists = λ near. rw is_more (lists-more row c (slice_index values (entry d row c)) inside
+                ((before (entry d row c) (entry-below d is row c room inside)).lists (omega (arith, is_more, near))));
+            listing = λ lists. absurd (omega (arith, shorter, (before row room).listing lists));
+          })
+          (λ e. rw (get_or-set_other values row r distance 0 e)
+          (so_far.each r (rw (length-set values row distance) at h)));
+    }
+
+    pub less-set : sum_by (λ n. n) (slice_set values row distance) < sum_by (λ n. n) values
+    less-set =
+        let sum = sum_by-set (λ n. n) values row distance 0 (omega (arith, room, so_far.count)) in
+        omega (arith, sum, shorter)

@@ -1,0 +1,19 @@
+use Rattle.determinize_dense.proofs.Common.{length, slice_index, ℕ, ◌<◌, ◌≡◌, ◌≤◌}
+use Rattle.determinize_dense.specs.Private.Minimizing.{AreDistancesSoFar, IsDistanceSoFar}
+use Rattle.determinize_dense.proofs.rows.Rows.distances.Given as goal
+use Rattle.std.specs.Prelude.{sum_by}
+
+abbrev pub invariant-loop-row : goal.invariant-loop-row
+invariant-loop-row g l = record {
+  count : length l.distances.items ≡ l.row;
+  below : l.row ≤ length l.fn.self.table.patterns;
+  each : (r : ℕ) → r < length l.distances.items → IsDistanceSoFar l.fn.self.table r (slice_index l.distances.items r);
+}
+
+abbrev pub invariant-loop : goal.invariant-loop
+invariant-loop g l = record {
+  so_far : AreDistancesSoFar l.fn.self.table l.distances.items;
+}
+
+abbrev pub decreases-loop : goal.decreases-loop
+decreases-loop g l = sum_by (λ n. n) l.distances.items
