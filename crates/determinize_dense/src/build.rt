@@ -7,9 +7,9 @@
 //! - If each NFA state of a row has the same target on the byte of a column as on that of the
 //!   column before, one step mostly serves both.
 //! - A row mostly has the NFA states of an earlier row, its *base*, behind a few *further* ones. In
-//!   a column where none of these matches or has a target, its entry is that of the base. The base
-//!   is the unanchored start, to which a search returns at each position, or else the dead state,
-//!   which has no NFA states.
+//!   a column in which no further one matches or has a target, its entry is that of the base. The
+//!   base is the unanchored start, to which a search returns at each position, or else the dead
+//!   state, which has no NFA states.
 
 ghost use Rattle.std.specs.Prelude.{◌≡◌, ◌<◌, ◌≤◌, ◌+◌, ◌++◌, ◌*◌, ◌∷◌, [], Err, Some, IfOk, IfSome, IsTrue, OnOk, length, map, min, not, slice_get};
 ghost use Rattle.determinize_below.specs.Unit.{byte_of};

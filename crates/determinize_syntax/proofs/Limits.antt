@@ -117,7 +117,7 @@ right_after h right = record {
   twice = λ is text names. right.twice is text (h.named text names);
 }
 
--- an error of the depth, if as many groups and operators begin
+-- an error of the depth, if more than `levels` groups and operators begin
 pub deep_right : {levels : ℕ} {c : Context} {a : Bytes} {e : ParseError} → e.kind ≡ NestLimitExceeded
     → (levels ≤ NEST_LIMIT → levels < openings a) → IsRight levels c a e
 deep_right deep more = record {

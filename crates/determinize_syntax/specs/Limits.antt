@@ -12,7 +12,7 @@ openings text = count_by (λ c. c ∈ "(*+?{") text
 abbrev pub bracketed : Bytes → Bytes
 bracketed name = codes "<" ++ name ++ codes ">"
 
--- a name stands twice in the text between `<` and `>`, whether or not groups open there
+-- the text has a name twice between `<` and `>`, whether or not groups open there
 abbrev pub HasNameTwice : Bytes → Type 0
 HasNameTwice text = (name front between back : Bytes) × (is_name name ≡ true)
     × (text ≡ front ++ bracketed name ++ between ++ bracketed name ++ back)

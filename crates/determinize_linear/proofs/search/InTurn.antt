@@ -49,8 +49,8 @@ best_order nfa text at m best =
     each_run_reads_forward nfa text at nfa.start_anchored best.1.0 m.offset m.pattern best.1.1.accepts
 
 module _ (nfa : Nfa) (asked : Asked) where
-  -- all matches so far, where the next search begins at an index; `is_after` tells whether the last match ended there
-  -- and was not empty
+  -- all matches so far, where the next search begins at an index; `is_after`: the last match ended there and was not
+  -- empty
   pub record HasTurned (at : ℕ) (is_after : Bool) (ms : List Match) : Type 0 where
     pub start : ℕ
     pub before : Option ℕ

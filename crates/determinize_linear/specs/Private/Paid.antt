@@ -3,8 +3,8 @@ use Rattle.std.specs.Prelude.{◌≤◌, ◌+◌, ◌<◌, ℕ, None, Option, So
 use Rattle.determinize_below.specs.declared.search.HalfMatch.{HalfMatch}
 use Rattle.determinize_below.specs.declared.search.Match.{Match}
 
--- a search from a position on, which found a match with this end, took so many extra tries, and
--- else only tries that were left before and are no longer; at the end itself more may be left
+-- a search from a position on, which found a match with this end, took at most `extra` tries more
+-- than those that were left before and are no longer; at the end itself more may be left
 pub record IsPaid (left : ℕ → ℕ) (most left_before from end extra old new : ℕ) : Type 0 where
   pub low : from ≤ end
   pub further : (k : ℕ) → end < k → new + left k ≤ old + extra + left_before

@@ -31,7 +31,7 @@ pub record Passes (old : Context) (a : Bytes) (depth : ℕ) (new : Context) (b :
   pub deep : depth + openings b ≤ openings a
   pub named : (text : Bytes) → HasNames text old a → HasNames text new b
 
--- an error at a limit is right where a is still to read, and as many levels are left
+-- an error at a limit is right where a is still to read, and `levels` levels are left
 pub record IsRight (levels : ℕ) (old : Context) (a : Bytes) (e : ParseError) : Type 0 where
   pub nested : e.kind ≡ NestLimitExceeded → levels ≤ NEST_LIMIT → levels < openings a
   pub twice : e.kind ≡ GroupNameDuplicate → (text : Bytes) → HasNames text old a → HasNameTwice text
