@@ -258,7 +258,7 @@ fn find_all_with<N: Allocator, M: Allocator + Copy, A: Allocator + Copy, C: Coun
 /// The DFA must be for `MatchKind::LeftmostFirst`, and its NFA must read forward; it needs no
 /// prefix. The bytes next to the range are seen by assertions. The number of steps is linear in the
 /// length of the range, as [`find_all_counted`] says. The memory is, too: a bit for each row of the
-/// DFA, at each index of the range.
+/// DFA at each index of the range, and at most eight bytes for each entry of its table.
 pub fn find_all<N: Allocator, M: Allocator + Copy, A: Allocator + Copy>(
     alloc: A,
     dfa: &Dfa<'_, N, M>,
