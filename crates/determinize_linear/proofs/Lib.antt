@@ -1,2 +1,3 @@
 pub mod search
+pub mod tokens
 pub mod walks

@@ -1,4 +1,6 @@
 pub mod Followed
+pub mod Longest
 pub mod Preferred
+pub mod Rest
 pub mod Unset
 pub mod Walked

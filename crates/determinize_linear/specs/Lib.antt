@@ -1,2 +1,4 @@
+pub mod Laws
 pub mod Private
+pub mod Tokens
 pub mod Tries

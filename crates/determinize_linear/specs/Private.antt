@@ -1,4 +1,5 @@
 pub mod Following
+pub mod Found
 pub mod Left
 pub mod Marks
 pub mod Paid

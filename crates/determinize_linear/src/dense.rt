@@ -10,7 +10,7 @@
 //! No later walk is at the position where a walk begins, except to begin there. So its first step
 //! marks nothing, and neither does the last one of a walk that reads the whole text.
 
-ghost use Rattle.std.specs.Prelude.{◌≡◌, ℕ, ◌*◌, ◌<◌, ◌≤◌, ◌-◌, ◌+◌, ◌^◌, ◌⊎◌, All, IfOk, IsTrue, None, Some, false, length, option_map, true};
+ghost use Rattle.std.specs.Prelude.{◌≡◌, ℕ, ◌*◌, ◌<◌, ◌≤◌, ◌-◌, ◌+◌, ◌^◌, ◌⊎◌, All, IfOk, IsTrue, None, Some, false, length, true};
 ghost use Rattle.determinize_below.specs.Nfa.{IsAccepted};
 ghost use Rattle.determinize_below.specs.Semantics.{before_at};
 ghost use Rattle.determinize_below.specs.Truth.{IsUnit};
@@ -21,8 +21,8 @@ ghost use Rattle.determinize_dense.specs.Reading.{IsDead};
 ghost use Rattle.determinize_dense.specs.Table.{start_row};
 ghost use Rattle.determinize_engine.specs.Searches.{has_start};
 ghost use Rattle.determinize_find.specs.Matches.{AreMatches};
-ghost use Rattle.determinize_find.specs.Private.BestAt.{IsBestAt, from_index};
-ghost use Rattle.determinize_linear.specs.Private.Following.{IsWalkable, following, steps_left};
+ghost use Rattle.determinize_linear.specs.Private.Found.{IsFoundAt};
+ghost use Rattle.determinize_linear.specs.Private.Following.{IsWalkable, following, steps_left, unmarked};
 ghost use Rattle.determinize_linear.specs.Private.RowMarks.{bit_of, is_set};
 ghost use Rattle.determinize_linear.specs.Private.Walks.{HasStepped, HasWalked, IsWalked};
 ghost use Rattle.determinize_linear.specs.Tries.{most_steps};
@@ -175,10 +175,10 @@ fn walk_bytes<N: Allocator, M: Allocator + Copy, A: Allocator, C: Counter>(
     }
 }
 
-/// Returns the pattern and the end of the most preferred match that begins at a position of a text,
-/// if any.
+/// Returns the pattern and the end of the match that begins at a position of a text, if any: under
+/// `LeftmostFirst` of the most preferred one, and under `All` of the longest one.
 #[inline(always)]
-fn walk_from<N: Allocator, M: Allocator + Copy, A: Allocator, C: Counter>(
+pub(crate) fn walk_from<N: Allocator, M: Allocator + Copy, A: Allocator, C: Counter>(
     dfa: &Dfa<'_, N, M>,
     text: &Text<'_>,
     from: usize,
@@ -187,7 +187,7 @@ fn walk_from<N: Allocator, M: Allocator + Copy, A: Allocator, C: Counter>(
 ) -> Option<HalfMatch>
     requires within { from ≤ length text.now.bytes }
     requires walkable { IsWalkable dfa.now marks.old dfa.now.nfa text.now from }
-    ensures best { IsBestAt dfa.now.nfa text.now from (option_map (from_index from) result) }
+    ensures found { IsFoundAt dfa.now text.now from result }
     ensures walked { HasWalked dfa.now text.now from marks.old marks.new result
         (IsTrue C.counts) (C.total counter.old) (C.total counter.new) }
 {
@@ -201,6 +201,21 @@ fn walk_from<N: Allocator, M: Allocator + Copy, A: Allocator, C: Counter>(
     walk.found(dfa)
 }
 
+/// Returns marks for walks over a text, none of them set.
+pub(crate) fn new_marks<N: Allocator, M: Allocator + Copy, A: Allocator>(
+    alloc: A,
+    dfa: &Dfa<'_, N, M>,
+    text: &Text<'_>,
+) -> Result<RowMarks<A>, AllocError>
+    ensures walkable { IfOk result
+        (λ marks. (k : ℕ) → IsWalkable dfa.now marks dfa.now.nfa text.now k) }
+    ensures few { IfOk result (λ marks. unmarked dfa.now.table text.now marks
+        ≤ (length text.now.bytes + 1) * length dfa.now.table.patterns) }
+{
+    let columns = dfa.byte_classes().alphabet_len();
+    RowMarks::new(alloc, text.len() + 1, dfa.len(), columns)
+}
+
 /// Walks by one DFA over one text.
 #[derive(Drop)]
 struct Walks<'d, 'n, N: Allocator, M: Allocator, A: Allocator> {
@@ -209,7 +224,8 @@ struct Walks<'d, 'n, N: Allocator, M: Allocator, A: Allocator> {
 }
 
 impl<'d, 'n, M: Allocator + Copy, D: Allocator, A: Allocator> Matcher for Walks<'d, 'n, D, M, A> {
-    ghost is_ready = { λ w nfa text k. IsWalkable w.dfa.now w.marks nfa text k };
+    ghost is_ready = { λ w nfa text k. (w.dfa.now.kind ≡ kinds.LeftmostFirst)
+        × IsWalkable w.dfa.now w.marks nfa text k };
 
     ghost left = { λ w nfa text k. steps_left w.dfa.now.table text w.marks k };
 
@@ -247,8 +263,7 @@ fn find_all_with<N: Allocator, M: Allocator + Copy, A: Allocator + Copy, C: Coun
         return Ok(Vec::new(alloc));
     }
     let text = Text::of_input(input, false);
-    let columns = dfa.byte_classes().alphabet_len();
-    let marks = RowMarks::new(alloc, text.len() + 1, dfa.len(), columns)?;
+    let marks = new_marks(alloc, dfa, &text)?;
     let mut walks = Walks { dfa, marks };
     find_all_by(alloc, &mut walks, dfa.nfa(), input, &text, counter)
 }

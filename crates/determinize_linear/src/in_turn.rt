@@ -29,7 +29,7 @@ fn is_anchored<N: Allocator>(nfa: &NFA<N>, input: &Input<'_>) -> bool
 ///
 /// - `base` is the index where the text starts, and `at` the position where the match begins.
 #[inline(always)]
-fn push_moved<A: Allocator>(
+pub(crate) fn push_moved<A: Allocator>(
     found: &mut Vec<Match, A>,
     base: usize,
     at: usize,

@@ -4,13 +4,16 @@
 //! the same bytes again: all matches of `[^z]*z|a` over `aaa..` take quadratic time.
 //! Here the searches go from match to match, and stop where one before has found that no match
 //! follows. [`dense`] walks by a whole DFA, and marks pairs of a position and a row. [`linear`]
-//! goes depth first over pairs of a position and an NFA state, and needs no DFA.
+//! goes depth first over pairs of a position and an NFA state, and needs no DFA. [`lexer`] finds
+//! tokens by longest match, by the walks of [`dense`].
 #![tactic(auto)]
 
 mod assertions;
 mod choices;
 pub mod dense;
 mod in_turn;
+pub mod laws;
+pub mod lexer;
 pub mod linear;
 mod matcher;
 mod row_marks;

@@ -6,7 +6,8 @@
 //! - [`words`] returns a search for two patterns that owns them, and finds all their matches.
 //!   [`patterns`] finds the leftmost match of pattern values.
 //! - [`scanner`] finds all matches of a haystack, and [`lexer`] the longest token at each position.
-//!   [`steady`] finds all matches and never allocates while it runs.
+//!   [`tokens`] does so in linear time. [`steady`] finds all matches and never allocates while it
+//!   runs.
 //! - [`input`] finds whether a haystack has a match.
 //! - [`pieces`] finds all matches of patterns in a text of several pieces.
 //!   [`strings`] prints where strings in double quotes are in an input that it reads in pieces.
@@ -32,6 +33,7 @@ pub mod steady;
 pub mod steps;
 pub mod stored;
 pub mod strings;
+pub mod tokens;
 pub mod values;
 pub mod walk;
 pub mod words;

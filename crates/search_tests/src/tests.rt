@@ -21,6 +21,7 @@ mod reading;
 mod sizes;
 mod stored_walks;
 mod strings;
+mod tokens;
 mod trial;
 mod uses;
 

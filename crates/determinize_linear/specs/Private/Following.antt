@@ -3,7 +3,6 @@
 use Rattle.std.specs.Prelude.{◌≡◌, ◌+◌, ◌-◌, ◌<◌, ◌≤◌, ℕ, None, Option, drop, length, true}
 use Rattle.determinize_below.specs.Semantics.{Nfa, Text}
 use Rattle.determinize_below.specs.declared.search.HalfMatch.{HalfMatch}
-use Rattle.determinize_below.specs.declared.search.MatchKind.TheVariants.{LeftmostFirst}
 use Rattle.determinize_core.specs.Chain.{units}
 use Rattle.determinize_core.specs.Walk.{last_listed}
 use Rattle.determinize_dense.specs.Least.{HasRows}
@@ -24,7 +23,6 @@ NoneFollows d text k m = (at row : ℕ) → k ≤ at → at ≤ length text.byte
 pub record IsWalkable (dfa : DfaValue) (m : RowMarks) (nfa : Nfa) (text : Text) (k : ℕ) : Type 0
   where
     pub same : dfa.nfa ≡ nfa
-    pub kind : dfa.kind ≡ LeftmostFirst
     pub rows : HasRows dfa.nfa dfa.table
     pub bits : HasBits dfa.table (length text.bytes + 1) m
     pub none : NoneFollows dfa.table text k m

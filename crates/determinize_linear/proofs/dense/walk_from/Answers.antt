@@ -1,11 +1,10 @@
 use Rattle.std.proofs.Common.{◌≡◌, ◌∙◌, IsTrue, None, Option, Some, ap, arith, length, sym}
-use Rattle.std.specs.Prelude.{option_map}
 use Rattle.determinize_below.specs.declared.search.HalfMatch.{HalfMatch}
 use Rattle.determinize_engine.proofs.Texts.{unit-last}
-use Rattle.determinize_find.specs.Private.BestAt.{IsBestAt, from_index}
 use Rattle.determinize_linear.specs.Private.Following.{IsWalkable, following}
+use Rattle.determinize_linear.specs.Private.Found.{IsFoundAt}
 use Rattle.determinize_linear.specs.Private.Walks.{IsWalked, WalkValue}
-use Rattle.determinize_linear.proofs.walks.Preferred.{best_of_walk}
+use Rattle.determinize_linear.proofs.walks.Longest.{found_of_walk}
 use Rattle.determinize_linear.proofs.walks.Walked.{has_walked, none_past, walked_all, walked_more}
 use Rattle.determinize_linear.proofs.dense.walk_from.Given.{Over}
 use Rattle.determinize_linear.proofs.dense.walk_from.Goals.{After-len, After-step}
@@ -15,22 +14,22 @@ can : (g : Over) (c : After-len g) → IsWalkable c.new-walk.result.dfa c.args.m
     c.args.text.now c.new-walk.result.at
 can g c = rw c.new-walk.ensures.value c.requires.walkable
 
--- the last match that is listed behind the start of the walk is the best
-best : (g : Over) (c : After-len g) (found : Option HalfMatch)
+-- the last match that is listed behind the start of the walk is the one to find
+last_found : (g : Over) (c : After-len g) (found : Option HalfMatch)
     → found ≡ following c.new-walk.result.dfa.table c.args.text.now c.new-walk.result.at c.new-walk.result.row
-    → IsBestAt c.args.dfa.now.nfa c.args.text.now c.args.from (option_map (from_index c.args.from) found)
-best g c found is =
+    → IsFoundAt c.args.dfa.now c.args.text.now c.args.from found
+last_found g c found is =
     let e = c.new-walk.ensures in
     rw (is, e.value)
-    (best_of_walk c.args.dfa.now.nfa c.args.text.now c.args.from c.args.dfa.now.table e.accepted
-    (rw c.requires.walkable.kind at e.means) c.requires.within e.behind c.len.ensures.units)
+    (found_of_walk c.args.dfa.now c.args.text.now c.args.from e.accepted e.means c.requires.within e.behind
+    c.len.ensures.units)
 
-pub returns-then-walk-len-clause-best : goal.returns-then-walk-len-clause-best
-returns-then-walk-len-clause-best g c =
-    let l = (goal.at.returns-then-walk-len-clause-best g c).After-len in
+pub returns-then-walk-len-clause-found : goal.returns-then-walk-len-clause-found
+returns-then-walk-len-clause-found g c =
+    let l = (goal.at.returns-then-walk-len-clause-found g c).After-len in
     let at : c.walk.inside.at ≡ c.walk_bytes.new.walk.at = ap (λ (w : WalkValue). w.at) c.walk.view_is in
     let none = c.walk_bytes.ensures.ends (omega (arith, at, c.if-walk-len.true, c.len.ensures.value)) in
-    best g l c.found.result (c.found.ensures ∙ walked_all c.args.text.now c.new-walk.result c.args.marks.now (can g l)
+    last_found g l c.found.result (c.found.ensures ∙ walked_all c.args.text.now c.new-walk.result c.args.marks.now (can g l)
     (IsTrue g.C.Counter.counts) (g.C.Counter.total c.args.counter.now) c.walk_bytes.new.marks c.walk_bytes.new.walk 1 _
     c.walk_bytes.ensures.walked none)
 
@@ -57,11 +56,11 @@ none g c =
     (IsTrue g.C.Counter.counts) (g.C.Counter.total c.args.counter.now) c.walk_bytes.new.marks c.step.new.self 2 _
     (last g c) (omega (arith, at, c.if-walk-len.false, c.len.ensures.value, c.step.ensures.at))
 
-pub returns-clause-best : goal.returns-clause-best
-returns-clause-best g c =
-    let s = (goal.at.returns-clause-best g c).After-step in
-    let l = (goal.at.returns-clause-best g c).After-len in
-    best g l c.found-2.result (c.found-2.ensures ∙ walked_all c.args.text.now c.new-walk.result c.args.marks.now (can g l)
+pub returns-clause-found : goal.returns-clause-found
+returns-clause-found g c =
+    let s = (goal.at.returns-clause-found g c).After-step in
+    let l = (goal.at.returns-clause-found g c).After-len in
+    last_found g l c.found-2.result (c.found-2.ensures ∙ walked_all c.args.text.now c.new-walk.result c.args.marks.now (can g l)
     (IsTrue g.C.Counter.counts) (g.C.Counter.total c.args.counter.now) c.walk_bytes.new.marks c.step.new.self 2 _
     (last g s) (none g s))
 

@@ -9,20 +9,22 @@ use Rattle.determinize_linear.proofs.dense.WalksMatcher.search_from.Goals as goa
 pub walk_from-requires-clause-walkable : goal.walk_from-requires-clause-walkable
 walk_from-requires-clause-walkable g c =
     subst (λ (n : Nfa). IsWalkable c.args.self.now.dfa.now c.args.self.now.marks n c.args.text.now c.args.from)
-    (sym c.requires.ready.same) c.requires.ready
+    (sym c.requires.ready.1.same) c.requires.ready.1
 
 pub returns-clause-best : goal.returns-clause-best
 returns-clause-best g c =
     subst (λ (n : Nfa). IsBestAt n c.args.text.now c.args.from
-    (option_map (from_index c.args.from) c.walk_from.result)) c.requires.ready.same c.walk_from.ensures.best
+    (option_map (from_index c.args.from) c.walk_from.result)) c.requires.ready.1.same (c.walk_from.ensures.found.preferred c.requires.ready.0)
 
 pub returns-clause-within : goal.returns-clause-within
 returns-clause-within g c = c.walk_from.ensures.walked.within
 
 pub returns-clause-ready : goal.returns-clause-ready
-returns-clause-ready g c = λ k l.
-    subst (λ (n : Nfa). IsWalkable c.args.self.now.dfa.now c.walk_from.new.marks n c.args.text.now k)
-    c.requires.ready.same (c.walk_from.ensures.walked.walkable k l)
+returns-clause-ready g c = λ k l. (
+  c.requires.ready.0,
+  subst (λ (n : Nfa). IsWalkable c.args.self.now.dfa.now c.walk_from.new.marks n c.args.text.now k)
+      c.requires.ready.1.same (c.walk_from.ensures.walked.walkable k l),
+)
 
 pub returns-clause-paid : goal.returns-clause-paid
 returns-clause-paid g c = λ t. cost_some c.args.self.now.dfa.now c.args.text.now c.args.from c.args.self.now.marks

@@ -1,0 +1,72 @@
+-- The tokens of an input, by the longest matches in its text.
+-- Main statements: no_token, more_tokens, all_tokens, is_token, none_longer.
+-- Used by: `tokens_with`.
+-- Idea: the longest match from a position is that of the rest of the text, which is the text of the rest of the input.
+use Rattle.std.proofs.Common.{◌≡◌, ◌<◌, ◌≤◌, ◌+◌, ◌-◌, ◌++◌, ◌∙◌, ◌∷◌, ℕ, List, None, Option, Some, [], ap, append-nil}
+use Rattle.std.proofs.Common.{append_assoc, arith, false, length, refl, subst, sym}
+use Rattle.std.specs.Option.{IfSome}
+use Rattle.determinize_below.specs.Search.{Asked}
+use Rattle.determinize_below.specs.Semantics.{Accepts, Nfa, Text}
+use Rattle.determinize_below.specs.declared.search.HalfMatch.{HalfMatch}
+use Rattle.determinize_below.specs.declared.search.Match.{Match}
+use Rattle.determinize_core.specs.LastMatch.{IsFarthestMatch}
+use Rattle.determinize_core.proofs.walk.Farthest.{no_run_leaves_the_text}
+use Rattle.determinize_engine.specs.Searches.{text_of}
+use Rattle.determinize_find.specs.Matches.{from}
+use Rattle.determinize_find.proofs.leftmost.SearchInTurn.{text-since}
+use Rattle.determinize_find.proofs.matches.OneList.{length-range}
+use Rattle.determinize_nfa.specs.Runs.{since}
+use Rattle.determinize_linear.specs.Private.Found.{IsLongestAt, earlier}
+use Rattle.determinize_linear.specs.Private.Paid.{in_haystack}
+use Rattle.determinize_linear.specs.Tokens.{AreTokens, HasNoToken, IsToken}
+
+-- in no bytes there is none
+pub no_token : (nfa : Nfa) (asked : Asked) → asked.end ≤ length asked.haystack → asked.end ≤ asked.start
+    → HasNoToken nfa asked
+no_token nfa asked within past = λ cs i pattern acc. omega (
+  arith,
+  (no_run_leaves_the_text nfa nfa.start_anchored (text_of false asked) cs i).1 pattern acc,
+  length-range asked within,
+  past,
+)
+
+module _ (nfa : Nfa) (asked : Asked) where
+  -- the first tokens, which end at an index
+  abbrev pub AreFirstTokens : ℕ → List Match → Type 0
+  AreFirstTokens at ms = (rest : List Match) → AreTokens nfa (from asked at) rest → AreTokens nfa asked (ms ++ rest)
+
+  pub more_tokens : (at : ℕ) (ms : List Match) (m : Match) → AreFirstTokens at ms → IsToken nfa (from asked at) m
+      → AreFirstTokens m.end (ms ++ m ∷ [])
+  more_tokens at ms m first is = λ rest h. rw (append_assoc ms (m ∷ []) rest) (first (m ∷ rest) (is, h))
+
+  pub all_tokens : (at : ℕ) (ms : List Match) → AreFirstTokens at ms → HasNoToken nfa (from asked at)
+      → AreTokens nfa asked ms
+  all_tokens at ms first none = subst (λ l. AreTokens nfa asked l) (append-nil ms) (first [] none)
+
+  module _ (text : Text) (at : ℕ) (is : text ≡ text_of false asked) (within : asked.start + at ≤ asked.end) where
+    rest_is : since text at ≡ text_of false (from asked (asked.start + at))
+    rest_is = ap (λ w. since w at) is ∙ sym (text-since asked (from asked (asked.start + at)) at refl refl refl within)
+
+    -- the longest match from a position is a token
+    pub is_token : (m : HalfMatch) → IsLongestAt nfa text at (Some m) → at < m.offset
+        → IsToken nfa (from asked (asked.start + at)) (in_haystack asked.start at m)
+    is_token m longest l =
+        let size : m.offset - at ≡ asked.start + m.offset - (asked.start + at) = omega arith in
+        record {
+          start = refl;
+          nonempty = omega (arith, l);
+          longest = subst (λ n. IsFarthestMatch nfa nfa.start_anchored (text_of false (from asked (asked.start + at)))
+              (Some record { pattern = m.pattern; offset = n })) size
+              (subst (λ w. IsFarthestMatch nfa nfa.start_anchored w (Some (earlier at m))) rest_is longest);
+        }
+
+    -- and if it is empty, or there is none, no token begins there
+    pub none_longer : (found : Option HalfMatch) → IsLongestAt nfa text at found
+        → IfSome found (λ m. m.offset ≤ at) → HasNoToken nfa (from asked (asked.start + at))
+    none_longer None none empty = λ cs i pattern acc. absurd (none cs i pattern
+        (subst (λ w. Accepts nfa w nfa.start_anchored cs i pattern) (sym rest_is) acc))
+    none_longer (Some m) longest empty = λ cs i pattern acc. omega (
+      arith,
+      longest.1 cs i pattern (subst (λ w. Accepts nfa w nfa.start_anchored cs i pattern) (sym rest_is) acc),
+      empty,
+    )

@@ -1,0 +1,27 @@
+-- The tokens of an input.
+use Rattle.std.specs.Prelude.{◌≡◌, ◌-◌, ◌<◌, ℕ, List, Some, [], ◌∷◌, false}
+use Rattle.determinize_below.specs.Search.{Asked}
+use Rattle.determinize_below.specs.Semantics.{Accepts, Nfa}
+use Rattle.determinize_below.specs.declared.search.Match.{Match}
+use Rattle.determinize_core.specs.LastMatch.{IsFarthestMatch}
+use Rattle.determinize_engine.specs.Searches.{text_of}
+use Rattle.determinize_find.specs.Matches.{from}
+
+-- the token where a range starts: the longest match that begins there, of one byte or more; of the
+-- patterns that match up to its end it has that of the best run
+pub record IsToken (nfa : Nfa) (asked : Asked) (m : Match) : Type 0 where
+  pub start : m.start ≡ asked.start
+  pub nonempty : m.start < m.end
+  pub longest : IsFarthestMatch nfa nfa.start_anchored (text_of false asked)
+      (Some record { pattern = m.pattern; offset = m.end - m.start })
+
+-- no match of one byte or more begins where the range starts
+abbrev pub HasNoToken : Nfa → Asked → Type 0
+HasNoToken nfa asked = (cs : List ℕ) (i pattern : ℕ)
+    → Accepts nfa (text_of false asked) nfa.start_anchored cs i pattern → i ≡ 0
+
+-- the tokens from the start of a range on: each begins where the one before it ends, and none
+-- begins where the last one ends
+abbrev pub AreTokens : Nfa → Asked → List Match → Type 0
+AreTokens nfa asked [] = HasNoToken nfa asked
+AreTokens nfa asked (m ∷ ms) = IsToken nfa asked m × AreTokens nfa (from asked m.end) ms
