@@ -1,6 +1,7 @@
 use Rattle.determinize_dense.proofs.Common.{arith, DfaValue, HasCome, length, Reached, Text, ℕ, ◌<◌, ◌≤◌}
 use Rattle.determinize_dense.proofs.Searching.{come-dead, come-none, come-on, come-some, found-over, ordered}
 use Rattle.determinize_dense.proofs.dfa.Dfa.search_rest.Given.{Over}
+use Rattle.determinize_dense.proofs.dfa.Dfa.search_rest.Invariants.{begun}
 use Rattle.determinize_dense.proofs.dfa.Dfa.search_rest.Goals.{After-is_over, else-loop-at-2-test}
 use Rattle.determinize_dense.proofs.dfa.Dfa.search_rest.Goals.{then-loop-at-2-test+else-at-stop+else-at-self+else-at-ne0}
 use Rattle.determinize_dense.proofs.dfa.Dfa.search_rest.Goals.{then-loop-at-2-test+else-at-stop+else-at-self+then-at-ne0}
@@ -41,7 +42,8 @@ record IsBehind (d : DfaValue) (text : Text) (from at : Reached) (read : ℕ) : 
   more : read < at.read
 
 behind : (g : Over) (c : After-is_over g)
-    → IsBehind c.args.self.now c.args.text.now c.args.from c.loop-at-2-test.at c.loop-at.at.read
+    → IsBehind c.args.self.now c.args.text.now
+    (begun c.args.row c.args.read c.args.matched c.args.offset) c.loop-at-2-test.at c.loop-at.at.read
 behind g c =
     let before = c.loop-at-2.invariant in
     let order = ordered c.self.view_is c.self.invariant.ordered in
