@@ -1,5 +1,5 @@
 -- The tokens of an input, by the longest matches in its text.
--- Main statements: no_token, more_tokens, all_tokens, is_token, none_longer.
+-- Main statements: no_token, position_within, begins, more_tokens, all_tokens, is_token, none_longer.
 -- Used by: `tokens_with`.
 -- Idea: the longest match from a position is that of the rest of the text, which is the text of the rest of the input.
 use Rattle.std.proofs.Common.{◌≡◌, ◌<◌, ◌≤◌, ◌+◌, ◌-◌, ◌++◌, ◌∙◌, ◌∷◌, ℕ, List, None, Option, Some, [], ap, append-nil}
@@ -30,10 +30,19 @@ no_token nfa asked within past = λ cs i pattern acc. omega (
   past,
 )
 
+-- a position of the text is an index of the range
+pub position_within : (asked : Asked) (text : Text) (at : ℕ) → text ≡ text_of false asked
+    → asked.end ≤ length asked.haystack → asked.start ≤ asked.end → at ≤ length text.bytes → asked.start + at ≤ asked.end
+position_within asked text at is within order l =
+    omega (arith, ap (λ (t : Text). length t.bytes) is, length-range asked within, within, order, l)
+
 module _ (nfa : Nfa) (asked : Asked) where
   -- the first tokens, which end at an index
   abbrev pub AreFirstTokens : ℕ → List Match → Type 0
   AreFirstTokens at ms = (rest : List Match) → AreTokens nfa (from asked at) rest → AreTokens nfa asked (ms ++ rest)
+
+  pub begins : AreFirstTokens (asked.start + 0) []
+  begins = let none : asked.start + 0 ≡ asked.start = omega arith in λ rest h. rw none at h
 
   pub more_tokens : (at : ℕ) (ms : List Match) (m : Match) → AreFirstTokens at ms → IsToken nfa (from asked at) m
       → AreFirstTokens m.end (ms ++ m ∷ [])

@@ -2,7 +2,7 @@
 -- Main statements: each_tokens_are_one.
 -- Used by: `tokens_law`.
 -- Idea: two longest matches end at one position, where a walk lists the patterns in one order.
-use Rattle.std.proofs.Common.{◌≡◌, ◌+◌, ◌-◌, ◌≤◌, ◌∙◌, ◌∷◌, ℕ, List, [], ap, arith, false, refl, subst, sym}
+use Rattle.std.proofs.Common.{◌≡◌, ◌+◌, ◌-◌, ◌≤◌, ◌∙◌, ◌∷◌, ℕ, List, [], arith, false, refl, subst, sym}
 use Rattle.determinize_below.specs.Search.{Asked}
 use Rattle.determinize_below.specs.Semantics.{Accepts, Nfa}
 use Rattle.determinize_below.specs.declared.search.Match.{Match}
@@ -33,7 +33,7 @@ module _ (nfa : Nfa) (asked : Asked) where
       (subst (λ i. ListsAccepted nfa (text_of false asked) nfa.start_anchored i (n.pattern ∷ b.longest.0.0)) size
       b.longest.0.1) in
       let patterns : m.pattern ≡ n.pattern = cc in
-      ap (λ i. record { pattern = patterns i; start = starts i; end = ends i })
+      λ i. record { pattern = patterns i; start = starts i; end = ends i }
 
   -- where no token begins none does
   none_or_one : (m : Match) → HasNoToken nfa asked → IsToken nfa asked m → ⊥

@@ -197,7 +197,6 @@ module _ (text : Text) (first : WalkValue) (old : RowMarks)
         within = is.within;
         walkable = λ k l. record {
           same = refl;
-          kind = can.kind;
           rows = can.rows;
           bits = bits;
           none = λ p r i n b e. followed_end first.dfa.table text m first.at now.at now.row now.found _ is.followed none p
