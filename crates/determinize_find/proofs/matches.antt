@@ -1,4 +1,3 @@
-pub mod CoveredStarts
 pub mod InputMatches
 pub mod NextMatch
 pub mod OneList

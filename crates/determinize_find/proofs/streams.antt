@@ -1,7 +1,6 @@
+pub mod Begun
 pub mod Certain
-pub mod Finish
-pub mod FirstMatch
+pub mod Cuts
 pub mod Kept
-pub mod Moves
 pub mod Rests
 pub mod Steps

@@ -5,6 +5,7 @@ ghost use Rattle.determinize_find.specs.Laws.{EachAnchoredIsLeftmost, EachBusyHa
 pub use determinize_nfa::laws::{mirror_law, shift_law};
 
 /// A text has at most one leftmost match.
+#[tactic(auto, using(crate::proofs::matches::OneList::each_leftmost_is_one))]
 pub fn leftmost_law()
     ensures { EachLeftmostIsOne }
 {}
@@ -12,6 +13,7 @@ pub fn leftmost_law()
 /// The preferred match from the unanchored start of an NFA with the usual prefix has the pattern
 /// and the end of the leftmost match; if there is no preferred match, there is no leftmost one.
 /// From the anchored start, the same holds of the leftmost match that begins with the text.
+#[tactic(auto, using(crate::proofs::leftmost::PreferredRun::each_preferred_is_leftmost, crate::proofs::leftmost::PreferredRun::each_anchored_is_leftmost))]
 pub fn prefix_law()
     ensures unanchored { EachPreferredIsLeftmost }
     ensures anchored { EachAnchoredIsLeftmost }
@@ -21,6 +23,7 @@ pub fn prefix_law()
 /// range, do not overlap, and each ends later than the one before. In an input that is not anchored
 /// none is passed over: where a run begins that accepts, a match of the list contains the index, or
 /// ends there and the leftmost match from there on is empty.
+#[tactic(auto, using(crate::proofs::matches::OneList::each_leftmost_in_is_one, crate::proofs::matches::OneList::each_matches_are_one, crate::proofs::matches::OneList::each_matches_are_apart, crate::proofs::matches::InputMatches::each_input_has_matches, crate::proofs::matches::InputMatches::each_start_is_covered))]
 pub fn matches_law()
     ensures leftmost { EachLeftmostInIsOne }
     ensures one { EachMatchesAreOne }

@@ -2,11 +2,18 @@
 -- Main statements: from_start, to_start, each_preferred_is_leftmost, each_anchored_is_leftmost.
 -- Used by: `laws::prefix_law`, TwoSearches, InputMatches, Certain, Fresh, and ListsOfPatterns of `determinize_regex`.
 -- Idea: after the prefix a run that skips fewer bytes is preferred, so the preferred run begins leftmost.
-use Rattle.determinize_find.proofs.Common.{Accepts, AcceptsFrom, All, ap, arith, Before, Before-asym, by_cases}
+use Rattle.determinize_find.proofs.Common.{Accepts, AcceptsFrom, All, ap, arith, Before, Before-asym}
 use Rattle.determinize_find.proofs.Common.{EachAnchoredIsLeftmost, EachPreferredIsLeftmost, end_of, HalfMatch}
 use Rattle.determinize_find.proofs.Common.{HasPrefix, IsLeftmost, IsPreferredRun, length, List, Match, Nfa, None}
-use Rattle.determinize_find.proofs.Common.{Option, option_map, pattern_in, refl, shape, skip, skip_before}
-use Rattle.determinize_find.proofs.Common.{skip_same, Some, Text, true_at, unshape, ℕ, ◌+◌, ◌<◌, ◌∷◌, ◌≡◌, ◌≤◌, ◌⊎◌}
+use Rattle.determinize_find.proofs.Common.{NothingFrom, Option, option_map, pattern_in, preferred, refl, shape, skip}
+use Rattle.determinize_find.proofs.Common.{skip_before, skip_same, Some, Text, true_at, unshape, ℕ, ◌+◌, ◌<◌, ◌∷◌, ◌≡◌}
+use Rattle.determinize_find.proofs.Common.{◌≤◌, ◌⊎◌}
+use Rattle.determinize_find.specs.Private.BestAt.{IsBestFrom}
+use Rattle.determinize_find.proofs.leftmost.SearchInTurn.{leftmost_match}
+
+-- of two runs, of which the first is the same as the second or before it, the second is not before the first
+pub not_before : {cs ds : List ℕ} → (cs ≡ ds) ⊎ Before cs ds → Before ds cs → ⊥
+not_before {cs} {ds} least before = grind (arith, Before-asym cs ds, Before-asym cs cs)
 
 module _ (nfa : Nfa) (text : Text) (has : HasPrefix nfa) (small : All (λ b. b < 256) text.bytes) where
   -- a run from the anchored start at a position is one from the unanchored start
@@ -30,25 +37,15 @@ module _ (nfa : Nfa) (text : Text) (has : HasPrefix nfa) (small : All (λ b. b <
       → (m : Option Match) × IsLeftmost nfa text (length text.bytes) m × (Some h ≡ option_map end_of m)
   preferred_one h cs r =
       let (k, within, ds, is, accepts) = to_start cs h.offset h.pattern r.accepts in
-      let preferred : (j : ℕ) (es : List ℕ) (i y : ℕ) → j ≤ length text.bytes
+      let m : Match = record { pattern = h.pattern; start = k; end = h.offset } in
+      let first : (j : ℕ) (es : List ℕ) (i y : ℕ) → j ≤ length text.bytes
       → AcceptsFrom nfa text j nfa.start_anchored es i y → (skip k ds ≡ skip j es) ⊎ Before (skip k ds) (skip j es)
-      = λ j es i y l acc. rw is at (r.preferred (skip j es) i y (from_start j es i y l acc)) in (
-        Some record { pattern = h.pattern; start = k; end = h.offset },
-        (
-          within,
-          record {
-            leftmost = λ j l es i y acc.
-                let first = skip_before j k es (0 ∷ ds) l in
-                by_cases (preferred j es i y (omega arith) acc)
-                (λ e. let same = rw e at first in Before-asym (skip j es) (skip j es) same same)
-                (λ b. Before-asym (skip k ds) (skip j es) b first);
-            choices = ds;
-            accepts = accepts;
-            preferred = λ es i y acc. skip_same k ds es (preferred k es i y within acc);
-          },
-        ),
-        refl,
-      )
+      = λ j es i y l acc. rw is at (r.preferred (skip j es) i y (from_start j es i y l acc)) in
+      let best : IsBestFrom nfa text k ds h.offset h.pattern
+      = record { accepts = accepts; preferred = λ es i y acc. skip_same k ds es (first k es i y within acc) } in
+      let none : (j : ℕ) → j < k → NothingFrom nfa text j
+      = λ j l es i y acc. not_before (first j es i y (omega arith) acc) (skip_before j k es (0 ∷ ds) l) in
+      (Some m, (within, leftmost_match m ds none best), refl)
 
 pub each_preferred_is_leftmost : EachPreferredIsLeftmost
 each_preferred_is_leftmost nfa has text small None p =
@@ -58,16 +55,7 @@ each_preferred_is_leftmost nfa has text small (Some h) (cs, r) = preferred_one n
 pub each_anchored_is_leftmost : EachAnchoredIsLeftmost
 each_anchored_is_leftmost nfa text None p =
     (None, λ k l cs i y acc. let z : k ≡ 0 = omega arith in p cs i y (rw z at acc), refl)
-each_anchored_is_leftmost nfa text (Some h) (cs, r) = (
-  Some record { pattern = h.pattern; start = 0; end = h.offset },
-  (
-    omega arith,
-    record {
-      leftmost = λ k l es i y acc. absurd (omega arith);
-      choices = cs;
-      accepts = r.accepts;
-      preferred = r.preferred;
-    },
-  ),
-  refl,
-)
+each_anchored_is_leftmost nfa text (Some h) (cs, r) =
+    let m : Match = record { pattern = h.pattern; start = 0; end = h.offset } in
+    let best : IsBestFrom nfa text 0 cs h.offset h.pattern = record { accepts = r.accepts; preferred = r.preferred } in
+    (Some m, (omega arith, leftmost_match m cs (λ k l. absurd (omega arith)) best), refl)

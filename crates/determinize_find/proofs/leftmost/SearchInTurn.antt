@@ -1,18 +1,77 @@
--- Anchored searches from one index after another find the leftmost match.
--- Main statements: text-since, best_in, more_nothing, found_here, found_last.
--- Used by: `plain::find_at` and `find_in_turn`, CoveredStarts, Rests, and the searches in turn of `determinize_linear`.
--- Idea: the text from a later index is the rest of the text (LaterRuns), and the first index with a match is the least
--- one where a run accepts.
-use Rattle.determinize_find.proofs.Common.{Accepts, AcceptsFrom, ap, arith, Asked, asked_of, before, before_at, between}
+-- Runs from a later position, the leftmost match of an input as one of the text of its range, and anchored searches
+-- from one index after another.
+-- Main statements: later_run, run_within, in_text, none_in_text, leftmost_in, found_past, text-since, best_in,
+-- more_nothing, found_here, found_last.
+-- Used by: `plain::find_at` and `find_in_turn`, all that says what the leftmost match of an input is, and the searches in
+-- turn of `determinize_linear`.
+-- Idea: a run from a later position keeps its choices over the rest of the text (Shifts); the text from a later index is
+-- the rest of the text; and the first index with a match is the least one where a run accepts.
+use Rattle.determinize_find.proofs.Common.{Accepts, AcceptsFrom, ap, arith, Asked, asked_of, before_at, between}
 use Rattle.determinize_find.proofs.Common.{by_cases, byte_before, cases_lt, cond, drop, drop-drop, drop-take}
-use Rattle.determinize_find.proofs.Common.{each_run_moves, false, from, HalfMatch, is_anchored, IsLeftmost}
-use Rattle.determinize_find.proofs.Common.{IsLeftmostIn, IsSearchResult, latest, le-ltb, LeftmostFirst, List, Match}
-use Rattle.determinize_find.proofs.Common.{moved, nat_tests, Nfa, None, NothingFrom, Option, option_map}
-use Rattle.determinize_find.proofs.Common.{refl, since, slice_get, slice_get-drop, slice_get-take, slice_range, Some}
-use Rattle.determinize_find.proofs.Common.{suc, Text, text_of, Yes, zero, ℕ, ◌+◌, ◌-◌, ◌<◌, ◌∙◌, ◌≡◌, ◌≤◌}
-use Rattle.determinize_find.specs.Private.BestAt.{from_index, IsBestAt, IsBestIn}
-use Rattle.determinize_find.proofs.leftmost.Inputs.{leftmost_in}
-use Rattle.determinize_find.proofs.runs.LaterRuns.{later_run}
+use Rattle.determinize_find.proofs.Common.{each_run_moves, each_run_reads_forward, false, from, HalfMatch, is_anchored}
+use Rattle.determinize_find.proofs.Common.{IsLeftmost, IsLeftmostIn, IsLeftmostMatch, IsSearchResult, latest, le-ltb}
+use Rattle.determinize_find.proofs.Common.{LeftmostFirst, length, length-drop, List, lt-ltb, ltb-false, ltb-true, Match}
+use Rattle.determinize_find.proofs.Common.{moved, nat_tests, Nfa, no_run_leaves_the_text, None, none-some, NothingFrom}
+use Rattle.determinize_find.proofs.Common.{Option, option_map, preferred, refl, since, slice_get, slice_get-drop}
+use Rattle.determinize_find.proofs.Common.{slice_get-take, slice_range, Some, some_injective, suc, sym, Text, text_of}
+use Rattle.determinize_find.proofs.Common.{Yes, zero, ℕ, ◌+◌, ◌-◌, ◌<◌, ◌∙◌, ◌≡◌, ◌≤◌}
+use Rattle.determinize_find.specs.Private.BestAt.{from_index, IsBestAt, IsBestFrom, IsBestIn}
+
+-- a run from a later position is one over the text from an earlier one on
+pub later_run : (nfa : Nfa) (text : Text) (n j : ℕ) {k : ℕ} → k ≡ n + j → (cs : List ℕ) (i pattern : ℕ)
+    → AcceptsFrom nfa text k nfa.start_anchored cs i pattern
+    → AcceptsFrom nfa (since text n) j nfa.start_anchored cs (i - n) pattern
+later_run nfa text n j {k} at cs i y acc =
+    let low = each_run_reads_forward nfa text k nfa.start_anchored cs i y acc in
+    let end : n + (i - n) ≡ i = omega arith in
+    (each_run_moves nfa text n j nfa.start_anchored cs (i - n) y).0 (rw (← at, end) acc)
+
+-- a run ends within the text
+pub run_within : (nfa : Nfa) (text : Text) (k : ℕ) (cs : List ℕ) (i pattern : ℕ) → k ≤ length text.bytes
+    → AcceptsFrom nfa text k nfa.start_anchored cs i pattern → i ≤ length text.bytes
+run_within nfa text k cs i y l acc =
+    let rest = (no_run_leaves_the_text nfa nfa.start_anchored (since text k) cs (i - k)).1 y
+    (later_run nfa text k 0 (omega arith) cs i y acc) in omega (arith, length-drop k text.bytes)
+
+-- the match of the text that is this match of the haystack
+pub record IsInText (nfa : Nfa) (asked : Asked) (m : Match) : Type 0 where
+  pub order : asked.start ≤ asked.end
+  pub match : Match
+  pub early : match.start ≤ latest nfa asked
+  pub leftmost : IsLeftmostMatch nfa (text_of false asked) match
+  pub start : m.start ≡ asked.start + match.start
+  pub end : m.end ≡ asked.start + match.end
+
+pub in_text : {nfa : Nfa} {asked : Asked} {m : Match} → IsLeftmostIn nfa asked (Some m) → IsInText nfa asked m
+in_text {nfa} {asked} {m} h = by_cases (cases_lt asked.end asked.start)
+    (λ l. absurd (none-some m (sym (h.done (lt-ltb _ _ l)))))
+    (λ l. go l (h.found (le-ltb _ _ l)))
+  where
+    go : asked.start ≤ asked.end → ((o : Option Match) × IsLeftmost nfa (text_of false asked) (latest nfa asked) o
+        × (Some m ≡ option_map (moved asked.start) o)) → IsInText nfa asked m
+    go l (None, is, e) = cc
+    go l (Some n, (early, is), e) =
+        rw (some_injective m _ e) record { order = l; match = n; early = early; leftmost = is; start = refl; end = refl }
+
+-- without a match the text has none
+pub none_in_text : {nfa : Nfa} {asked : Asked} → IsLeftmostIn nfa asked None → asked.start ≤ asked.end
+    → IsLeftmost nfa (text_of false asked) (latest nfa asked) None
+none_in_text {nfa} {asked} h l = go (h.found (le-ltb _ _ l))
+  where
+    go : ((o : Option Match) × IsLeftmost nfa (text_of false asked) (latest nfa asked) o
+        × (None ≡ option_map (moved asked.start) o)) → IsLeftmost nfa (text_of false asked) (latest nfa asked) None
+    go (None, is, e) = is
+    go (Some n, is, e) = cc
+
+-- the leftmost match of the text is that of the input
+pub leftmost_in : (nfa : Nfa) (asked : Asked) (o : Option Match) → asked.start ≤ asked.end
+    → IsLeftmost nfa (text_of false asked) (latest nfa asked) o
+    → IsLeftmostIn nfa asked (option_map (moved asked.start) o)
+leftmost_in nfa asked o l is = record { done = λ d. absurd (omega (arith, ltb-true _ _ d)); found = λ d. (o, is, refl) }
+
+-- and a range that starts past its end has none
+pub found_past : (nfa : Nfa) (asked : Asked) → asked.end < asked.start → IsLeftmostIn nfa asked None
+found_past nfa asked l = record { done = λ d. refl; found = λ d. absurd (omega (arith, ltb-false _ _ d)) }
 
 -- the range from a later start on is the rest of the range
 range-since : (xs : List ℕ) (start k end : ℕ) → start + k ≤ end
@@ -58,24 +117,18 @@ module _ (nfa : Nfa) (asked : Asked) (at : ℕ) (forward : nfa.reverse ≡ false
   best_in None s =
       (None, λ cs i pattern acc. s.none (le-ltb _ _ high) (cs, i - base, pattern, here cs i pattern acc), refl)
   best_in (Some h) s =
-      let p = s.preferred refl in
-      let offset : h.offset ≡ at + p.1 = rw forward at p.2 in
+      let (cs, i, is, run) = s.preferred refl in
+      let offset : h.offset ≡ at + i = rw forward at is in
+      let z : base + 0 ≡ base = omega arith in
+      let accepts = rw z at ((each_run_moves nfa (text_of false asked) base 0 nfa.start_anchored cs i h.pattern).1
+      (rw text_is at run.accepts)) in
+      let preferred = λ (ds : List ℕ) (j y : ℕ) (acc : AcceptsFrom nfa (text_of false asked) base nfa.start_anchored ds j y).
+      run.preferred ds (j - base) y (here ds j y acc) in
       let start : at ≡ asked.start + base = omega arith in
-      let end : h.offset ≡ asked.start + (base + p.1) = omega arith in
-      let z : base + 0 ≡ base = omega arith in (
-        Some record { pattern = h.pattern; start = base; end = base + p.1 },
-        (
-          refl,
-          (
-            p.0,
-            record {
-              accepts = rw z at ((each_run_moves nfa (text_of false asked) base 0 nfa.start_anchored p.0 p.1
-                  h.pattern).1 (rw text_is at p.3.accepts));
-              preferred = λ ds j other acc. p.3.preferred ds (j - base) other (here ds j other acc);
-            },
-          ),
-        ),
-        ap Some (λ i. record { pattern = h.pattern; start = start i; end = end i }),
+      let end : h.offset ≡ asked.start + (base + i) = omega arith in (
+        Some record { pattern = h.pattern; start = base; end = base + i },
+        (refl, (cs, record { accepts = accepts; preferred = preferred })),
+        ap Some (λ n. record { pattern = h.pattern; start = start n; end = end n }),
       )
 
 -- no match begins in the range before an index
@@ -92,7 +145,14 @@ more_nothing nfa now asked at e l before best k m = by_cases (cases_lt (asked.st
     nothing (None, is, e) = is
     nothing (Some y, is, e) = cc
 
--- a match at a position before which none begins is the leftmost, and so is none at the last position
+-- the most preferred match that begins at a position, where none begins before, is the leftmost
+pub leftmost_match : {nfa : Nfa} {text : Text} (m : Match) (cs : List ℕ)
+    → ((k : ℕ) → k < m.start → NothingFrom nfa text k) → IsBestFrom nfa text m.start cs m.end m.pattern
+    → IsLeftmostMatch nfa text m
+leftmost_match m cs none best =
+    record { leftmost = none; choices = cs; accepts = best.accepts; preferred = best.preferred }
+
+-- and so is none at the last position
 best_leftmost : (nfa : Nfa) (text : Text) (k late : ℕ) (o : Option Match) → k ≤ late
     → ((j : ℕ) → j < k → NothingFrom nfa text j) → IsBestAt nfa text k o → (o ≡ None → k ≡ late)
     → IsLeftmost nfa text late o
@@ -100,15 +160,7 @@ best_leftmost nfa text k late None l none best last = λ j m. by_cases (cases_lt
     (none j)
     (λ i. let z : k ≡ j = omega (arith, last refl) in rw z at best)
 best_leftmost nfa text k late (Some m) l none (start, (cs, best)) last =
-    let own = rw (← start) at best in (
-      omega arith,
-      record {
-        leftmost = λ j i. none j (omega arith);
-        choices = cs;
-        accepts = own.accepts;
-        preferred = own.preferred;
-      },
-    )
+    (omega arith, leftmost_match m cs (λ j i. none j (omega arith)) (rw (← start) at best))
 
 -- the first index with a match has the leftmost one, and after the last index there is none
 found_in_turn : (nfa : Nfa) (asked : Asked) (at : ℕ) (answer : Option Match) → asked.start ≤ at → at ≤ asked.end

@@ -2,12 +2,12 @@
 -- Main statements: next_plain, next_further, fewer, one_more, all_found, after_one, after_all.
 -- Used by: the loops over all matches of this crate and of determinize_linear, InputMatches and Steps.
 -- Idea: a list of all matches from the cursor on, after what was found, is the list of all matches.
-use Rattle.determinize_find.proofs.Common.{ap, append-nil, append_assoc, AreMatches, arith, Asked, before, false, from}
+use Rattle.determinize_find.proofs.Common.{ap, append-nil, append_assoc, AreMatches, arith, Asked, false, from}
 use Rattle.determinize_find.proofs.Common.{is_touching, IsLeftmostIn, IsNext, left, length, List, Match, Nfa, None}
 use Rattle.determinize_find.proofs.Common.{Option, refl, SearcherValue, Some, true, [], ℕ, ◌++◌, ◌+◌, ◌<◌, ◌∷◌, ◌≡◌}
 use Rattle.determinize_find.proofs.Common.{◌≤◌}
 use Rattle.determinize_find.specs.Cursors.{after_match}
-use Rattle.determinize_find.proofs.matches.OneList.{next_lies}
+use Rattle.determinize_find.proofs.matches.OneList.{LiesIn, next_lies}
 
 pub next_plain : (nfa : Nfa) (asked : Asked) (before : Option ℕ) (first : Option Match) → IsLeftmostIn nfa asked first
     → is_touching before first ≡ false → IsNext nfa asked before first
@@ -23,10 +23,10 @@ next_further nfa now asked further before first found n f x t y = grind arith
 pub fewer : (nfa now : Nfa) (asked rest : Asked) (start : ℕ) (before : Option ℕ) (m : Match) → now ≡ nfa
     → rest ≡ from asked start → asked.end ≤ length asked.haystack
     → ((last : ℕ) → before ≡ Some last → last ≡ start) → IsNext now rest before (Some m)
-    → (left asked.end m.end (Some m.end) < left asked.end start before) × (m.end ≤ asked.end)
+    → (left asked.end m.end (Some m.end) < left asked.end start before) × LiesIn (from asked start) m
 fewer nfa now asked rest start before m e r l starts n =
     let y = next_lies now (from asked start) before m l starts (rw r at n) in
-    (grind (arith, y.later, starts, y.low, y.order, y.high), y.high)
+    (grind (arith, y.1, starts, y.0.low, y.0.order, y.0.high), y.0)
 
 -- what was found so far, before all that is left; `initial` is the end of a match before all of them
 abbrev pub AreFirst : Nfa → Asked → Option ℕ → ℕ → Option ℕ → List Match → Type 0
@@ -60,7 +60,8 @@ after_none nfa asked initial s ms e n last = rw (e, n) record { rest = refl; las
 -- one match more, within the range, and a cursor with fewer indices before it
 abbrev pub IsOneMore : Nfa → Asked → Option ℕ → SearcherValue → SearcherValue → List Match → Match → Type 0
 IsOneMore nfa asked initial s new ms m = IsAfter nfa asked initial new (ms ++ m ∷ [])
-    × (left asked.end new.asked.start new.before < left asked.end s.asked.start s.before) × (m.end ≤ asked.end)
+    × (left asked.end new.asked.start new.before < left asked.end s.asked.start s.before)
+    × LiesIn (from asked s.asked.start) m
 
 pub after_one : {initial : Option ℕ} (nfa now : Nfa) (asked : Asked) (s new : SearcherValue) (ms : List Match)
     (m : Match) → now ≡ nfa → asked.end ≤ length asked.haystack → IsAfter nfa asked initial s ms

@@ -1,16 +1,40 @@
--- All matches of an input are one list; they lie in the range, do not overlap, and end one after another.
--- Main statements: each_matches_are_one, each_matches_are_apart, lies, next_lies.
--- Used by: `laws::matches_law`, both searches of TwoSearches, the steps of `Pieces`, and loops over all matches.
--- Idea: each match is determined by the end of the one before (OnlyOne).
-use Rattle.determinize_find.proofs.Common.{ap, AreApart, AreMatches, arith, Asked, before, by_test}
-use Rattle.determinize_find.proofs.Common.{each_run_reads_forward, EachLeftmostInIsOne, EachMatchesAreApart}
-use Rattle.determinize_find.proofs.Common.{EachMatchesAreOne, false, from, is_done, IsLeftmostIn, IsNext, IsTaken}
-use Rattle.determinize_find.proofs.Common.{length, length-drop, length-take, List, Match, moved, nat_tests, Nfa, None}
-use Rattle.determinize_find.proofs.Common.{none-some, Option, option_map, refl, slice_range, Some, some_injective, sym}
-use Rattle.determinize_find.proofs.Common.{text_of, touches, [], ℕ, ◌+◌, ◌-◌, ◌<◌, ◌∙◌, ◌∷◌, ◌≡◌, ◌≤◌}
-use Rattle.determinize_find.proofs.leftmost.Inputs.{in_text}
-use Rattle.determinize_find.proofs.leftmost.OnlyOne.{each_leftmost_is_one}
-use Rattle.determinize_find.proofs.runs.LaterRuns.{run_within}
+-- An input has at most one leftmost match, and its matches are one list: they lie in the range, do not overlap, and end
+-- one after another.
+-- Main statements: each_leftmost_is_one, each_leftmost_in_is_one, each_matches_are_one, each_matches_are_apart, lies,
+-- next_lies.
+-- Used by: `laws::leftmost_law` and `matches_law`, TwoSearches, the steps of `Pieces`, and loops over all matches.
+-- Idea: neither of two leftmost matches may begin before the other, and of the runs from one position the least accepting
+-- one is one; each match is determined by the end of the one before.
+use Rattle.determinize_find.proofs.Common.{ap, AreApart, AreMatches, arith, Asked, by_cases, by_test, cases_order}
+use Rattle.determinize_find.proofs.Common.{choices, each_run_reads_forward, EachLeftmostInIsOne, EachLeftmostIsOne}
+use Rattle.determinize_find.proofs.Common.{EachMatchesAreApart, EachMatchesAreOne, false, from, is_done, IsLeftmostIn}
+use Rattle.determinize_find.proofs.Common.{IsLeftmostMatch, IsNext, IsTaken, latest, length, length-drop, length-take}
+use Rattle.determinize_find.proofs.Common.{List, Match, moved, nat_tests, Nfa, None, none-some, Option, option_map}
+use Rattle.determinize_find.proofs.Common.{refl, same_least, slice_range, Some, some_injective, sym, Text, text_of}
+use Rattle.determinize_find.proofs.Common.{touches, [], ℕ, ◌+◌, ◌-◌, ◌<◌, ◌∙◌, ◌∷◌, ◌≡◌, ◌≤◌}
+use Rattle.ordered_reach.proofs.graph.UniqueOrder.{one_end}
+use Rattle.determinize_find.proofs.leftmost.SearchInTurn.{in_text, run_within}
+
+one_match : {nfa : Nfa} {text : Text} (m n : Match) → IsLeftmostMatch nfa text m → IsLeftmostMatch nfa text n → m ≡ n
+one_match {nfa} {text} m n a b = by_cases (cases_order m.start n.start)
+    (λ e. let (s, run, is) = a.accepts in
+    let (t, other, at) = rw (← e) at b.accepts in
+    let same : a.choices ≡ b.choices = same_least _ _ (a.preferred b.choices n.end n.pattern (t, other, at))
+    ((rw (← e) at b.preferred) a.choices m.end m.pattern a.accepts) in
+    let end : ◌≡◌ {A = ℕ × ℕ} (m.end, s) (n.end, t) = one_end (choices nfa text) [] (m.start, nfa.start_anchored)
+    b.choices (m.end, s) (n.end, t) (rw same at run) other in
+    let state : s ≡ t = ap (λ w. w.1) end in
+    let pattern : m.pattern ≡ n.pattern = cc (is, at) in
+    λ i. record { pattern = pattern i; start = e i; end = (end i).0 })
+    (λ c. absurd (by_cases c
+    (λ l. b.leftmost m.start l a.choices m.end m.pattern a.accepts)
+    (λ l. a.leftmost n.start l b.choices n.end n.pattern b.accepts)))
+
+pub each_leftmost_is_one : EachLeftmostIsOne
+each_leftmost_is_one nfa text latest None None a b = refl
+each_leftmost_is_one nfa text latest None (Some m) a b = absurd (a m.start b.0 b.1.choices m.end m.pattern b.1.accepts)
+each_leftmost_is_one nfa text latest (Some m) None a b = absurd (b m.start a.0 a.1.choices m.end m.pattern a.1.accepts)
+each_leftmost_is_one nfa text latest (Some m) (Some n) a b = ap Some (one_match m n a.1 b.1)
 
 pub each_leftmost_in_is_one : EachLeftmostInIsOne
 each_leftmost_in_is_one nfa asked found other a b = by_test (is_done asked)
@@ -33,12 +57,10 @@ one_next nfa asked before found other (first, a, taken) (second, b, is) =
 
 pub each_matches_are_one : EachMatchesAreOne
 each_matches_are_one nfa asked before [] [] a b = refl
-each_matches_are_one nfa asked before [] (n ∷ ns) a b =
-    absurd (none-some n (one_next nfa asked before None (Some n) a b.0))
-each_matches_are_one nfa asked before (m ∷ ms) [] a b =
-    absurd (none-some m (one_next nfa asked before None (Some m) b a.0))
+each_matches_are_one nfa asked before [] (n ∷ ns) a b = absurd (none-some n (one_next nfa asked before _ _ a b.0))
+each_matches_are_one nfa asked before (m ∷ ms) [] a b = absurd (none-some m (one_next nfa asked before _ _ b a.0))
 each_matches_are_one nfa asked before (m ∷ ms) (n ∷ ns) a b =
-    let e = some_injective m n (one_next nfa asked before (Some m) (Some n) a.0 b.0) in
+    let e = some_injective m n (one_next nfa asked before _ _ a.0 b.0) in
     cc (e, each_matches_are_one nfa (from asked n.end) (Some n.end) ms ns (rw e at a.1) b.1)
 
 pub length-range : (asked : Asked) → asked.end ≤ length asked.haystack
@@ -63,43 +85,31 @@ lies nfa asked m within h =
     let high = run_within nfa (text_of false asked) _ _ _ _ (omega arith) accepts in
     record { low = omega arith; order = omega arith; high = omega arith }
 
--- where the next match lies, and that it ends later than the one before
-pub record IsLater (asked : Asked) (before : Option ℕ) (m : Match) : Type 0 where
-  pub low : asked.start ≤ m.start
-  pub order : m.start ≤ m.end
-  pub high : m.end ≤ asked.end
-  pub later : (last : ℕ) → before ≡ Some last → last < m.end
-
 -- a match behind the one before that does not touch it ends later
 not_touching : (start : ℕ) (before : Option ℕ) (m : Match) → ((last : ℕ) → before ≡ Some last → last ≡ start)
     → start ≤ m.start → m.start ≤ m.end → touches before m ≡ false → (last : ℕ) → before ≡ Some last → last < m.end
 not_touching start before m starts low order apart last is = grind (arith, nat_tests, starts last is)
 
+-- where the next match lies, and that it ends later than the one before
 pub next_lies : (nfa : Nfa) (asked : Asked) (before : Option ℕ) (m : Match) → asked.end ≤ length asked.haystack
-    → ((last : ℕ) → before ≡ Some last → last ≡ asked.start)
-    → IsNext nfa asked before (Some m) → IsLater asked before m
+    → ((last : ℕ) → before ≡ Some last → last ≡ asked.start) → IsNext nfa asked before (Some m)
+    → LiesIn asked m × ((last : ℕ) → before ≡ Some last → last < m.end)
 next_lies nfa asked before m l starts (None, x, taken) = cc
 next_lies nfa asked before m l starts (Some n, x, taken) = by_test (touches before n)
-    (λ e. let y = lies nfa (from asked (asked.start + 1)) m l (taken.0 e) in record {
-      low = omega (arith, y.low);
-      order = y.order;
-      high = y.high;
-      later = λ last k. omega (arith, starts last k, y.low, y.order);
-    })
-    (λ e. let y = lies nfa asked n l x in rw (some_injective m n (taken.1 e)) record {
-      low = y.low;
-      order = y.order;
-      high = y.high;
-      later = not_touching asked.start before n starts y.low y.order e;
-    })
+    (λ e. let y = lies nfa (from asked (asked.start + 1)) m l (taken.0 e) in (
+      record { low = omega (arith, y.low); order = y.order; high = y.high },
+      λ last k. omega (arith, starts last k, y.low, y.order),
+    ))
+    (λ e. let y = lies nfa asked n l x in
+    rw (some_injective m n (taken.1 e)) (y, not_touching asked.start before n starts y.low y.order e))
 
 pub apart : (nfa : Nfa) (asked : Asked) (before : Option ℕ) (ms : List Match) → asked.end ≤ length asked.haystack
     → ((last : ℕ) → before ≡ Some last → last ≡ asked.start)
     → AreMatches nfa asked before ms → AreApart asked.start before asked.end ms
 apart nfa asked before [] l starts h = tt
 apart nfa asked before (m ∷ ms) l starts h =
-    let n = next_lies nfa asked before m l starts h.0 in
-    (n.low, n.order, n.high, n.later, apart nfa (from asked m.end) (Some m.end) ms l (λ last e. cc) h.1)
+    let (lie, later) = next_lies nfa asked before m l starts h.0 in
+    (lie.low, lie.order, lie.high, later, apart nfa (from asked m.end) (Some m.end) ms l (λ last e. cc) h.1)
 
 pub each_matches_are_apart : EachMatchesAreApart
 each_matches_are_apart nfa asked ms l h = apart nfa asked None ms l (λ last e. cc) h

@@ -1,17 +1,100 @@
--- What `Pieces` keeps: few bytes, and a search of which no match is certain.
--- Main statements: unread_unsettled, few_kept, HasRead, read_none, read_more, all_read.
--- Used by: `settle`, `skip_idle` and `feed` of `Pieces`.
--- Idea: what was so at the end of a block stays so, as more blocks are read.
+-- How far a search for the next match moves in a text, and what `Pieces` keeps: few bytes, and a search of which no match
+-- is certain.
+-- Main statements: moved_none, moved_on, settled, skipped, advanced, front_none, in_block, unread_unsettled, few_kept,
+-- HasRead, read_none, read_more, read_part, all_read.
+-- Used by: `certain`, `next_certain`, `settle`, `skip_idle`, `take_next`, `read_next`, `read_block`, `advance` and `feed`
+-- of `Pieces`.
+-- Idea: moves that read nothing and find nothing are chained; then a match is found, or bytes are read. What was so at the
+-- end of a block stays so, as more blocks are read.
 use Rattle.determinize_find.proofs.Common.{add-one, ap, append-nil, append_assoc, arith, by_cases, cases_lt}
-use Rattle.determinize_find.proofs.Common.{drop-append-le, drop_all, false, HasPrefixApart, inl, inr, is_capture}
-use Rattle.determinize_find.proofs.Common.{IsEndScan, IsFed, IsIdle, IsKeptScan, IsPartFed, IsUnsettled, KeepsFew}
-use Rattle.determinize_find.proofs.Common.{KeptFewAt, KeptFewInBlocks, length, length-append, length-drop, List}
-use Rattle.determinize_find.proofs.Common.{Match, min, Nfa, nil_from_length, None, Option, pattern_in, pattern_of}
-use Rattle.determinize_find.proofs.Common.{reach, refl, Scanned, Some, Streamed, take-append-le, take_all}
-use Rattle.determinize_find.proofs.Common.{tests_capture, with_scan, without_first, [], ℕ, ◌*◌, ◌++◌, ◌+◌, ◌-◌, ◌<◌}
-use Rattle.determinize_find.proofs.Common.{◌∙◌, ◌≡◌, ◌≤◌, ◌⊎◌}
-use Rattle.determinize_find.proofs.streams.Moves.{searching_after}
-use Rattle.determinize_find.proofs.streams.Steps.{fed_scan, joined, part_fed}
+use Rattle.determinize_find.proofs.Common.{drop-append-le, drop-drop, drop_all, end_before, false, false≢true, HasMoved}
+use Rattle.determinize_find.proofs.Common.{HasPrefixApart, IfOk-weaker, IfSome, inl, inr, is_capture, is_touching}
+use Rattle.determinize_find.proofs.Common.{IsAdvance, IsCertain, IsEndScan, IsFed, IsFoundInBlock, IsFrontFed, IsIdle}
+use Rattle.determinize_find.proofs.Common.{IsKeptScan, IsPartFed, IsSearching, IsUnsettled, KeepsFew, KeptFewAt}
+use Rattle.determinize_find.proofs.Common.{KeptFewInBlocks, length, length-append, length-drop, List, Match, min, Nfa}
+use Rattle.determinize_find.proofs.Common.{nil_from_length, None, on_err_weaker, Option, option_to_list, pattern_in}
+use Rattle.determinize_find.proofs.Common.{pattern_of, reach, refl, Result, Scanned, Some, Streamed, take-append-le}
+use Rattle.determinize_find.proofs.Common.{take_all, tests_capture, true, with_scan, without_first, [], ℕ, ◌*◌, ◌++◌}
+use Rattle.determinize_find.proofs.Common.{◌+◌, ◌-◌, ◌<◌, ◌∙◌, ◌≡◌, ◌≤◌, ◌⊎◌}
+use Rattle.determinize_find.specs.Private.Windows.{IsWindow}
+use Rattle.determinize_find.proofs.streams.Rests.{byte_before-drop}
+use Rattle.determinize_find.proofs.streams.Steps.{after_byte, fed_dropped, fed_scan, fed_skipped, joined, joined_none}
+use Rattle.determinize_find.proofs.streams.Steps.{part_fed}
+
+-- where the search that was under way is dropped
+pub moved_none : {nfa : Nfa} {old new : Streamed} → new ≡ with_scan None old → HasMoved nfa old new
+moved_none {nfa} {old} e = rw e record { fed = fed_scan nfa old None; searching = tt }
+
+-- one move after another
+pub moved_on : {nfa : Nfa} {old now new : Streamed} → HasMoved nfa old now → HasMoved nfa now new
+    → HasMoved nfa old new
+moved_on a b = record { fed = λ list. joined_none (a.fed list) (b.fed list); searching = b.searching }
+
+-- a search that is kept under way, after the bytes that it does not need are dropped
+pub searching_after : {nfa : Nfa} (now : Streamed) {scan : Scanned} → now.start ≤ length now.kept
+    → IsKeptScan nfa now scan → IsSearching nfa (without_first (now.start - 1) (with_scan (Some scan) now))
+searching_after now within is =
+    let sum : now.start - 1 + (now.start - (now.start - 1)) ≡ now.start = omega arith in rw (
+      byte_before-drop (now.start - 1) (now.start - (now.start - 1)) now.kept (λ z. omega arith),
+      drop-drop (now.start - (now.start - 1)) (now.start - 1) now.kept,
+      sum,
+    ) is
+
+-- a move to such a search
+pub settled : {nfa : Nfa} {old : Streamed} (now : Streamed) {new : Streamed} {scan : Scanned}
+    → now.start ≤ length now.kept → new ≡ without_first (now.start - 1) (with_scan (Some scan) now)
+    → ((list : List Match) → IsFed nfa old now [] list list) → IsKeptScan nfa now scan → HasMoved nfa old new
+settled {nfa} now {new} {scan} within e fed is = rw e record {
+  fed = λ list. joined_none (fed list)
+      (fed_dropped nfa now (Some scan) (now.start - 1) list (omega arith) within);
+  searching = searching_after now within is;
+}
+
+-- a move past an empty match where the one before ended
+pub skipped : {nfa : Nfa} {now : Streamed} (old : Streamed) (first : Option Match)
+    → is_touching (end_before now) first ≡ true → IsWindow now.kept now.dropped now.start now.scan
+    → IfSome first (λ m. IsCertain nfa now.kept now.start m) → IfSome first (λ m. now ≡ with_scan None old)
+    → HasMoved nfa now (after_byte now)
+skipped old None t window certain none = absurd (false≢true t)
+skipped {nfa} {now} old (Some m) t window certain none =
+    record { fed = λ list. fed_skipped nfa now m list window certain t; searching = rw none tt }
+
+-- a part of a piece was read, and nothing found in it; then more was read
+pub advanced : {E : Type 0} {nfa : Nfa} {old now new : Streamed} {piece rest others : List ℕ}
+    {result : Result (Option Match) E} → IsFrontFed nfa old now piece rest []
+    → IsAdvance nfa now new rest others result → IsAdvance nfa old new piece others result
+advanced {E} {nfa} {old} {now} {new} {piece} {rest} {others} {result} a b = record {
+  fed = IfOk-weaker result _ _ (λ next h. both h) b.fed;
+  failed = on_err_weaker result (λ (h : IsFrontFed nfa now new rest others []). both h) b.failed;
+  searching = b.searching;
+}
+  where
+    both : {found : List Match} → IsFrontFed nfa now new rest others found → IsFrontFed nfa old new piece others found
+    both c = record {
+      front = a.front ++ c.front;
+      cut = rw (append_assoc, c.cut) a.cut;
+      fed = joined a.fed c.fed;
+    }
+
+-- where nothing was read
+pub front_none : {nfa : Nfa} {old new : Streamed} {found : List Match} (piece : List ℕ)
+    → IsFed nfa old new [] [] found → IsFrontFed nfa old new piece piece found
+front_none piece h = record { front = []; cut = refl; fed = h }
+
+-- a match that is found with the next block of a piece, where few bytes were kept before
+pub in_block : {nfa : Nfa} {old now new : Streamed} {piece rest others : List ℕ} (next : Option Match)
+    → IsFrontFed nfa old now piece rest [] → KeepsFew nfa now
+    → IsFrontFed nfa now new rest others (option_to_list next) → length rest ≤ length others + 4096
+    → IfSome next (λ m. (others ≡ piece) ⊎ IsFoundInBlock nfa old new piece others m)
+in_block None first few last small = tt
+in_block {nfa} {old} {now} {new} {piece} {rest} {others} (Some m) first few last small = inr record {
+  now = now;
+  block = last.front;
+  small = omega (arith, ap length last.cut, length-append last.front others);
+  first = record { front = first.front; cut = rw last.cut first.cut; fed = first.fed };
+  few = few;
+  last = last.fed;
+}
 
 -- where nothing was read, the first state is the unanchored start, which is no match, so no match is certain
 pub unread_unsettled : {nfa : Nfa} {behind : Option ℕ} {bytes : List ℕ} {s : Scanned} → bytes ≡ []

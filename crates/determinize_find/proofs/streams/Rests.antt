@@ -1,19 +1,19 @@
 -- Leftmost matches from an index on: of a haystack without its first bytes, and from a later index before which no
 -- match begins.
 -- Main statements: of_rest, shift_leftmost, leftmost_since, skip_leftmost.
--- Used by: the steps of `Pieces`, Certain, Finish, InputMatches.
+-- Used by: the steps of `Pieces`, Certain, InputMatches.
 -- Idea: the rest of a haystack is one text, regardless of what was dropped before the byte behind it.
 use Rattle.determinize_find.proofs.Common.{arith, between, by_cases, byte_before, cases_lt, drop, drop-drop}
 use Rattle.determinize_find.proofs.Common.{each_run_moves, false, from, HasPrefix, is_done, IsLeftmost, IsLeftmostIn}
 use Rattle.determinize_find.proofs.Common.{le-ltb, length, length-drop, List, Match, moved, nat_lt, Nfa, None, Option}
-use Rattle.determinize_find.proofs.Common.{option_map, refl, since, slice_get-drop, slice_get_past, Some, suc, sym}
-use Rattle.determinize_find.proofs.Common.{take_rest, Text, text_of, whole, zero, ℕ, ◌++◌, ◌+◌, ◌-◌, ◌∙◌, ◌≡◌, ◌≤◌}
-use Rattle.determinize_find.proofs.runs.Cuts.{slice_get-append}
+use Rattle.determinize_find.proofs.Common.{option_map, preferred, refl, since, slice_get-drop, slice_get_past, Some}
+use Rattle.determinize_find.proofs.Common.{suc, sym, take_rest, Text, text_of, whole, zero, ℕ, ◌++◌, ◌+◌, ◌-◌, ◌∙◌, ◌≡◌}
+use Rattle.determinize_find.proofs.Common.{◌≤◌}
+use Rattle.determinize_find.proofs.streams.Cuts.{slice_get-append}
 use Rattle.determinize_find.specs.Idle.{NothingBefore}
-use Rattle.determinize_find.proofs.leftmost.Inputs.{leftmost_in}
-use Rattle.determinize_find.proofs.leftmost.SearchInTurn.{text-since}
+use Rattle.determinize_find.proofs.leftmost.SearchInTurn.{later_run, leftmost_in, leftmost_match, text-since}
 use Rattle.determinize_find.proofs.leftmost.TwoSearches.{starts_differ}
-use Rattle.determinize_find.proofs.runs.LaterRuns.{later_run}
+use Rattle.determinize_find.specs.Private.BestAt.{IsBestFrom}
 
 -- the bytes from an index on, behind the byte before it
 abbrev pub rest : List ℕ → ℕ → Text
@@ -64,24 +64,22 @@ shift_leftmost nfa d i xs answer behind within h =
     }
 
 -- where no match begins before a position, the leftmost match is that of the text from there on
-pub leftmost_since : (nfa : Nfa) (text : Text) (n last : ℕ) (o : Option Match)
-    → NothingBefore nfa text n
-    → IsLeftmost nfa (since text n) last o → IsLeftmost nfa text (n + last) (option_map (moved n) o)
-leftmost_since nfa text n last None before h = λ k l. by_cases (cases_lt k n)
+none_since : (nfa : Nfa) (text : Text) (n m : ℕ) → NothingBefore nfa text n → NothingBefore nfa (since text n) m
+    → NothingBefore nfa text (n + m)
+none_since nfa text n m before later k l = by_cases (cases_lt k n)
     (before k)
-    (λ j cs i y acc. h (k - n) (omega arith) cs (i - n) y (later_run nfa text n (k - n) (omega arith) cs i y acc))
-leftmost_since nfa text n last (Some m) before h = (
-  omega (arith, h.0),
-  record {
-    leftmost = λ k l. by_cases (cases_lt k n)
-        (before k)
-        (λ j cs i y acc. h.1.leftmost (k - n) (omega arith) cs (i - n) y
-        (later_run nfa text n (k - n) (omega arith) cs i y acc));
-    choices = h.1.choices;
-    accepts = (each_run_moves nfa text n m.start nfa.start_anchored h.1.choices m.end m.pattern).1 h.1.accepts;
-    preferred = λ ds j other acc. h.1.preferred ds (j - n) other (later_run nfa text n m.start refl ds j other acc);
-  },
-)
+    (λ j cs i y acc. later (k - n) (omega arith) cs (i - n) y (later_run nfa text n (k - n) (omega arith) cs i y acc))
+
+pub leftmost_since : (nfa : Nfa) (text : Text) (n last : ℕ) (o : Option Match) → NothingBefore nfa text n
+    → IsLeftmost nfa (since text n) last o → IsLeftmost nfa text (n + last) (option_map (moved n) o)
+leftmost_since nfa text n last None before h = λ k l. none_since nfa text n (suc last) before
+    (λ j low. h j (omega arith)) k (omega arith)
+leftmost_since nfa text n last (Some m) before (low, is) =
+    let best : IsBestFrom nfa text (n + m.start) is.choices (n + m.end) m.pattern = record {
+      accepts = (each_run_moves nfa text n m.start nfa.start_anchored is.choices m.end m.pattern).1 is.accepts;
+      preferred = λ ds j y acc. is.preferred ds (j - n) y (later_run nfa text n m.start refl ds j y acc);
+    } in
+    (omega arith, leftmost_match (moved n m) is.choices (none_since nfa text n m.start before is.leftmost) best)
 
 pub skip_leftmost : (nfa : Nfa) → HasPrefix nfa → (xs : List ℕ) (i n : ℕ) (answer : Option Match) → i + n ≤ length xs
     → NothingBefore nfa (text_of false (from (whole xs) i)) n

@@ -1,39 +1,41 @@
--- What each step of `Pieces` leaves: bytes kept or dropped, a match added or skipped, a later start.
--- Main statements: joined, fed_scan, fed_kept, fed_match, fed_skipped, fed_later, fed_dropped, part_fed.
--- Used by: Moves, Kept, Finish, and `keep`, `pass`, `skip_idle` and `read_block` of `Pieces`.
--- Idea: the matches from the new place on, after what was added, are those from the old place on.
-use Rattle.determinize_find.proofs.Common.{All, All-append, ap, append-nil, append_assoc, AreMatches, arith, Asked}
-use Rattle.determinize_find.proofs.Common.{before, Bool, by_test, cond, drop, drop-append-le, drop-drop, end_before}
-use Rattle.determinize_find.proofs.Common.{false, from, is_touching, IsCertain, IsFed, IsFresh, IsLeftmostIn, IsNext}
-use Rattle.determinize_find.proofs.Common.{IsPartFed, IsStream, length, length-append, length-drop, List, Match}
-use Rattle.determinize_find.proofs.Common.{moved, Nfa, None, Option, option_map, place, refl, Scanned, Some, Streamed}
-use Rattle.determinize_find.proofs.Common.{sym, take-append-le, take_all, text_of, touches, true, whole, with_bytes}
+-- What each step of `Pieces` leaves: bytes kept or dropped, a match added or skipped, a later start; and at the end the
+-- matches that are left.
+-- Main statements: joined, fed_scan, fed_kept, fed_match, fed_skipped, fed_later, fed_dropped, part_fed, end_is, finished.
+-- Used by: Kept, and `keep`, `pass`, `skip_idle`, `read_block` and `add_rest` of `Pieces`.
+-- Idea: the matches from the new place on, after what was added, are those from the old place on; and each leftmost match
+-- of the kept bytes is one of the text, as much later as bytes were dropped.
+use Rattle.determinize_find.proofs.Common.{All, All-append, All-cons, All-nil, ap, append-nil, append_assoc, AreApart}
+use Rattle.determinize_find.proofs.Common.{AreMatches, arith, Asked, before, Bool, by_test, cond, drop, drop-append-le}
+use Rattle.determinize_find.proofs.Common.{drop-drop, end_before, false, from, is_touching, IsCertain, IsFed}
+use Rattle.determinize_find.proofs.Common.{IsFinished, IsFresh, IsKept, IsLeftmostIn, IsNext, IsPartFed, IsStream}
+use Rattle.determinize_find.proofs.Common.{IsTaken, length, length-append, length-drop, List, map, Match, moved, Nfa}
+use Rattle.determinize_find.proofs.Common.{None, Option, option_map, place, refl, Scanned, Some, Streamed, sym}
+use Rattle.determinize_find.proofs.Common.{take-append-le, take_all, text_of, touches, true, whole, with_bytes}
 use Rattle.determinize_find.proofs.Common.{with_scan, without_first, [], ℕ, ◌++◌, ◌+◌, ◌-◌, ◌<◌, ◌∙◌, ◌∷◌, ◌≡◌, ◌≤◌}
 use Rattle.std.proofs.Math.Seq.{take-append-add}
 use Rattle.determinize_find.specs.Idle.{NothingBefore}
 use Rattle.determinize_find.specs.Private.Windows.{after_match, IsWindow}
 use Rattle.determinize_find.proofs.matches.NextMatch.{next_further, next_plain}
-use Rattle.determinize_find.proofs.matches.OneList.{lies}
+use Rattle.determinize_find.proofs.matches.OneList.{apart, lies}
 use Rattle.determinize_find.proofs.streams.Rests.{byte_before-append, rest-drop, shift_leftmost, skip_leftmost}
 use Rattle.determinize_find.proofs.streams.Rests.{text-whole}
 
--- one step after another
-pub joined : {nfa : Nfa} {old now new : Streamed} {more others : List ℕ} {list mid after : List Match}
-    → IsFed nfa old now more list mid → IsFed nfa now new others mid after
-    → IsFed nfa old new (more ++ others) list after
-joined {nfa} {old} {now} {new} {more} {others} {list} {mid} {after} a b = record {
-  found = a.found ++ b.found;
-  added = rw (b.added, a.added, append_assoc) refl;
-  read = simp length-append (omega arith);
-  keeps = simp length-append (omega arith);
-  stream = λ bytes given is.
-      simp append_assoc at (b.stream (bytes ++ more) (given ++ a.found) (a.stream bytes given is));
-}
+module _ {nfa : Nfa} {old now new : Streamed} {more : List ℕ} {list mid after : List Match}
+    (fed : IsFed nfa old now more list mid) where
+  -- one step after another
+  pub joined : {others : List ℕ} → IsFed nfa now new others mid after → IsFed nfa old new (more ++ others) list after
+  joined {others} b = record {
+    found = fed.found ++ b.found;
+    added = rw (b.added, fed.added, append_assoc) refl;
+    read = simp length-append (omega arith);
+    keeps = simp length-append (omega arith);
+    stream = λ bytes given is.
+        simp append_assoc at (b.stream (bytes ++ more) (given ++ fed.found) (fed.stream bytes given is));
+  }
 
--- the same after no bytes
-pub joined_none : {nfa : Nfa} {old now new : Streamed} {more : List ℕ} {list mid after : List Match}
-    → IsFed nfa old now more list mid → IsFed nfa now new [] mid after → IsFed nfa old new more list after
-joined_none a b = rw append-nil at (joined a b)
+  -- the same after no bytes
+  pub joined_none : IsFed nfa now new [] mid after → IsFed nfa old new more list after
+  joined_none b = rw append-nil at (joined b)
 
 -- the search begins elsewhere, or is another, and some matches were found
 moved_start : (nfa : Nfa) (s : Streamed) (start : ℕ) (is_after : Bool) (scan : Option Scanned) (found : List Match)
@@ -205,3 +207,54 @@ part_fed {nfa} {old} {now} {new} {done} {block} others piece e a (count, low, b)
   rw (← e) (simp length-append (omega arith)),
   rw (← e, take-append-add done (block ++ others) count, take-append-le count block others low) (joined a b),
 )
+
+module _ (nfa : Nfa) (d : ℕ) (xs : List ℕ) (low : d ≤ length xs) where
+  shift_next : (i : ℕ) (end : Option ℕ) (found : Option Match) → (i ≡ 0 → d ≡ 0)
+      → IsNext nfa (from (whole (drop d xs)) i) end found
+      → IsNext nfa (from (whole xs) (d + i)) (option_map (λ n. d + n) end) (option_map (moved d) found)
+  shift_next i end found behind (None, first, is) = (None, shift_leftmost nfa d i xs None behind low first, rw is refl)
+  shift_next i end found behind (Some m, first, is) =
+      let sum : d + i + 1 ≡ d + (i + 1) = omega arith in
+      let same = sym (touches_moved d end m) in (
+        Some (moved d m),
+        shift_leftmost nfa d i xs (Some m) behind low first,
+        (
+          λ e. rw sum (shift_leftmost nfa d (i + 1) xs found (λ z. absurd (omega arith)) low (is.0 (same ∙ e))),
+          λ e. rw (is.1 (same ∙ e)) refl,
+        ),
+      )
+
+  pub shift_matches : (i size : ℕ) (end : Option ℕ) (ms : List Match) → (i ≡ 0 → d ≡ 0) → AreApart i end size ms
+      → AreMatches nfa (from (whole (drop d xs)) i) end ms
+      → AreMatches nfa (from (whole xs) (d + i)) (option_map (λ n. d + n) end) (map (moved d) ms)
+  shift_matches i size end [] behind apart h = shift_next i end None behind h
+  shift_matches i size end (m ∷ ms) behind (low, order, _, _, apart) h =
+      (shift_next i end (Some m) behind h.0, shift_matches m.end size (Some m.end) ms (λ e. behind (omega arith)) apart h.1)
+
+-- where the match before ended, if that is known
+pub end_is : (s : Streamed) (end : ℕ) → end_before s ≡ Some end → end ≡ s.start
+end_is s end e = grind arith
+
+-- the bytes of matches of what is kept are kept
+matches_kept : (s : Streamed) (i : ℕ) (end : Option ℕ) (ms : List Match) → AreApart i end (length s.kept) ms
+    → All (IsKept s) (map (moved s.dropped) ms)
+matches_kept s i end [] apart = All-nil (IsKept s)
+matches_kept s i end (m ∷ ms) (low, order, high, _, apart) =
+    All-cons (IsKept s) (moved s.dropped m) (map (moved s.dropped) ms)
+    record { low = omega arith; order = omega arith; high = omega arith } (matches_kept s m.end (Some m.end) ms apart)
+
+-- all matches that are left were added
+pub finished : (nfa : Nfa) (s : Streamed) (list after ms : List Match) → IsWindow s.kept s.dropped s.start s.scan
+    → AreMatches nfa (from (whole s.kept) s.start) (end_before s) ms
+    → after ≡ list ++ map (moved s.dropped) ms → IsFinished nfa s list after
+finished nfa s list after ms window h e =
+    let lie : AreApart s.start (end_before s) (length s.kept) ms
+    = apart nfa (from (whole s.kept) s.start) (end_before s) ms (omega arith) (end_is s) h in
+    record {
+      found = map (moved s.dropped) ms;
+      added = e;
+      kept = matches_kept s s.start (end_before s) ms lie;
+      all = λ bytes given is. simp append-nil at (is.matches [] (All-nil (λ b. b < 256)) (map (moved s.dropped) ms)
+          (rw (append-nil, before-kept) (shift_matches nfa s.dropped bytes (omega (arith, is.read)) s.start (length s.kept)
+          (end_before s) ms window.behind lie (rw is.kept at h))));
+    }

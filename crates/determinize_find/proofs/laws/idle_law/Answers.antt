@@ -1,4 +1,4 @@
-use Rattle.determinize_find.proofs.idling.Begun.{each_busy_has_begun, each_idle_is_fresh}
+use Rattle.determinize_find.proofs.streams.Begun.{each_busy_has_begun, each_idle_is_fresh}
 use Rattle.determinize_find.proofs.laws.idle_law.Goals as goal
 
 pub returns-clause-fresh : goal.returns-clause-fresh

@@ -1,17 +1,23 @@
 use Rattle.determinize_find.proofs.Common.{ap, append-nil, append_assoc, arith, end_before, from, map-append, moved}
-use Rattle.determinize_find.proofs.Common.{None, refl, RegexValue, rules, sym, take_at, whole, [], ◌++◌, ◌∙◌, ◌∷◌}
-use Rattle.determinize_find.proofs.Common.{◌≡◌}
-use Rattle.determinize_find.proofs.matches.NextMatch.{after_all, after_none, after_one}
-use Rattle.determinize_find.proofs.matches.OneList.{next_lies}
-use Rattle.determinize_find.proofs.streams.Finish.{end_is, finished}
+use Rattle.determinize_find.proofs.Common.{None, refl, RegexValue, rules, sym, take_at, whole, [], ◌++◌, ◌∙◌, ◌∷◌, ◌≡◌}
+use Rattle.determinize_find.proofs.matches.NextMatch.{after_all, after_none, after_one, IsOneMore}
+use Rattle.determinize_find.proofs.streams.Steps.{end_is, finished}
+use Rattle.determinize_find.proofs.pieces.Pieces.add_rest.Given.{Over}
+use Rattle.determinize_find.proofs.pieces.Pieces.add_rest.Goals.{In-Some}
 use Rattle.determinize_find.proofs.pieces.Pieces.add_rest.Goals as goal
+
+-- the cursor is behind one more match
+after_next : (g : Over) (c : In-Some g) → IsOneMore c.args.regex.now.nfa
+    (from (whole c.args.self.now.kept) c.args.self.now.start) (end_before c.args.self.now) c.loop-next.searcher
+    c.advance.new.self c.loop-next.invariant.found.0 c.in-Some.next
+after_next g c = after_one _ c.loop-next.regex.nfa _ c.loop-next.searcher c.advance.new.self
+    c.loop-next.invariant.found.0 c.in-Some.next (ap (λ (v : RegexValue). v.nfa) c.loop-next.invariant.same)
+    (omega arith) c.loop-next.invariant.found.2 (rw c.in-Some.is at c.in_ok-next.ensures.next)
+    (rw c.in-Some.is at c.in_ok-next.ensures.after)
 
 pub in_text-requires : goal.in_text-requires
 in_text-requires g c =
-    let after = c.loop-next.invariant.found.2 in
-    let next = rw (c.in-Some.is, c.loop-next.invariant.same, after.rest) at c.in_ok-next.ensures.next in
-    let lies = next_lies c.args.regex.now.nfa _ _ c.in-Some.next (omega arith) after.last next in
-    record { order = lies.order; end = lies.high }
+    let lie = (after_next g (goal.at.in_text-requires g c).In-Some).2 in record { order = lie.order; end = lie.high }
 
 pub loop-next-init : goal.loop-next-init
 loop-next-init g c =
@@ -27,14 +33,11 @@ loop-next-init g c =
     }
 
 pub loop-next-smaller : goal.loop-next-smaller
-loop-next-smaller g c = (after_one c.args.regex.now.nfa c.loop-next.regex.nfa _ c.loop-next.searcher c.advance.new.self
-    c.loop-next.invariant.found.0 c.in-Some.next (ap (λ (v : RegexValue). v.nfa) c.loop-next.invariant.same)
-    (omega arith) c.loop-next.invariant.found.2 (rw c.in-Some.is at c.in_ok-next.ensures.next)
-    (rw c.in-Some.is at c.in_ok-next.ensures.after)).1
+loop-next-smaller g c = (after_next g (goal.at.loop-next-smaller g c).In-Some).1
 
 pub loop-next-preserved : goal.loop-next-preserved
 loop-next-preserved g c =
-    let (ms, found, after) = c.loop-next.invariant.found in
+    let (ms, found, _) = c.loop-next.invariant.found in
     let items : c.push.new.self.items ≡ c.loop-next.found.items ++ moved c.args.self.now.dropped c.in-Some.next ∷ []
     = search rules in
     record {
@@ -42,9 +45,7 @@ loop-next-preserved g c =
       found = (
         ms ++ c.in-Some.next ∷ [],
         rw (items, found, append_assoc, map-append) refl,
-        (after_one c.args.regex.now.nfa c.loop-next.regex.nfa _ c.loop-next.searcher c.advance.new.self
-            ms c.in-Some.next (ap (λ (v : RegexValue). v.nfa) c.loop-next.invariant.same) (omega arith) after
-            (rw c.in-Some.is at c.in_ok-next.ensures.next) (rw c.in-Some.is at c.in_ok-next.ensures.after)).0,
+        (after_next g (goal.at.loop-next-preserved g c).In-Some).0,
       );
     }
 

@@ -1,4 +1,4 @@
-use Rattle.determinize_find.proofs.streams.Moves.{moved_none, moved_on}
+use Rattle.determinize_find.proofs.streams.Kept.{moved_none, moved_on}
 use Rattle.determinize_find.proofs.pieces.Pieces.certain.Goals.{else-is_none, then-is_none+in_ok-settle}
 use Rattle.determinize_find.proofs.pieces.Pieces.certain.Goals as goal
 

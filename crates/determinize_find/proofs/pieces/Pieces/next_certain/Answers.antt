@@ -1,6 +1,6 @@
 use Rattle.determinize_find.proofs.Common.{end_before, HasMoved, is_touching, rules, true, ◌≡◌}
 use Rattle.determinize_find.specs.Private.Windows.{IsWindow}
-use Rattle.determinize_find.proofs.streams.Moves.{moved_on, skipped}
+use Rattle.determinize_find.proofs.streams.Kept.{moved_on, skipped}
 use Rattle.determinize_find.proofs.streams.Steps.{after_byte}
 use Rattle.determinize_find.proofs.pieces.Pieces.next_certain.Goals as goal
 

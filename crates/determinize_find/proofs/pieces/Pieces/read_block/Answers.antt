@@ -1,5 +1,5 @@
 use Rattle.determinize_find.proofs.Common.{moved, None, of_err, rules, [], ◌++◌, ◌∙◌, ◌∷◌, ◌≡◌}
-use Rattle.determinize_find.proofs.streams.Moves.{moved_none}
+use Rattle.determinize_find.proofs.streams.Kept.{moved_none}
 use Rattle.determinize_find.proofs.streams.Steps.{all_fed, joined_none, none_fed}
 use Rattle.determinize_find.proofs.pieces.Pieces.read_block.Goals as goal
 

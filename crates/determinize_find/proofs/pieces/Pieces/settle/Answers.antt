@@ -1,6 +1,5 @@
 use Rattle.determinize_find.proofs.Common.{arith, length-drop, ◌-◌}
-use Rattle.determinize_find.proofs.streams.Kept.{few_kept}
-use Rattle.determinize_find.proofs.streams.Moves.{settled}
+use Rattle.determinize_find.proofs.streams.Kept.{few_kept, settled}
 use Rattle.determinize_find.proofs.pieces.Pieces.settle.Goals as goal
 
 pub returns-in_err-rest-clause-left : goal.returns-in_err-rest-clause-left

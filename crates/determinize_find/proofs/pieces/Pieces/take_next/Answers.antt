@@ -1,5 +1,5 @@
 use Rattle.determinize_find.proofs.Common.{of_err, rules, []}
-use Rattle.determinize_find.proofs.streams.Moves.{front_none}
+use Rattle.determinize_find.proofs.streams.Kept.{front_none}
 use Rattle.determinize_find.proofs.streams.Steps.{joined_none}
 use Rattle.determinize_find.proofs.pieces.Pieces.take_next.Goals as goal
 

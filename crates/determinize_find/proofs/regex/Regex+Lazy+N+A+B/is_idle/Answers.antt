@@ -1,6 +1,6 @@
 use Rattle.determinize_find.proofs.Common.{length, rules, ◌<◌, ◌≡◌}
 use Rattle.determinize_find.proofs.leftmost.TwoSearches.{all_bytes}
-use Rattle.determinize_find.proofs.idling.Begun.{fresh}
+use Rattle.determinize_find.proofs.streams.Begun.{fresh}
 use Rattle.determinize_find.proofs.regex.Regex+Lazy+N+A+B.is_idle.Goals as goal
 
 pub returns-clause-fresh : goal.returns-clause-fresh

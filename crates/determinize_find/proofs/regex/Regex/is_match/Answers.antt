@@ -1,19 +1,14 @@
 use Rattle.determinize_find.proofs.Common.{arith, rules, ◌≡◌}
-use Rattle.determinize_find.proofs.leftmost.TwoSearches.{found_in, IsForward}
+use Rattle.determinize_find.proofs.leftmost.TwoSearches.{found_in}
 use Rattle.determinize_find.proofs.regex.Regex.is_match.Goals as goal
 
 pub returns-clause-found : goal.returns-clause-found
 returns-clause-found g c =
     let own : c.input_of-whole.result ≡ c.args.input.now = search rules in
-    let is : IsForward (g.F.Engine.engine c.self.inside.forward).nfa c.args.input.now = record {
-      forward = c.self.invariant.reads_forward;
-      prefix = c.self.invariant.prefix;
-      start = c.requires.start;
-      within = omega (arith, c.end.ensures.value, c.end.ensures.in_haystack);
-      bytes = rw c.haystack.ensures at c.input_of-whole.ensures.bytes;
-    } in
-    rw (← c.self.view_is)
-    (found_in is c.is_match.result (rw own at c.is_match.ensures.accepts) (rw own at c.is_match.ensures.done))
+    rw (← c.self.view_is) (found_in c.self.invariant c.args.input.now c.requires.start
+    (omega (arith, c.end.ensures.value, c.end.ensures.in_haystack))
+    (rw c.haystack.ensures at c.input_of-whole.ensures.bytes) c.is_match.result
+    (rw own at c.is_match.ensures.accepts) (rw own at c.is_match.ensures.done))
 
 pub returns-clause-accepts : goal.returns-clause-accepts
 returns-clause-accepts g c more =

@@ -3,16 +3,18 @@
 -- Used by: Recorded, and the laws of idle, busy and certain scans.
 -- Idea: before that position the texts have the same units, and at it the assertions that are known are among those
 -- that are true (SameChoices).
-use Rattle.determinize_find.proofs.Common.{after_at, ap, arith, Assertion, before_at, between, Bool, by_cases}
-use Rattle.determinize_find.proofs.Common.{by_test, cases_lt, choice_cases, choice_later, choices, choices_under}
-use Rattle.determinize_find.proofs.Common.{cond, eq-eqb, false, free_more, inl, inr, is_capture, IsPath, known}
-use Rattle.determinize_find.proofs.Common.{known_choices, length, List, ne_eqb, Nfa, None, one_choice, Option}
-use Rattle.determinize_find.proofs.Common.{path_agree, refl, same_choices, slice_get, slice_get-get_or, Some}
-use Rattle.determinize_find.proofs.Common.{some_injective, suc, sym, Text, true, true_at, under_later, zero, [], ℕ}
-use Rattle.determinize_find.proofs.Common.{◌++◌, ◌<◌, ◌==◌, ◌∙◌, ◌∷◌, ◌≡◌, ◌≤◌, ◌⊎◌}
+use Rattle.determinize_find.proofs.Common.{after_at, ap, arith, Assertion, before_at, between, Bool, by_cases, by_test}
+use Rattle.determinize_find.proofs.Common.{cases_lt, choice_cases, choice_later, choices, choices_under, cond, eq-eqb}
+use Rattle.determinize_find.proofs.Common.{false, free_more, inl, inr, is_capture, IsPath, known, known_choices, length}
+use Rattle.determinize_find.proofs.Common.{List, ne_eqb, Nfa, None, one_choice, Option, path_agree, refl, same_choices}
+use Rattle.determinize_find.proofs.Common.{slice_get, slice_get-get_or, Some, some_injective, suc, sym, Text, true}
+use Rattle.determinize_find.proofs.Common.{true_at, under_later, zero, [], ℕ, ◌++◌, ◌<◌, ◌==◌, ◌∙◌, ◌∷◌, ◌≡◌, ◌≤◌, ◌⊎◌}
 use mathlib.Core.Path.{fun_ext}
 use Rattle.determinize_below.proofs.nfas.Edges.{next_of}
 use Rattle.determinize_start.proofs.tables.TrueTables.{known_truth}
+
+pub not_less : (a b : ℕ) → (a < b → ⊥) → b ≤ a
+not_less a b none = by_cases (cases_lt a b) (λ l. absurd (none l)) (λ l. l)
 
 pub slice_get-append : (xs ys : List ℕ) (i : ℕ) → i < length xs → slice_get (xs ++ ys) i ≡ slice_get xs i
 slice_get-append [] ys i l = absurd (omega arith)
