@@ -14,7 +14,7 @@ ghost use Rattle.determinize_find.specs.LeftmostIn.{IsLeftmostIn};
 ghost use Rattle.determinize_find.specs.Matches.{AreMatches};
 ghost use Rattle.determinize_nfa.specs.Prefix.{HasPrefix, HasPrefixApart};
 ghost use Rattle.determinize_find.specs.Endings.{IsEnding};
-ghost use Rattle.determinize_find.specs.Private.Begins.{HasReverse, IsBeginOf, IsEndOf, asked_of};
+ghost use Rattle.determinize_find.specs.Private.Begins.{IsBeginOf, IsEndOf, asked_of};
 ghost use Rattle.determinize_find.specs.Private.Windows.{IsCertain, IsFresh, IsInside};
 ghost use Rattle.determinize_nfa.specs.Reversal.{IsReverseOf};
 ghost use Rattle.determinize_find.specs.Streams.{IsEndScan};
@@ -189,7 +189,6 @@ impl<F: Engine, B: Engine<Error = F::Error>> Regex<F, B> {
             (λ begin. IsBeginOf self.old.nfa haystack.now start end begin)) }
         ensures inside { IfOk result (λ found. IfSome found
             (λ begin. (start ≤ begin) × (begin ≤ end))) }
-        ensures reverse { HasReverse self.old.nfa }
         ensures same { self.new ≡ self.old }
     {
         let before = Input::new(haystack)
@@ -202,6 +201,7 @@ impl<F: Engine, B: Engine<Error = F::Error>> Regex<F, B> {
     }
 
     /// Returns the start of the leftmost match of a haystack from an index on that has this end.
+    #[tactic(auto, using(crate::proofs::leftmost::TwoSearches::ended_within))]
     fn find_start(&mut self, haystack: &[u8], start: usize, end: usize) -> Result<usize, F::Error>
         requires { IsEndOf self.old.nfa haystack.now start end }
         ensures start { IfOk result

@@ -1,15 +1,14 @@
 -- The preferred match from a start state has the pattern and the end of the leftmost match.
 -- Main statements: from_start, to_start, each_preferred_is_leftmost, each_anchored_is_leftmost.
--- Used by: `laws::prefix_law`, TwoSearches, InputMatches, Certain, Fresh, and ListsOfPatterns of `determinize_regex`.
+-- Used by: `laws::prefix_law`, TwoSearches, InputMatches, Begun, Certain, and ListsOfPatterns of `determinize_regex`.
 -- Idea: after the prefix a run that skips fewer bytes is preferred, so the preferred run begins leftmost.
-use Rattle.determinize_find.proofs.Common.{Accepts, AcceptsFrom, All, ap, arith, Before, Before-asym}
-use Rattle.determinize_find.proofs.Common.{EachAnchoredIsLeftmost, EachPreferredIsLeftmost, end_of, HalfMatch}
-use Rattle.determinize_find.proofs.Common.{HasPrefix, IsLeftmost, IsPreferredRun, length, List, Match, Nfa, None}
-use Rattle.determinize_find.proofs.Common.{NothingFrom, Option, option_map, pattern_in, preferred, refl, shape, skip}
-use Rattle.determinize_find.proofs.Common.{skip_before, skip_same, Some, Text, true_at, unshape, ℕ, ◌+◌, ◌<◌, ◌∷◌, ◌≡◌}
-use Rattle.determinize_find.proofs.Common.{◌≤◌, ◌⊎◌}
+use Rattle.determinize_find.proofs.Common.{Accepts, AcceptsFrom, All, ap, arith, Before, Before-asym, HasPrefix, length}
+use Rattle.determinize_find.proofs.Common.{List, Match, Nfa, None, NothingFrom, pattern_in, preferred, refl, shape}
+use Rattle.determinize_find.proofs.Common.{skip, skip_before, skip_same, Some, Text, true_at, unshape, ℕ, ◌+◌, ◌<◌, ◌∷◌}
+use Rattle.determinize_find.proofs.Common.{◌≡◌, ◌≤◌, ◌⊎◌}
 use Rattle.determinize_find.specs.Private.BestAt.{IsBestFrom}
 use Rattle.determinize_find.proofs.leftmost.SearchInTurn.{leftmost_match}
+use Rattle.determinize_find.specs.Laws.{EachAnchoredIsLeftmost, EachPreferredIsLeftmost}
 
 -- of two runs, of which the first is the same as the second or before it, the second is not before the first
 pub not_before : {cs ds : List ℕ} → (cs ≡ ds) ⊎ Before cs ds → Before ds cs → ⊥
@@ -33,24 +32,20 @@ module _ (nfa : Nfa) (text : Text) (has : HasPrefix nfa) (small : All (λ b. b <
       let p = shape nfa text (true_at nfa text) has small cs 0 (i, s) y (omega arith) (ap pattern_in is) run in
       (p.over, (rw (z p.over) at p.within), p.choices_then, p.is, (s, (rw (z p.over) at p.run), is))
 
-  preferred_one : (h : HalfMatch) (cs : List ℕ) → IsPreferredRun nfa text nfa.start_unanchored cs h.offset h.pattern
-      → (m : Option Match) × IsLeftmost nfa text (length text.bytes) m × (Some h ≡ option_map end_of m)
-  preferred_one h cs r =
-      let (k, within, ds, is, accepts) = to_start cs h.offset h.pattern r.accepts in
-      let m : Match = record { pattern = h.pattern; start = k; end = h.offset } in
-      let first : (j : ℕ) (es : List ℕ) (i y : ℕ) → j ≤ length text.bytes
-      → AcceptsFrom nfa text j nfa.start_anchored es i y → (skip k ds ≡ skip j es) ⊎ Before (skip k ds) (skip j es)
-      = λ j es i y l acc. rw is at (r.preferred (skip j es) i y (from_start j es i y l acc)) in
-      let best : IsBestFrom nfa text k ds h.offset h.pattern
-      = record { accepts = accepts; preferred = λ es i y acc. skip_same k ds es (first k es i y within acc) } in
-      let none : (j : ℕ) → j < k → NothingFrom nfa text j
-      = λ j l es i y acc. not_before (first j es i y (omega arith) acc) (skip_before j k es (0 ∷ ds) l) in
-      (Some m, (within, leftmost_match m ds none best), refl)
-
 pub each_preferred_is_leftmost : EachPreferredIsLeftmost
 each_preferred_is_leftmost nfa has text small None p =
     (None, λ k l cs i y acc. p (skip k cs) i y (from_start nfa text has small k cs i y l acc), refl)
-each_preferred_is_leftmost nfa has text small (Some h) (cs, r) = preferred_one nfa text has small h cs r
+each_preferred_is_leftmost nfa has text small (Some h) (cs, r) =
+    let (k, within, ds, is, accepts) = to_start nfa text has small cs h.offset h.pattern r.accepts in
+    let m : Match = record { pattern = h.pattern; start = k; end = h.offset } in
+    let first : (j : ℕ) (es : List ℕ) (i y : ℕ) → j ≤ length text.bytes
+    → AcceptsFrom nfa text j nfa.start_anchored es i y → (skip k ds ≡ skip j es) ⊎ Before (skip k ds) (skip j es)
+    = λ j es i y l acc. rw is at (r.preferred (skip j es) i y (from_start nfa text has small j es i y l acc)) in
+    let best : IsBestFrom nfa text k ds h.offset h.pattern
+    = record { accepts = accepts; preferred = λ es i y acc. skip_same k ds es (first k es i y within acc) } in
+    let none : (j : ℕ) → j < k → NothingFrom nfa text j
+    = λ j l es i y acc. not_before (first j es i y (omega arith) acc) (skip_before j k es (0 ∷ ds) l) in
+    (Some m, (within, leftmost_match m ds none best), refl)
 
 pub each_anchored_is_leftmost : EachAnchoredIsLeftmost
 each_anchored_is_leftmost nfa text None p =

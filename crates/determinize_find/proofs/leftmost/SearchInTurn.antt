@@ -1,11 +1,8 @@
--- Runs from a later position, the leftmost match of an input as one of the text of its range, and anchored searches
--- from one index after another.
--- Main statements: later_run, run_within, in_text, none_in_text, leftmost_in, found_past, text-since, best_in,
--- more_nothing, found_here, found_last.
--- Used by: `plain::find_at` and `find_in_turn`, all that says what the leftmost match of an input is, and the searches in
--- turn of `determinize_linear`.
--- Idea: a run from a later position keeps its choices over the rest of the text (Shifts); the text from a later index is
--- the rest of the text; and the first index with a match is the least one where a run accepts.
+-- The leftmost match of an input as one of its text, and by anchored searches from one index after another.
+-- Main statements: later_run, in_text, leftmost_in, text-since, best_in, more_nothing, found_here, found_last.
+-- Used by: `plain::find_at` and `find_in_turn`, all on leftmost matches, and searches in turn of `determinize_linear`.
+-- Idea: the text from a later index is the rest of the text, where runs keep their choices (Shifts), and the first
+-- index with a match is the least one where a run accepts.
 use Rattle.determinize_find.proofs.Common.{Accepts, AcceptsFrom, ap, arith, Asked, asked_of, before_at, between}
 use Rattle.determinize_find.proofs.Common.{by_cases, byte_before, cases_lt, cond, drop, drop-drop, drop-take}
 use Rattle.determinize_find.proofs.Common.{each_run_moves, each_run_reads_forward, false, from, HalfMatch, is_anchored}
@@ -14,8 +11,8 @@ use Rattle.determinize_find.proofs.Common.{LeftmostFirst, length, length-drop, L
 use Rattle.determinize_find.proofs.Common.{moved, nat_tests, Nfa, no_run_leaves_the_text, None, none-some, NothingFrom}
 use Rattle.determinize_find.proofs.Common.{Option, option_map, preferred, refl, since, slice_get, slice_get-drop}
 use Rattle.determinize_find.proofs.Common.{slice_get-take, slice_range, Some, some_injective, suc, sym, Text, text_of}
-use Rattle.determinize_find.proofs.Common.{Yes, zero, ℕ, ◌+◌, ◌-◌, ◌<◌, ◌∙◌, ◌≡◌, ◌≤◌}
-use Rattle.determinize_find.specs.Private.BestAt.{from_index, IsBestAt, IsBestFrom, IsBestIn}
+use Rattle.determinize_find.proofs.Common.{Yes, zero, ℕ, ◌+◌, ◌-◌, ◌<◌, ◌≡◌, ◌≤◌}
+use Rattle.determinize_find.specs.Private.BestAt.{from_index, IsBestFrom, IsBestIn}
 
 -- a run from a later position is one over the text from an earlier one on
 pub later_run : (nfa : Nfa) (text : Text) (n j : ℕ) {k : ℕ} → k ≡ n + j → (cs : List ℕ) (i pattern : ℕ)
@@ -51,7 +48,8 @@ in_text {nfa} {asked} {m} h = by_cases (cases_lt asked.end asked.start)
         × (Some m ≡ option_map (moved asked.start) o)) → IsInText nfa asked m
     go l (None, is, e) = cc
     go l (Some n, (early, is), e) =
-        rw (some_injective m _ e) record { order = l; match = n; early = early; leftmost = is; start = refl; end = refl }
+        rw (some_injective m _ e)
+        record { order = l; match = n; early = early; leftmost = is; start = refl; end = refl }
 
 -- without a match the text has none
 pub none_in_text : {nfa : Nfa} {asked : Asked} → IsLeftmostIn nfa asked None → asked.start ≤ asked.end
@@ -122,12 +120,19 @@ module _ (nfa : Nfa) (asked : Asked) (at : ℕ) (forward : nfa.reverse ≡ false
       let z : base + 0 ≡ base = omega arith in
       let accepts = rw z at ((each_run_moves nfa (text_of false asked) base 0 nfa.start_anchored cs i h.pattern).1
       (rw text_is at run.accepts)) in
-      let preferred = λ (ds : List ℕ) (j y : ℕ) (acc : AcceptsFrom nfa (text_of false asked) base nfa.start_anchored ds j y).
-      run.preferred ds (j - base) y (here ds j y acc) in
       let start : at ≡ asked.start + base = omega arith in
       let end : h.offset ≡ asked.start + (base + i) = omega arith in (
         Some record { pattern = h.pattern; start = base; end = base + i },
-        (refl, (cs, record { accepts = accepts; preferred = preferred })),
+        (
+          refl,
+          (
+            cs,
+            record {
+              accepts = accepts;
+              preferred = λ ds j y acc. run.preferred ds (j - base) y (here ds j y acc);
+            },
+          ),
+        ),
         ap Some (λ n. record { pattern = h.pattern; start = start n; end = end n }),
       )
 
@@ -152,24 +157,17 @@ pub leftmost_match : {nfa : Nfa} {text : Text} (m : Match) (cs : List ℕ)
 leftmost_match m cs none best =
     record { leftmost = none; choices = cs; accepts = best.accepts; preferred = best.preferred }
 
--- and so is none at the last position
-best_leftmost : (nfa : Nfa) (text : Text) (k late : ℕ) (o : Option Match) → k ≤ late
-    → ((j : ℕ) → j < k → NothingFrom nfa text j) → IsBestAt nfa text k o → (o ≡ None → k ≡ late)
-    → IsLeftmost nfa text late o
-best_leftmost nfa text k late None l none best last = λ j m. by_cases (cases_lt j k)
-    (none j)
-    (λ i. let z : k ≡ j = omega (arith, last refl) in rw z at best)
-best_leftmost nfa text k late (Some m) l none (start, (cs, best)) last =
-    (omega arith, leftmost_match m cs (λ j i. none j (omega arith)) (rw (← start) at best))
-
 -- the first index with a match has the leftmost one, and after the last index there is none
 found_in_turn : (nfa : Nfa) (asked : Asked) (at : ℕ) (answer : Option Match) → asked.start ≤ at → at ≤ asked.end
     → at - asked.start ≤ latest nfa asked → NothingBefore nfa asked at → IsBestIn nfa asked at answer
     → (answer ≡ None → at - asked.start ≡ latest nfa asked) → IsLeftmostIn nfa asked answer
-found_in_turn nfa asked at answer l m early before (o, best, is) last =
-    rw is (leftmost_in nfa asked o (omega arith) (best_leftmost nfa (text_of false asked) (at - asked.start)
-    (latest nfa asked) o early (λ j i. before j (omega arith)) best
-    (λ e. last (is ∙ ap (option_map (moved asked.start)) e))))
+found_in_turn nfa asked at answer low high early before (None, best, is) last =
+    rw is (leftmost_in nfa asked None (omega arith) (λ j l. by_cases (cases_lt (asked.start + j) at)
+    (before j)
+    (λ i. let z : at - asked.start ≡ j = omega (arith, last is) in rw z at best)))
+found_in_turn nfa asked at answer low high early before (Some m, (start, (cs, best)), is) last =
+    rw is (leftmost_in nfa asked (Some m) (omega arith)
+    (omega arith, leftmost_match m cs (λ j i. before j (omega arith)) (rw (← start) at best)))
 
 -- the latest index at which a match may begin
 pub record IsLatest (nfa : Nfa) (asked : Asked) (value : ℕ) : Type 0 where

@@ -4,13 +4,12 @@
 -- Idea: runs of any pattern that end where the leftmost match ends begin where it does or later, so the farthest
 -- backward is its start.
 use Rattle.determinize_find.proofs.Common.{Accepts, AcceptsFrom, All, All-drop, All-from_get_or, All-take, arith, Asked}
-use Rattle.determinize_find.proofs.Common.{asked_of, between, Bool, by_cases, by_test, cases_lt, cond, Decides, end_of}
-use Rattle.determinize_find.proofs.Common.{Err, false, false≢true, Fits, HalfMatch, has_start, HasMatch, HasPrefix}
-use Rattle.determinize_find.proofs.Common.{IfOk, in_haystack, is_anchored, is_done, IsEnded, IsEnding, IsFarthestMatch}
-use Rattle.determinize_find.proofs.Common.{IsLeftmost, IsLeftmostIn, IsPreferredMatch, IsReverseOf, IsSearchResult}
-use Rattle.determinize_find.proofs.Common.{last_in, le-ltb, LeftmostFirst, length, length-drop, length-reverse}
-use Rattle.determinize_find.proofs.Common.{length-take, List, lt-ltb, Match, moved, nat_eq, ne_eqb, Nfa, No}
-use Rattle.determinize_find.proofs.Common.{no_run_leaves_the_text, None, Ok, Option, option_map, or_some, Pattern, refl}
+use Rattle.determinize_find.proofs.Common.{asked_of, between, Bool, by_cases, by_test, cases_lt, cond, end_of, false}
+use Rattle.determinize_find.proofs.Common.{false≢true, Fits, HalfMatch, has_start, HasMatch, HasPrefix, IfOk}
+use Rattle.determinize_find.proofs.Common.{in_haystack, is_anchored, is_done, IsEnded, IsEnding, IsLeftmost}
+use Rattle.determinize_find.proofs.Common.{IsLeftmostIn, IsReverseOf, IsSearchResult, last_in, le-ltb, LeftmostFirst}
+use Rattle.determinize_find.proofs.Common.{length, length-drop, length-take, List, lt-ltb, Match, moved, ne_eqb, Nfa}
+use Rattle.determinize_find.proofs.Common.{No, no_run_leaves_the_text, None, Option, option_map, or_some, Pattern, refl}
 use Rattle.determinize_find.proofs.Common.{Result, slice_get-drop, slice_get-take, slice_get_past, slice_index_or}
 use Rattle.determinize_find.proofs.Common.{slice_range, Some, start_for, sym, take-take, Text, text_of, true, turned}
 use Rattle.determinize_find.proofs.Common.{u_not_a, upto, w8, Yes, [], ℕ, ◌+◌, ◌-◌, ◌<◌, ◌∙◌, ◌≡◌, ◌≤◌}
@@ -21,6 +20,7 @@ use Rattle.determinize_find.proofs.leftmost.PreferredRun.{to_start}
 use Rattle.determinize_find.proofs.matches.OneList.{length-range, lies, LiesIn}
 use Rattle.determinize_engine.specs.Engines.{EngineValue}
 use Rattle.determinize_find.specs.Private.Pairs.{IsPair}
+use Rattle.determinize_core.proofs.Common.{Decides, Err, IsFarthestMatch, IsPreferredMatch, length-reverse, nat_eq, Ok}
 use Rattle.determinize_below.specs.declared.search.MatchKind.TheVariants as kinds
 
 -- with the usual prefix the starts are two states
@@ -101,7 +101,8 @@ module _ {forward backward : EngineValue} {flag : Option Bool} (pair : IsPair fo
     λ f n. by_cases (cases_lt asked.end asked.start)
         (λ l. cc (f, done (lt-ltb _ _ l)))
         (λ l. let (cs, i, y, acc) = (d (le-ltb _ _ l)).0 f in
-        let (k, low, ds, run) = begins_somewhere nfa text pair.prefix small asked.anchored cs i y start (rw text_is at acc) in
+        let (k, low, ds, run) = begins_somewhere nfa text pair.prefix small asked.anchored cs i y start
+        (rw text_is at acc) in
         none_in_text n l k (rw (length-range asked within) at low) ds i y run),
     λ some. by_test found (λ f. f) (λ f. absurd (some (none f))),
   )

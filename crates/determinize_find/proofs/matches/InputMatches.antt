@@ -1,10 +1,9 @@
--- Each input has a leftmost match or none, and a list of all of its matches. It passes over none: where a run begins
--- that accepts, a match of the list contains the index, or ends there before an empty one.
+-- Each input has a list of all of its matches, which passes over none.
 -- Main statements: each_input_has_matches, each_start_is_covered.
 -- Used by: `laws::matches_law`, and StreamsOfPatterns of `determinize_regex`.
--- Idea: the walk from the anchored start at each position in turn gives the match that begins there, or says that there
--- is none; and each match leaves fewer indices. No run begins before the next match, as it is a leftmost one; where the
--- first leftmost match is skipped, it is empty and begins where the range does.
+-- Idea: the walk from the anchored start at each position in turn gives the match that begins there, if any, and each
+-- match leaves fewer indices. No run begins before the next match, as it is a leftmost one; where the first leftmost
+-- match is skipped, it is empty and begins where the range does.
 use Rattle.determinize_find.proofs.Common.{ap, AreMatches, arith, Asked, BeginsAt, Bool, by_cases, by_option, by_test}
 use Rattle.determinize_find.proofs.Common.{cases_lt, chain, Contains, Covers, EachInputHasMatches, EachStartIsCovered}
 use Rattle.determinize_find.proofs.Common.{false, from, inl, inr, is_anchored, is_touching, IsAccepted, IsEmptyAt}
@@ -50,7 +49,7 @@ module _ (nfa : Nfa) (accepted : IsAccepted nfa) where
       let one = leftmost_of asked in
       by_test (is_touching before one.0)
       (λ t. let further = leftmost_of (from asked (asked.start + 1)) in
-      (further.0, next_further nfa nfa asked _ before one.0 further.0 refl refl one.1 t further.1))
+      (further.0, next_further nfa asked before one.0 further.0 one.1 t further.1))
       (λ t. (one.0, next_plain nfa asked before one.0 one.1 t))
 
   -- all matches, of which there are fewer than n
@@ -63,8 +62,9 @@ module _ (nfa : Nfa) (accepted : IsAccepted nfa) where
       by_option found
       (λ e. ([], rw e at h))
       (λ m e. let is = rw e at h in
-      let less = (fewer nfa nfa asked asked asked.start before m refl refl inside starts is).0 in
-      let (ms, all) = matches n (from asked m.end) (Some m.end) (omega arith) inside (λ last e. cc) in (m ∷ ms, (is, all)))
+      let less = (fewer nfa asked asked asked.start before m refl inside starts is).0 in
+      let (ms, all) = matches n (from asked m.end) (Some m.end) (omega arith) inside (λ last e. cc) in
+      (m ∷ ms, (is, all)))
 
 pub each_input_has_matches : EachInputHasMatches
 each_input_has_matches nfa accepted asked before inside starts =
@@ -120,15 +120,12 @@ skipped nfa asked before at found starts (Some m, is, taken) p l b = by_test (to
     rw same (ends ∙ ap Some start, (m.pattern, rw is_empty at is))))
     (λ e. absurd (none_passed nfa asked at (Some m) l is (rw (taken.1 e) at p) b))
 
--- what is said of an index at which a run begins that accepts
-abbrev IsSeen : Nfa → Asked → Option ℕ → List Match → ℕ → Type 0
-IsSeen nfa asked before ms at =
-    ((before ≡ Some at) × IsEmptyAt nfa asked at) ⊎ ((m : Match) × Contains ms m × Covers nfa asked at m)
-
+-- where a run begins that accepts: before the first match, or in one of the list
 seen : (nfa : Nfa) (asked : Asked) (before : Option ℕ) (ms : List Match) (at : ℕ)
     → asked.end ≤ length asked.haystack → is_anchored nfa asked.anchored ≡ false
     → ((last : ℕ) → before ≡ Some last → last ≡ asked.start) → AreMatches nfa asked before ms
-    → at ≤ asked.end → BeginsAt nfa asked at → IsSeen nfa asked before ms at
+    → at ≤ asked.end → BeginsAt nfa asked at
+    → ((before ≡ Some at) × IsEmptyAt nfa asked at) ⊎ ((m : Match) × Contains ms m × Covers nfa asked at m)
 seen nfa asked before [] at l free starts h e b = inl (skipped nfa asked before at None starts h free e b)
 seen nfa asked before (m ∷ ms) at l free starts h e b =
     let y = next_lies nfa asked before m l starts h.0 in

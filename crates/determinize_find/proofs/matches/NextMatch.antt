@@ -4,28 +4,26 @@
 -- Idea: a list of all matches from the cursor on, after what was found, is the list of all matches.
 use Rattle.determinize_find.proofs.Common.{ap, append-nil, append_assoc, AreMatches, arith, Asked, false, from}
 use Rattle.determinize_find.proofs.Common.{is_touching, IsLeftmostIn, IsNext, left, length, List, Match, Nfa, None}
-use Rattle.determinize_find.proofs.Common.{Option, refl, SearcherValue, Some, true, [], ℕ, ◌++◌, ◌+◌, ◌<◌, ◌∷◌, ◌≡◌}
-use Rattle.determinize_find.proofs.Common.{◌≤◌}
-use Rattle.determinize_find.specs.Cursors.{after_match}
+use Rattle.determinize_find.proofs.Common.{Option, refl, Some, true, [], ℕ, ◌++◌, ◌+◌, ◌<◌, ◌∷◌, ◌≡◌, ◌≤◌}
+use Rattle.determinize_find.specs.Cursors.{after_match, SearcherValue}
 use Rattle.determinize_find.proofs.matches.OneList.{LiesIn, next_lies}
 
 pub next_plain : (nfa : Nfa) (asked : Asked) (before : Option ℕ) (first : Option Match) → IsLeftmostIn nfa asked first
     → is_touching before first ≡ false → IsNext nfa asked before first
 next_plain nfa asked before first x t = grind arith
 
-pub next_further : (nfa now : Nfa) (asked further : Asked) (before : Option ℕ) (first found : Option Match)
-    → now ≡ nfa → further ≡ from asked (asked.start + 1)
-    → IsLeftmostIn nfa asked first → is_touching before first ≡ true → IsLeftmostIn now further found
-    → IsNext nfa asked before found
-next_further nfa now asked further before first found n f x t y = grind arith
+pub next_further : (nfa : Nfa) (asked : Asked) (before : Option ℕ) (first found : Option Match)
+    → IsLeftmostIn nfa asked first → is_touching before first ≡ true
+    → IsLeftmostIn nfa (from asked (asked.start + 1)) found → IsNext nfa asked before found
+next_further nfa asked before first found x t y = grind arith
 
 -- each match leaves fewer indices
-pub fewer : (nfa now : Nfa) (asked rest : Asked) (start : ℕ) (before : Option ℕ) (m : Match) → now ≡ nfa
-    → rest ≡ from asked start → asked.end ≤ length asked.haystack
-    → ((last : ℕ) → before ≡ Some last → last ≡ start) → IsNext now rest before (Some m)
+pub fewer : (nfa : Nfa) (asked rest : Asked) (start : ℕ) (before : Option ℕ) (m : Match) → rest ≡ from asked start
+    → asked.end ≤ length asked.haystack → ((last : ℕ) → before ≡ Some last → last ≡ start)
+    → IsNext nfa rest before (Some m)
     → (left asked.end m.end (Some m.end) < left asked.end start before) × LiesIn (from asked start) m
-fewer nfa now asked rest start before m e r l starts n =
-    let y = next_lies now (from asked start) before m l starts (rw r at n) in
+fewer nfa asked rest start before m r l starts n =
+    let y = next_lies nfa (from asked start) before m l starts (rw r at n) in
     (grind (arith, y.1, starts, y.0.low, y.0.order, y.0.high), y.0)
 
 -- what was found so far, before all that is left; `initial` is the end of a match before all of them
@@ -52,33 +50,27 @@ pub record IsAfter (nfa : Nfa) (asked : Asked) (initial : Option ℕ) (s : Searc
   pub last : (end : ℕ) → s.before ≡ Some end → end ≡ s.asked.start
   pub first : AreFirst nfa asked initial s.asked.start s.before ms
 
-pub after_none : (nfa : Nfa) (asked : Asked) (initial : Option ℕ) (s : SearcherValue) (ms : List Match)
-    → s ≡ record { asked = asked; before = initial } → ms ≡ []
-    → ((end : ℕ) → initial ≡ Some end → end ≡ asked.start) → IsAfter nfa asked initial s ms
-after_none nfa asked initial s ms e n last = rw (e, n) record { rest = refl; last = last; first = λ rest h. h }
-
 -- one match more, within the range, and a cursor with fewer indices before it
 abbrev pub IsOneMore : Nfa → Asked → Option ℕ → SearcherValue → SearcherValue → List Match → Match → Type 0
 IsOneMore nfa asked initial s new ms m = IsAfter nfa asked initial new (ms ++ m ∷ [])
     × (left asked.end new.asked.start new.before < left asked.end s.asked.start s.before)
     × LiesIn (from asked s.asked.start) m
 
-pub after_one : {initial : Option ℕ} (nfa now : Nfa) (asked : Asked) (s new : SearcherValue) (ms : List Match)
-    (m : Match) → now ≡ nfa → asked.end ≤ length asked.haystack → IsAfter nfa asked initial s ms
-    → IsNext now s.asked s.before (Some m) → new ≡ after_match s (Some m) → IsOneMore nfa asked initial s new ms m
-after_one {initial} nfa now asked s new ms m e l a n z =
-    let less = fewer nfa now asked s.asked s.asked.start s.before m e a.rest l a.last n in rw z (
+pub after_one : {initial : Option ℕ} (nfa : Nfa) (asked : Asked) (s new : SearcherValue) (ms : List Match) (m : Match)
+    → asked.end ≤ length asked.haystack → IsAfter nfa asked initial s ms → IsNext nfa s.asked s.before (Some m)
+    → new ≡ after_match s (Some m) → IsOneMore nfa asked initial s new ms m
+after_one {initial} nfa asked s new ms m l a n z =
+    let less = fewer nfa asked s.asked s.asked.start s.before m a.rest l a.last n in rw z (
       record {
         rest = ap (λ w. from w m.end) a.rest;
         last = λ end y. cc;
-        first = one_more initial nfa now asked s.asked s.asked.start s.before ms m e a.rest a.first n;
+        first = one_more initial nfa nfa asked s.asked s.asked.start s.before ms m refl a.rest a.first n;
       },
       less.0,
       less.1,
     )
 
-pub after_all : {initial : Option ℕ} (nfa now : Nfa) (asked : Asked) (s : SearcherValue) (ms : List Match)
-    → now ≡ nfa → IsAfter nfa asked initial s ms → IsNext now s.asked s.before None
-    → AreMatches nfa asked initial ms
-after_all {initial} nfa now asked s ms e a n =
-    all_found initial nfa now asked s.asked s.asked.start s.before ms e a.rest a.first n
+pub after_all : {initial : Option ℕ} (nfa : Nfa) (asked : Asked) (s : SearcherValue) (ms : List Match)
+    → IsAfter nfa asked initial s ms → IsNext nfa s.asked s.before None → AreMatches nfa asked initial ms
+after_all {initial} nfa asked s ms a n =
+    all_found initial nfa nfa asked s.asked s.asked.start s.before ms refl a.rest a.first n

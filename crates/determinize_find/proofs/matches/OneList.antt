@@ -1,19 +1,17 @@
--- An input has at most one leftmost match, and its matches are one list: they lie in the range, do not overlap, and end
--- one after another.
--- Main statements: each_leftmost_is_one, each_leftmost_in_is_one, each_matches_are_one, each_matches_are_apart, lies,
--- next_lies.
+-- An input has one leftmost match and one list of matches: they lie in the range, do not overlap, and end in turn.
+-- Main statements: each_leftmost_is_one, each_leftmost_in_is_one, each_matches_are_one, lies, next_lies, apart.
 -- Used by: `laws::leftmost_law` and `matches_law`, TwoSearches, the steps of `Pieces`, and loops over all matches.
--- Idea: neither of two leftmost matches may begin before the other, and of the runs from one position the least accepting
+-- Idea: neither of two leftmost matches begins before the other, and of the runs from one position the least accepting
 -- one is one; each match is determined by the end of the one before.
 use Rattle.determinize_find.proofs.Common.{ap, AreApart, AreMatches, arith, Asked, by_cases, by_test, cases_order}
-use Rattle.determinize_find.proofs.Common.{choices, each_run_reads_forward, EachLeftmostInIsOne, EachLeftmostIsOne}
-use Rattle.determinize_find.proofs.Common.{EachMatchesAreApart, EachMatchesAreOne, false, from, is_done, IsLeftmostIn}
+use Rattle.determinize_find.proofs.Common.{choices, each_run_reads_forward, false, from, is_done, IsLeftmostIn}
 use Rattle.determinize_find.proofs.Common.{IsLeftmostMatch, IsNext, IsTaken, latest, length, length-drop, length-take}
 use Rattle.determinize_find.proofs.Common.{List, Match, moved, nat_tests, Nfa, None, none-some, Option, option_map}
 use Rattle.determinize_find.proofs.Common.{refl, same_least, slice_range, Some, some_injective, sym, Text, text_of}
 use Rattle.determinize_find.proofs.Common.{touches, [], ℕ, ◌+◌, ◌-◌, ◌<◌, ◌∙◌, ◌∷◌, ◌≡◌, ◌≤◌}
 use Rattle.ordered_reach.proofs.graph.UniqueOrder.{one_end}
 use Rattle.determinize_find.proofs.leftmost.SearchInTurn.{in_text, run_within}
+use Rattle.determinize_find.specs.Laws.{EachLeftmostInIsOne, EachLeftmostIsOne, EachMatchesAreApart, EachMatchesAreOne}
 
 one_match : {nfa : Nfa} {text : Text} (m n : Match) → IsLeftmostMatch nfa text m → IsLeftmostMatch nfa text n → m ≡ n
 one_match {nfa} {text} m n a b = by_cases (cases_order m.start n.start)

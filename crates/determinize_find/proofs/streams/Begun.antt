@@ -1,35 +1,32 @@
--- What the value of a scan records, in words of runs over the bytes so far, and whether one that began before is under
--- way there.
+-- What the value of a scan records, and whether a run that began before is under way where it is.
 -- Main statements: scanned_whole, recorded, begun_first, each_busy_has_begun, each_idle_is_fresh, fresh.
 -- Used by: `laws::idle_law`, `Regex::is_idle`, and Certain.
--- Idea: a scan whose value has an NFA state has read all bytes, so its value is the one of a walk over them. The least run
--- to its first state is before the one that passes over all bytes, so it left the prefix earlier, and before each other
--- run did. At an idle place it is that one, so no other run comes there; and where one accepts before the place, so does
--- the leftmost one, which ends there or later, as there is no match so far.
+-- Idea: the value of a scan with an NFA state is that of a walk over its bytes. The least run to its first state is
+-- before the one that passes over all bytes, so it left the prefix earlier, and before each other run did. At an idle
+-- place it is that one, so no other run comes there; and where one accepts before, the leftmost match ends there or
+-- later.
 use Rattle.determinize_find.proofs.Common.{AcceptsFrom, All, All-drop, ap, append-nil, append_assoc, arith, Assertion}
 use Rattle.determinize_find.proofs.Common.{Before, Before-trans, between, Bool, by_cases, by_option, byte_before}
 use Rattle.determinize_find.proofs.Common.{cases_eq, cases_lt, chain, Contains_In, drop, EachBusyHasBegun}
-use Rattle.determinize_find.proofs.Common.{EachIdleIsFresh, end_of, false, future, HalfMatch, HasPrefix, HasPrefixApart}
-use Rattle.determinize_find.proofs.Common.{inl, is_capture, IsAccepted, IsEndScan, IsFresh, IsIdle, IsPath, IsScan}
+use Rattle.determinize_find.proofs.Common.{EachIdleIsFresh, end_of, false, HalfMatch, HasPrefix, HasPrefixApart, inl}
+use Rattle.determinize_find.proofs.Common.{is_capture, IsAccepted, IsEndScan, IsFresh, IsIdle, IsPath, IsScan}
 use Rattle.determinize_find.proofs.Common.{last_match, leads_to, LeftmostFirst, length, length-drop, length-map, List}
-use Rattle.determinize_find.proofs.Common.{map, map-append, MatchKind, Nfa, None, none_leaves, Option, option_map}
-use Rattle.determinize_find.proofs.Common.{option_or, parted, pass, pass_all, pass_first, pattern_in, preferred, refl}
-use Rattle.determinize_find.proofs.Common.{same_decides, same_least, Scanned, skip, skip_before, slice_get, Some}
-use Rattle.determinize_find.proofs.Common.{some_injective, start_value, state_at, stays_out, step, suc, sym}
-use Rattle.determinize_find.proofs.Common.{tests_capture, Text, true, u_not_a, u_not_x, units_read, unshape, Value}
-use Rattle.determinize_find.proofs.Common.{value_after, zero, [], ℕ, ◌++◌, ◌+◌, ◌<◌, ◌∙◌, ◌∷◌, ◌≡◌, ◌≤◌}
+use Rattle.determinize_find.proofs.Common.{map, map-append, Nfa, None, none_leaves, Option, option_map, option_or}
+use Rattle.determinize_find.proofs.Common.{parted, pass, pass_all, pass_first, pattern_in, preferred, refl, same_least}
+use Rattle.determinize_find.proofs.Common.{Scanned, skip, skip_before, slice_get, slice_get_within, Some}
+use Rattle.determinize_find.proofs.Common.{some_injective, start_value, stays_out, step, suc, sym, tests_capture, Text}
+use Rattle.determinize_find.proofs.Common.{true, u_not_a, u_not_x, units_read, unshape, Value, zero, [], ℕ, ◌++◌, ◌+◌}
+use Rattle.determinize_find.proofs.Common.{◌<◌, ◌∙◌, ◌∷◌, ◌≡◌, ◌≤◌}
 use Rattle.ordered_reach.specs.Runs.{IsLeastRun, ListsReached}
 use Rattle.determinize_core.proofs.walk.UnitLists.{chain_is_future}
 use Rattle.determinize_core.proofs.walk.WalkOfRuns.{each_chain_reaches}
 use Rattle.determinize_engine.proofs.Scanning.{last-scanned}
 use Rattle.determinize_engine.specs.Private.Later.{last_from, later_by}
-use Rattle.determinize_find.proofs.streams.Cuts.{begun, graph, known_is, not_less, passes, same_path, there, true_path}
+use Rattle.determinize_find.proofs.streams.Cuts.{begun, graph, known_is, not_less, passes, same_path, slice_get-append}
+use Rattle.determinize_find.proofs.streams.Cuts.{there, true_path}
 use Rattle.std.proofs.Math.Nat.{lt_of_not-le, zero-add}
 use Rattle.determinize_find.proofs.leftmost.PreferredRun.{each_preferred_is_leftmost, not_before}
-
-first_append : (xs ys : List ℕ) (x : ℕ) → slice_get xs 0 ≡ Some x → slice_get (xs ++ ys) 0 ≡ Some x
-first_append [] ys x e = absurd (let z : None ≡ Some x = e in cc)
-first_append (z ∷ xs) ys x e = e
+use Rattle.determinize_core.proofs.Common.{future, MatchKind, same_decides, state_at, value_after}
 
 later_than : (n : ℕ) (o : Option HalfMatch) (h : HalfMatch) → option_or (option_map (later_by n) o) None ≡ Some h
     → n ≤ h.offset
@@ -66,7 +63,8 @@ module _ {nfa : Nfa} {start : ℕ} {behind : Option ℕ} {bytes : List ℕ} {s :
   pub ends_later : s.last ≡ None → (more : List ℕ) (ahead : Option ℕ) (h : HalfMatch)
       → last_match (chain nfa LeftmostFirst start (between behind (bytes ++ more) ahead)) ≡ Some h
       → length bytes ≤ h.offset
-  ends_later none more ahead h e = rw (← is.read) (later_than s.read _ h (rw none at (sym (scanned_whole more ahead) ∙ e)))
+  ends_later none more ahead h e =
+      rw (← is.read) (later_than s.read _ h (rw none at (sym (scanned_whole more ahead) ∙ e)))
 
   -- the first state of the value is the first that runs reach where the bytes end
   pub recorded : IsAccepted nfa → (x : ℕ) → slice_get s.state.states 0 ≡ Some x → (xs : List ℕ)
@@ -78,7 +76,8 @@ module _ {nfa : Nfa} {start : ℕ} {behind : Option ℕ} {bytes : List ℕ} {s :
       = rw (chain_is_future, all, ← length-map bytes Some) (future_at nfa LeftmostFirst (map Some bytes) _ first) in
       let r = (each_chain_reaches nfa accepted LeftmostFirst start (begun nfa behind bytes)).ids (length bytes)
       s.state (omega arith) item in
-      (r.0, rw (← known_is) r.1, rw r.2.1 (first_append s.state.states r.2.0 x e))
+      let first = slice_get-append s.state.states r.2.0 0 (slice_get_within s.state.states 0 x e) ∙ e in
+      (r.0, rw (← known_is) r.1, rw r.2.1 first)
 
 -- no run to a state of a list is before the least run to its first state
 pub none_before : {graph : ℕ × ℕ → List (ℕ × ℕ)} {cap : ℕ → Bool} {start i x : ℕ} {xs cs : List ℕ}
@@ -142,7 +141,8 @@ module _ {nfa : Nfa} (accepted : IsAccepted nfa) (has : HasPrefix nfa) {behind :
       by_cases (parted nfa text holds has small cs 0 (end, x) (omega arith) least.run)
       (λ s. record {
         start = s.over;
-        below = lt_of_not-le (λ k. none (pass end []) u plain passed (rw s.is (pass_first end s.over 0 s.choices_then k)));
+        below = lt_of_not-le
+            (λ k. none (pass end []) u plain passed (rw s.is (pass_first end s.over 0 s.choices_then k)));
         choices = s.choices_then;
         path = rw zero-add at s.run;
         first = λ k ds t l c p. not_less k s.over (λ j. none (skip k ds) t c (from_start k ds t l p)
@@ -156,14 +156,11 @@ module _ {nfa : Nfa} (accepted : IsAccepted nfa) (has : HasPrefix nfa) {behind :
   -- where the prefix is apart and the scan is idle
   module _ (apart : (t : ℕ) → leads_to has.skip (state_at nfa t) ≡ true → t ≡ u) (idle : IsIdle nfa s)
       (out : ¬ (a ≡ has.skip)) where
-    -- a run that left the prefix is not in it
-    left : (k : ℕ) (cs : List ℕ) (t : ℕ) → IsPath (graph nfa behind bytes) [] (k, a) cs (end, t) → ¬ (t ≡ u)
-    left k cs t p = (stays_out nfa text holds has apart cs (k, a) (end, t) (u_not_a nfa text holds has, out) p).0
-
     -- the only run to the unanchored start passes over each byte
     one_run : (cs : List ℕ) → IsPath (graph nfa behind bytes) [] (0, u) cs (end, u) → cs ≡ pass end []
     one_run cs p = by_cases (parted nfa text holds has small cs 0 (end, u) (omega arith) p)
-        (λ t. absurd (left (0 + t.over) t.choices_then u t.run refl))
+        (λ t. absurd ((stays_out nfa text holds has apart t.choices_then (0 + t.over, a) (end, u)
+        (u_not_a nfa text holds has, out) t.run).0 refl))
         (λ t. by_cases t.ends
         (λ e. let z : end ≡ 0 + t.over = ap (λ w. w.0) e.1 in let over : t.over ≡ end = omega arith in rw over at e.0)
         (λ e. absurd (u_not_x nfa text holds has (ap (λ w. w.1) e.1))))
@@ -192,8 +189,8 @@ module _ {nfa : Nfa} (accepted : IsAccepted nfa) (has : HasPrefix nfa) {behind :
         (λ m y_is. let (low, is_left) = rw y_is at is_first in
         by_cases (cases_lt k m.start)
         (λ earlier. is_left.leftmost k earlier cs j y acc)
-        (λ later. none_past [] None m.start (omega arith) is_left.choices m.end m.pattern (rw append-nil is_left.accepts)
-        (ends_later is idle.none [] None (end_of m) (rw append-nil (rw y_is at e)))))
+        (λ later. none_past [] None m.start (omega arith) is_left.choices m.end m.pattern
+        (rw append-nil is_left.accepts) (ends_later is idle.none [] None (end_of m) (rw append-nil (rw y_is at e)))))
 
 pub each_busy_has_begun : EachBusyHasBegun
 each_busy_has_begun nfa accepted has behind bytes small s is t e other more ahead =

@@ -1,11 +1,9 @@
--- The match of a scan that nothing that follows can change: it is the preferred one, so it has the pattern and the end of
--- the leftmost match, which begins at one position, regardless of what follows.
--- Main statements: settled_certain, certain_within, each_certain_is_preferred, first_begins, HasCertain, is_ended,
--- certain_is.
+-- The match of a scan that nothing that follows can change is the leftmost one.
+-- Main statements: settled_certain, certain_within, each_certain_is_preferred, first_begins, is_ended, certain_is.
 -- Used by: `laws::certain_law`, and `Regex::certain`.
--- Idea: the next step lists the pattern of the first state, where that is a `Match`, and enters none, so the last match of
--- each walk is the same. A run to that state is the first to begin of those that come to the end, so the leftmost match
--- begins with it; and where a match that ends before begins depends only on what is before its end.
+-- Idea: the next step lists the pattern of the first state, where that is a `Match`, and enters none, so the last match
+-- of each walk is the same. A run to that state is the first to begin of those that come to the end, so the leftmost
+-- match begins with it; and where a match that ends before begins depends only on what is before its end.
 use Rattle.determinize_find.proofs.Common.{add-one, All, All-append, All-drop, All-nil, ap, append-nil, arith, between}
 use Rattle.determinize_find.proofs.Common.{by_cases, by_option, by_test, byte_before, certain_after, certain_match}
 use Rattle.determinize_find.proofs.Common.{drop, drop-append-le, each_run_reads_forward, EachCertainIsPreferred}
@@ -60,8 +58,8 @@ module _ {nfa : Nfa} {s : Scanned} {m : HalfMatch} (first : IsFirst nfa s m) whe
       × ((step nfa LeftmostFirst s.state u).states ≡ [])
   unfolding step
   step_first u =
-      let (none, listed) = stops_first nfa (working_list nfa s.state u) first.state m.pattern (reads_first u) first.match
-      in rw (none, listed, reach-none) (refl, refl)
+      let (none, listed) = stops_first nfa (working_list nfa s.state u) first.state m.pattern (reads_first u)
+      first.match in rw (none, listed, reach-none) (refl, refl)
 
   -- so it is the last match, for any units that follow
   ends_next : (u : Option ℕ) (us : List (Option ℕ))
@@ -131,8 +129,8 @@ first_begins {nfa} accepted has {behind} {bytes} {s} {h} small is first =
       is = λ more m left end.
           let path = true_path nfa behind bytes more None begun.choices (begun.start, nfa.start_anchored) first.state
           begun.path in
-          let low = not_less begun.start m.start (λ k. left.leftmost begun.start k begun.choices (length bytes) h.pattern
-          (first.state, path, match_in _ h.pattern first.match)) in
+          let low = not_less begun.start m.start (λ k. left.leftmost begun.start k begun.choices (length bytes)
+          h.pattern (first.state, path, match_in _ h.pattern first.match)) in
           let (s, run, match) = left.accepts in
           let (cs, t, plain, to_end) = passes nfa behind bytes more None left.choices [] (m.start, nfa.start_anchored)
           (m.end, s) (omega (arith, begun.below)) (omega arith) (ap tests_capture match) run in
@@ -154,7 +152,7 @@ begins_before : (nfa : Nfa) (behind : Option ℕ) (bytes : List ℕ) (m : Match)
     → IsLeftmostMatch nfa (between behind (bytes ++ []) None) m → BeginsThere nfa behind bytes m.end
 begins_before nfa behind bytes m inside left = record {
   start = m.start;
-  below = omega (arith, each_run_reads_forward nfa _ m.start nfa.start_anchored left.choices m.end m.pattern left.accepts);
+  below = omega (arith, each_run_reads_forward nfa _ m.start nfa.start_anchored left.choices _ _ left.accepts);
   is = λ more n other ends.
       let low = not_later nfa behind bytes more [] n m (omega arith) other left in
       let high = not_later nfa behind bytes [] more m n inside left other in omega arith;
@@ -181,13 +179,6 @@ record IsMatchWith (nfa : Nfa) (text : Text) (h : HalfMatch) : Type 0 where
 module _ {nfa : Nfa} {xs : List ℕ} {start : ℕ} {s : Scanned} {h : HalfMatch} (is : HasCertain nfa xs start s h) where
   few : All (λ b. b < 256) (drop start xs)
   few = All-drop (λ b. b < 256) start xs is.small
-
-  -- it ends before the last byte, or it is that of the first state
-  where_ends : (h.offset < length (drop start xs)) ⊎ IsFirst nfa s h
-  where_ends = certain_within is.scan.scan h is.certain
-
-  ends_within : h.offset ≤ length (drop start xs)
-  ends_within = by_cases where_ends (λ l. omega arith) (λ f. omega (arith, f.end, is.scan.scan.read))
 
   match_with : (more : List ℕ) → All (λ b. b < 256) more → IsMatchWith nfa (text_with xs start more) h
   match_with more small =
@@ -227,17 +218,16 @@ module _ {nfa : Nfa} {xs : List ℕ} {start : ℕ} {s : Scanned} {h : HalfMatch}
   pub is_ended : IsEndOf nfa xs start (start + h.offset)
   is_ended = (from (whole xs) start, moved start first, ended)
 
-  -- the match begins at one position, which is before the end, regardless of what follows
-  begins_there : BeginsThere nfa (byte_before xs start) (drop start xs) first.end
-  begins_there = let n = match_with [] none in by_cases where_ends
-      (λ l. begins_before nfa (byte_before xs start) (drop start xs) first (omega (arith, n.end)) n.left.1)
-      (λ f. rw (n.end, f.end, is.scan.scan.read) (first_begins is.scan.accepted is.scan.prefix few is.scan.scan f))
-
   pub certain_is : (begin : ℕ) → IsBeginOf nfa xs start (start + h.offset) begin
       → IsCertain nfa xs start record { pattern = h.pattern; start = begin; end = start + h.offset }
   certain_is begin at =
-      let there = begins_there in
       let n = match_with [] none in
+      let ends = certain_within is.scan.scan h is.certain in
+      let there : BeginsThere nfa (byte_before xs start) (drop start xs) first.end = by_cases ends
+      (λ l. begins_before nfa (byte_before xs start) (drop start xs) first (omega (arith, n.end)) n.left.1)
+      (λ f. rw (n.end, f.end, is.scan.scan.read) (first_begins is.scan.accepted is.scan.prefix few is.scan.scan f)) in
+      let high : h.offset ≤ length (drop start xs)
+      = by_cases ends (λ l. omega arith) (λ f. omega (arith, f.end, is.scan.scan.read)) in
       let here : start + first.start ≡ begin = at (from (whole xs) start) (moved start first) ended in
       let one : first.start ≡ there.start = there.is [] first n.left.1 refl in
       let order = each_run_reads_forward nfa _ first.start nfa.start_anchored n.left.1.choices first.end first.pattern
@@ -246,7 +236,7 @@ module _ {nfa : Nfa} {xs : List ℕ} {start : ℕ} {s : Scanned} {h : HalfMatch}
         inside = record {
           low = omega arith;
           order = omega (arith, order, n.end);
-          high = omega (arith, ends_within, is.within, length-drop start xs);
+          high = omega (arith, high, is.within, length-drop start xs);
           some = omega (arith, there.below, is.within, length-drop start xs);
         };
         leftmost = λ more small.

@@ -1,14 +1,15 @@
 -- Runs over texts that begin with the same bytes, by the assertions that are known where these bytes end.
 -- Main statements: known_is, true_path, passes, same_path.
--- Used by: Recorded, and the laws of idle, busy and certain scans.
+-- Used by: Begun and Certain.
 -- Idea: before that position the texts have the same units, and at it the assertions that are known are among those
 -- that are true (SameChoices).
 use Rattle.determinize_find.proofs.Common.{after_at, ap, arith, Assertion, before_at, between, Bool, by_cases, by_test}
 use Rattle.determinize_find.proofs.Common.{cases_lt, choice_cases, choice_later, choices, choices_under, cond, eq-eqb}
 use Rattle.determinize_find.proofs.Common.{false, free_more, inl, inr, is_capture, IsPath, known, known_choices, length}
 use Rattle.determinize_find.proofs.Common.{List, ne_eqb, Nfa, None, one_choice, Option, path_agree, refl, same_choices}
-use Rattle.determinize_find.proofs.Common.{slice_get, slice_get-get_or, Some, some_injective, suc, sym, Text, true}
-use Rattle.determinize_find.proofs.Common.{true_at, under_later, zero, [], ℕ, ◌++◌, ◌<◌, ◌==◌, ◌∙◌, ◌∷◌, ◌≡◌, ◌≤◌, ◌⊎◌}
+use Rattle.determinize_find.proofs.Common.{slice_get, slice_get-get_or, Some, suc, sym, Text, true_at, under_later}
+use Rattle.determinize_find.proofs.Common.{zero, [], ℕ, ◌++◌, ◌<◌, ◌==◌, ◌∷◌, ◌≡◌, ◌≤◌, ◌⊎◌}
+use Rattle.ordered_reach.proofs.lists.Elements.{In_cases, In_none}
 use mathlib.Core.Path.{fun_ext}
 use Rattle.determinize_below.proofs.nfas.Edges.{next_of}
 use Rattle.determinize_start.proofs.tables.TrueTables.{known_truth}
@@ -52,20 +53,14 @@ module _ (nfa : Nfa) (behind : Option ℕ) (bytes : List ℕ) where
     before_same zero l = refl
     before_same (suc i) l = slice_get-append bytes more i (omega arith)
 
-    true_same : (i : ℕ) → i < end → true_at nfa text i ≡ true_at nfa begun i
-    true_same i l =
-        let low : i ≤ end = omega arith in
-        rw (before_same i low, slice_get-append bytes more i l, slice_get-get_or bytes i 0 l)
-
-    known_true : (i : ℕ) (look : Assertion) → i ≡ end → there i look ≡ true → true_at nfa text i look ≡ true
-    known_true i look at y =
-        let low : i ≤ end = omega arith in
-        known_truth nfa (before_at text i) (after_at text i) look
-        (rw (before_same i low) (rw (eq-eqb i end at) at y))
-
     same_before : (p : ℕ × ℕ) → p.0 < end → graph p ≡ choices nfa text p
     same_before p l = same_choices nfa begun text there (true_at nfa text) p (sym (slice_get-append bytes more p.0 l))
-        (rw (ne_eqb p.0 end (λ e. omega arith), true_same p.0 l))
+        (rw (
+          ne_eqb p.0 end (λ e. omega arith),
+          before_same p.0 (omega arith),
+          slice_get-append bytes more p.0 l,
+          slice_get-get_or bytes p.0 0 l,
+        ))
 
     -- a run by what is known there is a run over each text
     pub true_path : (cs : List ℕ) (r : ℕ × ℕ) (s : ℕ) → IsPath graph [] r cs (end, s)
@@ -80,8 +75,10 @@ module _ (nfa : Nfa) (behind : Option ℕ) (bytes : List ℕ) where
               omega arith,
               by_cases (cases_lt p.0 end)
                   (λ k. rw (same_before p k) at e)
-                  (λ k. free_more nfa begun text there (true_at nfa text) p t c (omega arith)
-                  (λ look y. known_true p.0 look (omega arith) y) e),
+                  (λ k. let here : p.0 ≡ end = omega arith in
+                  free_more nfa begun text there (true_at nfa text) p t c (omega arith) (λ look y.
+                  known_truth nfa (before_at text p.0) (after_at text p.0) look
+                  (rw (before_same p.0 (omega arith)) (rw (eq-eqb p.0 end here) at y))) e),
             )
 
     -- some state there other than a capture, and a run to it by what is known there
@@ -99,12 +96,10 @@ module _ (nfa : Nfa) (behind : Option ℕ) (bytes : List ℕ) where
         (λ k. by_test (is_capture nfa r.1)
         (λ y. let one : slice_get ((r.0, next_of nfa r.1) ∷ []) c ≡ Some t
         = rw (one_choice nfa text (true_at nfa text) r y) at e in
-        inr (rw (one_choice nfa begun there r y) one, stays c one))
+        let same : t.0 ≡ r.0
+        = In_cases t (r.0, next_of nfa r.1) [] (c, one) (λ e. ap (λ w. w.0) e) (In_none t) in
+        inr (rw (one_choice nfa begun there r y) one, omega arith))
         (λ y. inl (omega arith, y)))
-      where
-        stays : (c : ℕ) → slice_get ((r.0, next_of nfa r.1) ∷ []) c ≡ Some t → t.0 ≤ end
-        stays zero e = let same = ap (λ w. w.0) (some_injective _ t e) in omega arith
-        stays (suc c) e = absurd (let w : None ≡ Some t = e in cc)
 
     -- a run that ends there or later in such a state passes it
     pub passes : (cs : List ℕ) (held : List (ℕ × ℕ)) (r q : ℕ × ℕ) → r.0 ≤ end → end ≤ q.0
@@ -119,22 +114,14 @@ module _ (nfa : Nfa) (behind : Option ℕ) (bytes : List ℕ) where
 
   -- a run that ends before is one over each of these texts
   pub same_path : (more others : List ℕ) (ahead beyond : Option ℕ) (cs : List ℕ) (r q : ℕ × ℕ) → q.0 < end
-      → IsPath (choices nfa (between behind (bytes ++ more) ahead)) [] r cs q
-      → IsPath (choices nfa (between behind (bytes ++ others) beyond)) [] r cs q
+      → IsPath (choices nfa (text more ahead)) [] r cs q → IsPath (choices nfa (text others beyond)) [] r cs q
   same_path more others ahead beyond cs r q l p =
-      (path_agree (choices nfa one) (choices nfa other) (λ t. t.0 < end) step cs [] r q l p).1
+      (path_agree (choices nfa (text more ahead)) (choices nfa (text others beyond)) (λ t. t.0 < end) step cs [] r q l
+      p).1
     where
-      one : Text
-      one = between behind (bytes ++ more) ahead
-
-      other : Text
-      other = between behind (bytes ++ others) beyond
-
-      step : (p t : ℕ × ℕ) (c : ℕ) → slice_get (choices nfa one p) c ≡ Some t → t.0 < end
-          → (p.0 < end) × (slice_get (choices nfa other p) c ≡ Some t)
+      step : (p t : ℕ × ℕ) (c : ℕ) → slice_get (choices nfa (text more ahead) p) c ≡ Some t → t.0 < end
+          → (p.0 < end) × (slice_get (choices nfa (text others beyond) p) c ≡ Some t)
       step p t c e l =
-          let low : p.0 ≤ t.0 = choice_later nfa one p t c e in
+          let low = choice_later nfa (text more ahead) p t c e in
           let before : p.0 < end = omega arith in
-          let byte = slice_get-append bytes more p.0 before ∙ sym (slice_get-append bytes others p.0 before) in
-          let true = true_same more ahead p.0 before ∙ sym (true_same others beyond p.0 before) in
-          (before, rw (same_choices nfa one other (true_at nfa one) (true_at nfa other) p byte true) at e)
+          (before, rw (← same_before others beyond p before, same_before more ahead p before) e)

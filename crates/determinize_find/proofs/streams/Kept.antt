@@ -1,25 +1,21 @@
--- How far a search for the next match moves in a text, and what `Pieces` keeps: few bytes, and a search of which no match
--- is certain.
--- Main statements: moved_none, moved_on, settled, skipped, advanced, front_none, in_block, unread_unsettled, few_kept,
--- HasRead, read_none, read_more, read_part, all_read.
--- Used by: `certain`, `next_certain`, `settle`, `skip_idle`, `take_next`, `read_next`, `read_block`, `advance` and `feed`
--- of `Pieces`.
--- Idea: moves that read nothing and find nothing are chained; then a match is found, or bytes are read. What was so at the
--- end of a block stays so, as more blocks are read.
+-- How far a search for the next match moves in a text, and what `Pieces` keeps.
+-- Main statements: moved_none, moved_on, settled, few_kept, skipped, advanced, in_block, read_more, all_read.
+-- Used by: the calls of `Pieces` that search or read.
+-- Idea: moves that read nothing and find nothing are chained; then a match is found, or bytes are read. What was so at
+-- the end of a block stays so, as more blocks are read.
 use Rattle.determinize_find.proofs.Common.{add-one, ap, append-nil, append_assoc, arith, by_cases, cases_lt}
 use Rattle.determinize_find.proofs.Common.{drop-append-le, drop-drop, drop_all, end_before, false, false≢true, HasMoved}
 use Rattle.determinize_find.proofs.Common.{HasPrefixApart, IfOk-weaker, IfSome, inl, inr, is_capture, is_touching}
 use Rattle.determinize_find.proofs.Common.{IsAdvance, IsCertain, IsEndScan, IsFed, IsFoundInBlock, IsFrontFed, IsIdle}
-use Rattle.determinize_find.proofs.Common.{IsKeptScan, IsPartFed, IsSearching, IsUnsettled, KeepsFew, KeptFewAt}
-use Rattle.determinize_find.proofs.Common.{KeptFewInBlocks, length, length-append, length-drop, List, Match, min, Nfa}
-use Rattle.determinize_find.proofs.Common.{nil_from_length, None, on_err_weaker, Option, option_to_list, pattern_in}
-use Rattle.determinize_find.proofs.Common.{pattern_of, reach, refl, Result, Scanned, Some, Streamed, take-append-le}
-use Rattle.determinize_find.proofs.Common.{take_all, tests_capture, true, with_scan, without_first, [], ℕ, ◌*◌, ◌++◌}
-use Rattle.determinize_find.proofs.Common.{◌+◌, ◌-◌, ◌<◌, ◌∙◌, ◌≡◌, ◌≤◌, ◌⊎◌}
+use Rattle.determinize_find.proofs.Common.{IsKeptScan, IsSearching, IsUnsettled, KeepsFew, KeptFewAt, KeptFewInBlocks}
+use Rattle.determinize_find.proofs.Common.{length, length-append, length-drop, List, Match, min, Nfa, nil_from_length}
+use Rattle.determinize_find.proofs.Common.{None, on_err_weaker, Option, option_to_list, pattern_in, pattern_of, reach}
+use Rattle.determinize_find.proofs.Common.{refl, Result, Scanned, Some, Streamed, take-append-le, take_all}
+use Rattle.determinize_find.proofs.Common.{tests_capture, true, with_scan, without_first, [], ℕ, ◌*◌, ◌++◌, ◌+◌, ◌-◌}
+use Rattle.determinize_find.proofs.Common.{◌<◌, ◌∙◌, ◌≡◌, ◌≤◌, ◌⊎◌}
 use Rattle.determinize_find.specs.Private.Windows.{IsWindow}
 use Rattle.determinize_find.proofs.streams.Rests.{byte_before-drop}
 use Rattle.determinize_find.proofs.streams.Steps.{after_byte, fed_dropped, fed_scan, fed_skipped, joined, joined_none}
-use Rattle.determinize_find.proofs.streams.Steps.{part_fed}
 
 -- where the search that was under way is dropped
 pub moved_none : {nfa : Nfa} {old new : Streamed} → new ≡ with_scan None old → HasMoved nfa old new
@@ -31,24 +27,33 @@ pub moved_on : {nfa : Nfa} {old now new : Streamed} → HasMoved nfa old now →
 moved_on a b = record { fed = λ list. joined_none (a.fed list) (b.fed list); searching = b.searching }
 
 -- a search that is kept under way, after the bytes that it does not need are dropped
-pub searching_after : {nfa : Nfa} (now : Streamed) {scan : Scanned} → now.start ≤ length now.kept
-    → IsKeptScan nfa now scan → IsSearching nfa (without_first (now.start - 1) (with_scan (Some scan) now))
-searching_after now within is =
-    let sum : now.start - 1 + (now.start - (now.start - 1)) ≡ now.start = omega arith in rw (
-      byte_before-drop (now.start - 1) (now.start - (now.start - 1)) now.kept (λ z. omega arith),
-      drop-drop (now.start - (now.start - 1)) (now.start - 1) now.kept,
-      sum,
-    ) is
+module _ {nfa : Nfa} (now : Streamed) {new : Streamed} {scan : Scanned} (within : now.start ≤ length now.kept)
+    (e : new ≡ without_first (now.start - 1) (with_scan (Some scan) now)) (is : IsKeptScan nfa now scan) where
+  searching_after : IsSearching nfa (without_first (now.start - 1) (with_scan (Some scan) now))
+  searching_after =
+      let sum : now.start - 1 + (now.start - (now.start - 1)) ≡ now.start = omega arith in rw (
+        byte_before-drop (now.start - 1) (now.start - (now.start - 1)) now.kept (λ z. omega arith),
+        drop-drop (now.start - (now.start - 1)) (now.start - 1) now.kept,
+        sum,
+      ) is
 
--- a move to such a search
-pub settled : {nfa : Nfa} {old : Streamed} (now : Streamed) {new : Streamed} {scan : Scanned}
-    → now.start ≤ length now.kept → new ≡ without_first (now.start - 1) (with_scan (Some scan) now)
-    → ((list : List Match) → IsFed nfa old now [] list list) → IsKeptScan nfa now scan → HasMoved nfa old new
-settled {nfa} now {new} {scan} within e fed is = rw e record {
-  fed = λ list. joined_none (fed list)
-      (fed_dropped nfa now (Some scan) (now.start - 1) list (omega arith) within);
-  searching = searching_after now within is;
-}
+  pub settled : {old : Streamed} → ((list : List Match) → IsFed nfa old now [] list list) → HasMoved nfa old new
+  settled fed = rw e record {
+    fed = λ list. joined_none (fed list) (fed_dropped nfa now (Some scan) (now.start - 1) list (omega arith) within);
+    searching = searching_after;
+  }
+
+  -- few bytes are kept
+  pub few_kept : IsUnsettled nfa scan → (HasPrefixApart nfa → IsIdle nfa scan → now.start ≡ length now.kept)
+      → KeepsFew nfa new
+  few_kept unsettled idle = rw e record {
+    scan = scan;
+    search = refl;
+    searching = searching_after;
+    unsettled = unsettled;
+    behind = omega arith;
+    idle = λ apart is. omega (arith, length-drop (now.start - 1) now.kept, idle apart is);
+  }
 
 -- a move past an empty match where the one before ended
 pub skipped : {nfa : Nfa} {now : Streamed} (old : Streamed) (first : Option Match)
@@ -104,19 +109,6 @@ unread_unsettled {nfa} unread is =
     let plain : is_capture nfa nfa.start_unanchored ≡ false = ap tests_capture is.prefix.first in
     let none : pattern_of nfa nfa.start_unanchored ≡ None = ap pattern_in is.prefix.first in
     rw (is.scan.state, unread, add-one, plain, none)
-
--- after the bytes before the search were dropped, but for the last
-pub few_kept : {nfa : Nfa} (now : Streamed) {new : Streamed} {scan : Scanned} → now.start ≤ length now.kept
-    → new ≡ without_first (now.start - 1) (with_scan (Some scan) now) → IsKeptScan nfa now scan
-    → IsUnsettled nfa scan → (HasPrefixApart nfa → IsIdle nfa scan → now.start ≡ length now.kept) → KeepsFew nfa new
-few_kept {nfa} now {new} {scan} within e is unsettled idle = rw e record {
-  scan = scan;
-  search = refl;
-  searching = searching_after now within is;
-  unsettled = unsettled;
-  behind = omega arith;
-  idle = λ apart is. omega (arith, length-drop (now.start - 1) now.kept, idle apart is);
-}
 
 module _ {nfa : Nfa} {old now new : Streamed} {done block : List ℕ} {list mid after : List Match}
     (fed : IsFed nfa old now done list mid) (more : IsFed nfa now new block mid after) (few : KeepsFew nfa new) where
@@ -177,9 +169,6 @@ read_none nfa s piece rest size list all e = record {
 
 module _ {nfa : Nfa} {old now : Streamed} {piece rest : List ℕ} {size : ℕ} {list mid : List Match}
     (is : HasRead nfa old now piece rest size list mid) where
-  cut_again : (block others : List ℕ) → rest ≡ block ++ others → is.done ++ (block ++ others) ≡ piece
-  cut_again block others e = rw (← e) is.cut
-
   pub read_more : {new : Streamed} {after : List Match} {block : List ℕ} (others : List ℕ) (next : ℕ) → next ≡ size
       → rest ≡ block ++ others → length block ≡ min size (length rest) → 0 < length rest
       → IsFed nfa now new block mid after → KeepsFew nfa new → HasRead nfa old new piece others next list after
@@ -189,7 +178,7 @@ module _ {nfa : Nfa} {old now : Streamed} {piece rest : List ℕ} {size : ℕ} {
       = by_cases is.full (λ z. absurd (omega (arith, ap length z))) (λ z. z) in
       record {
         done = is.done ++ block;
-        cut = append_assoc is.done block others ∙ cut_again block others e;
+        cut = append_assoc is.done block others ∙ (rw e at is.cut);
         size_is = same ∙ is.size_is;
         count = is.count + 1;
         full = by_cases (cases_lt (length rest) size)
@@ -198,10 +187,6 @@ module _ {nfa : Nfa} {old now : Streamed} {piece rest : List ℕ} {size : ℕ} {
         fed = joined is.fed more;
         few = more_blocks is.fed more few is.count begun (omega (arith, is.size_is)) (omega (arith, is.size_is)) is.few;
       }
-
-  pub read_part : {new : Streamed} {after : List Match} {block : List ℕ} (others : List ℕ) → rest ≡ block ++ others
-      → IsPartFed nfa now new block mid after → IsPartFed nfa old new piece list after
-  read_part others e part = part_fed others piece (cut_again _ others e) is.fed part
 
   pub all_read : rest ≡ [] → IsFed nfa old now piece list mid × KeptFewInBlocks nfa old now piece list mid
   all_read none = let all : is.done ≡ piece = rw (none, append-nil) at is.cut in rw (← all) (is.fed, is.few)

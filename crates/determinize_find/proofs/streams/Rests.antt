@@ -29,7 +29,8 @@ byte_before-append xs ys (suc i) l = slice_get-append xs ys i (omega arith)
 
 pub byte_before-drop : (d i : ℕ) (xs : List ℕ) → (i ≡ 0 → d ≡ 0) → byte_before (drop d xs) i ≡ byte_before xs (d + i)
 byte_before-drop d zero xs behind = rw (behind refl) refl
-byte_before-drop d (suc i) xs behind = let sum : d + suc i ≡ suc (d + i) = omega arith in rw (sum, slice_get-drop d xs i)
+byte_before-drop d (suc i) xs behind =
+    let sum : d + suc i ≡ suc (d + i) = omega arith in rw (sum, slice_get-drop d xs i)
 
 pub rest-drop : (d i : ℕ) (xs : List ℕ) → (i ≡ 0 → d ≡ 0) → rest (drop d xs) i ≡ rest xs (d + i)
 rest-drop d i xs behind = rw (byte_before-drop d i xs behind, drop-drop i d xs)

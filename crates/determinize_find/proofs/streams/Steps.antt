@@ -1,16 +1,15 @@
--- What each step of `Pieces` leaves: bytes kept or dropped, a match added or skipped, a later start; and at the end the
--- matches that are left.
--- Main statements: joined, fed_scan, fed_kept, fed_match, fed_skipped, fed_later, fed_dropped, part_fed, end_is, finished.
+-- What each step of `Pieces` leaves: bytes kept or dropped, a match added or skipped, a later start; and what is left.
+-- Main statements: joined, fed_scan, fed_kept, fed_match, fed_skipped, fed_later, fed_dropped, part_fed, finished.
 -- Used by: Kept, and `keep`, `pass`, `skip_idle`, `read_block` and `add_rest` of `Pieces`.
--- Idea: the matches from the new place on, after what was added, are those from the old place on; and each leftmost match
--- of the kept bytes is one of the text, as much later as bytes were dropped.
+-- Idea: the matches from the new place on, after what was added, are those from the old place on; and a match of the
+-- kept bytes is one of the text, as much later as bytes were dropped.
 use Rattle.determinize_find.proofs.Common.{All, All-append, All-cons, All-nil, ap, append-nil, append_assoc, AreApart}
 use Rattle.determinize_find.proofs.Common.{AreMatches, arith, Asked, before, Bool, by_test, cond, drop, drop-append-le}
 use Rattle.determinize_find.proofs.Common.{drop-drop, end_before, false, from, is_touching, IsCertain, IsFed}
 use Rattle.determinize_find.proofs.Common.{IsFinished, IsFresh, IsKept, IsLeftmostIn, IsNext, IsPartFed, IsStream}
-use Rattle.determinize_find.proofs.Common.{IsTaken, length, length-append, length-drop, List, map, Match, moved, Nfa}
-use Rattle.determinize_find.proofs.Common.{None, Option, option_map, place, refl, Scanned, Some, Streamed, sym}
-use Rattle.determinize_find.proofs.Common.{take-append-le, take_all, text_of, touches, true, whole, with_bytes}
+use Rattle.determinize_find.proofs.Common.{length, length-append, length-drop, List, map, Match, moved, Nfa, None}
+use Rattle.determinize_find.proofs.Common.{Option, option_map, place, refl, Scanned, Some, Streamed, sym}
+use Rattle.determinize_find.proofs.Common.{take-append-le, take_at, text_of, touches, true, whole, with_bytes}
 use Rattle.determinize_find.proofs.Common.{with_scan, without_first, [], ℕ, ◌++◌, ◌+◌, ◌-◌, ◌<◌, ◌∙◌, ◌∷◌, ◌≡◌, ◌≤◌}
 use Rattle.std.proofs.Math.Seq.{take-append-add}
 use Rattle.determinize_find.specs.Idle.{NothingBefore}
@@ -41,7 +40,8 @@ module _ {nfa : Nfa} {old now new : Streamed} {more : List ℕ} {list mid after 
 moved_start : (nfa : Nfa) (s : Streamed) (start : ℕ) (is_after : Bool) (scan : Option Scanned) (found : List Match)
     → ((bytes : List ℕ) (given : List Match) → IsStream nfa bytes given s
     → (more : List ℕ) → All (λ b. b < 256) more → (ms : List Match)
-    → AreMatches nfa (from (whole (bytes ++ more)) (s.dropped + start)) (cond is_after (Some (s.dropped + start)) None) ms
+    → AreMatches nfa (from (whole (bytes ++ more)) (s.dropped + start))
+    (cond is_after (Some (s.dropped + start)) None) ms
     → AreMatches nfa (from (whole (bytes ++ more)) (place s)) (before s) (found ++ ms)) → (list : List Match)
     → IsFed nfa s (record s { start = start; is_after = is_after; scan = scan }) [] list (list ++ found)
 moved_start nfa s start is_after scan found from_there list = record {
@@ -67,16 +67,13 @@ module _ {nfa : Nfa} {bytes : List ℕ} {given : List Match} {s : Streamed} (is 
   kept_more : (more : List ℕ) → s.kept ++ more ≡ drop s.dropped (bytes ++ more)
   kept_more more = ap (λ w. w ++ more) is.kept ∙ sym (drop-append-le s.dropped bytes more (omega (arith, is.read)))
 
-  dropped_within : (more : List ℕ) → s.dropped ≤ length (bytes ++ more)
-  dropped_within more = simp length-append (omega (arith, is.read))
-
   -- a certain match, in the whole text
   certain_in : {m : Match} → IsWindow s.kept s.dropped s.start s.scan → IsCertain nfa s.kept s.start m
       → (more : List ℕ) → All (λ b. b < 256) more
       → IsLeftmostIn nfa (from (whole (bytes ++ more)) (place s)) (Some (moved s.dropped m))
   certain_in {m} window certain more small =
-      shift_leftmost nfa s.dropped s.start (bytes ++ more) (Some m) window.behind (dropped_within more)
-      (rw (← kept_more more) (certain.leftmost more small))
+      shift_leftmost nfa s.dropped s.start (bytes ++ more) (Some m) window.behind
+      (simp length-append (omega (arith, is.read))) (rw (← kept_more more) (certain.leftmost more small))
 
 -- more bytes are kept
 pub fed_kept : (nfa : Nfa) (s : Streamed) (more : List ℕ) (scan : Option Scanned) (list : List Match)
@@ -138,8 +135,8 @@ fed_skipped nfa s m list window certain touching =
     let sum : s.dropped + (s.start + 1) ≡ s.dropped + s.start + 1 = omega arith in
     rw append-nil at (moved_start nfa s (s.start + 1) false s.scan [] (λ bytes given is more small.
     from_later nfa (whole (bytes ++ more)) (place s) _ (before s)
-    (λ found f. next_further nfa nfa _ _ _ (Some (moved s.dropped m)) found refl (rw sum refl)
-    (certain_in is window certain more small) (touches_before s m ∙ touching) f)) list)
+    (λ found f. next_further nfa _ _ (Some (moved s.dropped m)) found (certain_in is window certain more small)
+    (touches_before s m ∙ touching) (rw sum at f))) list)
 
 -- a match that begins later than a match before does not touch it
 not_touching : (b : Bool) (at : ℕ) (m : Match) → at < m.start → touches (cond b (Some at) None) m ≡ false
@@ -188,15 +185,11 @@ fed_dropped nfa s scan count list low within =
       };
     }
 
--- of a piece, nothing or all of it was read
-pub none_fed : {nfa : Nfa} {old new : Streamed} {list after : List Match} (piece : List ℕ)
-    → IsFed nfa old new [] list after → IsPartFed nfa old new piece list after
-none_fed piece h = (0, omega arith, h)
-
-pub all_fed : {nfa : Nfa} {old new : Streamed} {piece : List ℕ} {list after : List Match}
-    → IsFed nfa old new piece list after → IsPartFed nfa old new piece list after
-all_fed {nfa} {old} {new} {piece} h =
-    let all : length piece ≤ length piece = omega arith in (length piece, all, rw (take_all (length piece) piece all) h)
+-- the first bytes of a piece were read
+pub front_fed : {nfa : Nfa} {old new : Streamed} {front piece : List ℕ} {list after : List Match} (others : List ℕ)
+    → front ++ others ≡ piece → IsFed nfa old new front list after → IsPartFed nfa old new piece list after
+front_fed {nfa} {old} {new} {front} others e h =
+    (length front, rw (← e) (simp length-append (omega arith)), rw (← e, take_at front others _ refl) h)
 
 -- after the first blocks of a piece, a part of the next was read
 pub part_fed : {nfa : Nfa} {old now new : Streamed} {done block : List ℕ} {list mid after : List Match}
@@ -229,7 +222,8 @@ module _ (nfa : Nfa) (d : ℕ) (xs : List ℕ) (low : d ≤ length xs) where
       → AreMatches nfa (from (whole xs) (d + i)) (option_map (λ n. d + n) end) (map (moved d) ms)
   shift_matches i size end [] behind apart h = shift_next i end None behind h
   shift_matches i size end (m ∷ ms) behind (low, order, _, _, apart) h =
-      (shift_next i end (Some m) behind h.0, shift_matches m.end size (Some m.end) ms (λ e. behind (omega arith)) apart h.1)
+      let rest = shift_matches m.end size (Some m.end) ms (λ e. behind (omega arith)) apart h.1 in
+      (shift_next i end (Some m) behind h.0, rest)
 
 -- where the match before ended, if that is known
 pub end_is : (s : Streamed) (end : ℕ) → end_before s ≡ Some end → end ≡ s.start
@@ -254,7 +248,9 @@ finished nfa s list after ms window h e =
       found = map (moved s.dropped) ms;
       added = e;
       kept = matches_kept s s.start (end_before s) ms lie;
-      all = λ bytes given is. simp append-nil at (is.matches [] (All-nil (λ b. b < 256)) (map (moved s.dropped) ms)
-          (rw (append-nil, before-kept) (shift_matches nfa s.dropped bytes (omega (arith, is.read)) s.start (length s.kept)
-          (end_before s) ms window.behind lie (rw is.kept at h))));
+      all = λ bytes given is.
+          let shifted = shift_matches nfa s.dropped bytes (omega (arith, is.read)) s.start (length s.kept)
+          (end_before s) ms window.behind lie (rw is.kept at h) in
+          simp append-nil at (is.matches [] (All-nil (λ b. b < 256)) (map (moved s.dropped) ms)
+          (rw (append-nil, before-kept) shifted));
     }

@@ -5,7 +5,6 @@ use Rattle.determinize_below.specs.Search.{Asked}
 use Rattle.determinize_below.specs.declared.search.Anchored.{Anchored}
 use Rattle.determinize_below.specs.declared.search.Match.{Match}
 use Rattle.determinize_find.specs.LeftmostIn.{IsLeftmostIn}
-use Rattle.determinize_nfa.specs.Reversal.{IsReverseOf}
 
 -- the range of a haystack
 abbrev pub asked_of : List ℕ → ℕ → ℕ → Anchored → Asked
@@ -30,7 +29,3 @@ IsEndOf nfa haystack start end =
 abbrev pub IsBeginOf : Nfa → List ℕ → ℕ → ℕ → ℕ → Type 0
 IsBeginOf nfa haystack start end begin =
     (asked : Asked) (m : Match) → IsEnded nfa haystack start end asked m → m.start ≡ begin
-
--- some NFA is its reverse
-abbrev pub HasReverse : Nfa → Type 0
-HasReverse nfa = (backward : Nfa) × IsReverseOf backward nfa

@@ -12,16 +12,15 @@ after_next : (g : Over) (c : In-Some g) → IsOneMore c.args.lazy.now.nfa c.args
 after_next g c =
     let rest : c.anchored-rest.result ≡ from c.args.input.now c.loop-found.start = search rules in
     let is : c.in_ok-next.field-0 ≡ Some c.in-Some.next = search rules in
-    after_one _ c.loop-found.lazy.nfa c.args.input.now _ _ _ c.in-Some.next c.loop-found.invariant.nfa
-    (omega (arith, c.end.ensures.value, c.end.ensures.in_haystack)) c.loop-found.invariant.after
-    (rw (rest, is) at c.in_ok-next.ensures.next) refl
+    after_one _ c.args.input.now _ _ _ c.in-Some.next (omega (arith, c.end.ensures.value, c.end.ensures.in_haystack))
+    c.loop-found.invariant.after (rw (rest, is, c.loop-found.invariant.nfa) at c.in_ok-next.ensures.next) refl
 
 pub returns-in_default-clause-all : goal.returns-in_default-clause-all
 returns-in_default-clause-all g c =
     let rest : c.anchored-rest.result ≡ from c.args.input.now c.loop-found.start = search rules in
     let is : c.in_ok-next.field-0 ≡ None = search rules in
-    after_all _ c.loop-found.lazy.nfa c.args.input.now _ _ c.loop-found.invariant.nfa c.loop-found.invariant.after
-    (rw (rest, is) at c.in_ok-next.ensures.next)
+    after_all _ c.args.input.now _ _ c.loop-found.invariant.after
+    (rw (rest, is, c.loop-found.invariant.nfa) at c.in_ok-next.ensures.next)
 
 pub loop-found-smaller : goal.loop-found-smaller
 loop-found-smaller g c = (after_next g (goal.at.loop-found-smaller g c).In-Some).1

@@ -1,6 +1,6 @@
-use Rattle.determinize_find.proofs.Common.{ap, append-nil, append_assoc, arith, end_before, from, map-append, moved}
-use Rattle.determinize_find.proofs.Common.{None, refl, RegexValue, rules, sym, take_at, whole, [], ◌++◌, ◌∙◌, ◌∷◌, ◌≡◌}
-use Rattle.determinize_find.proofs.matches.NextMatch.{after_all, after_none, after_one, IsOneMore}
+use Rattle.determinize_find.proofs.Common.{append-nil, append_assoc, arith, end_before, from, map-append, moved, None}
+use Rattle.determinize_find.proofs.Common.{refl, rules, sym, take_at, whole, [], ◌++◌, ◌∙◌, ◌∷◌, ◌≡◌}
+use Rattle.determinize_find.proofs.matches.NextMatch.{after_all, after_one, IsOneMore}
 use Rattle.determinize_find.proofs.streams.Steps.{end_is, finished}
 use Rattle.determinize_find.proofs.pieces.Pieces.add_rest.Given.{Over}
 use Rattle.determinize_find.proofs.pieces.Pieces.add_rest.Goals.{In-Some}
@@ -10,9 +10,9 @@ use Rattle.determinize_find.proofs.pieces.Pieces.add_rest.Goals as goal
 after_next : (g : Over) (c : In-Some g) → IsOneMore c.args.regex.now.nfa
     (from (whole c.args.self.now.kept) c.args.self.now.start) (end_before c.args.self.now) c.loop-next.searcher
     c.advance.new.self c.loop-next.invariant.found.0 c.in-Some.next
-after_next g c = after_one _ c.loop-next.regex.nfa _ c.loop-next.searcher c.advance.new.self
-    c.loop-next.invariant.found.0 c.in-Some.next (ap (λ (v : RegexValue). v.nfa) c.loop-next.invariant.same)
-    (omega arith) c.loop-next.invariant.found.2 (rw c.in-Some.is at c.in_ok-next.ensures.next)
+after_next g c = after_one _ _ c.loop-next.searcher c.advance.new.self c.loop-next.invariant.found.0 c.in-Some.next
+    (omega arith) c.loop-next.invariant.found.2
+    (rw (c.loop-next.invariant.same, c.in-Some.is) at c.in_ok-next.ensures.next)
     (rw c.in-Some.is at c.in_ok-next.ensures.after)
 
 pub in_text-requires : goal.in_text-requires
@@ -21,14 +21,14 @@ in_text-requires g c =
 
 pub loop-next-init : goal.loop-next-init
 loop-next-init g c =
-    let asked : c.range-rest.result ≡ from (whole c.args.self.now.kept) c.args.self.now.start = search rules in record {
+    let asked : c.range-rest.result ≡ from (whole c.args.self.now.kept) c.args.self.now.start = search rules in
+    let cursor = rw (asked, c.last_match_end.ensures) at c.after-searcher.ensures in
+    record {
       same = refl;
       found = (
         [],
         sym (append-nil c.args.found.now.items),
-        after_none c.args.regex.now.nfa (from (whole c.args.self.now.kept) c.args.self.now.start)
-            (end_before c.args.self.now) c.after-searcher.result []
-            (rw (← asked, ← c.last_match_end.ensures) c.after-searcher.ensures) refl (end_is c.args.self.now),
+        rw cursor record { rest = refl; last = end_is c.args.self.now; first = λ rest h. h },
       );
     }
 
@@ -55,8 +55,8 @@ returns-clause-finished g c =
     let (ms, found, after) = c.loop-next.invariant.found in
     finished c.args.regex.now.nfa c.args.self.now c.args.found.now.items c.loop-next.found.items ms
     (rw (← c.self.view_is) c.self.invariant)
-    (after_all c.args.regex.now.nfa c.loop-next.regex.nfa _ c.loop-next.searcher ms
-    (ap (λ (v : RegexValue). v.nfa) c.loop-next.invariant.same) after (rw is at c.in_ok-next.ensures.next)) found
+    (after_all _ _ c.loop-next.searcher ms after
+    (rw (c.loop-next.invariant.same, is) at c.in_ok-next.ensures.next)) found
 
 pub returns-clause-begins : goal.returns-clause-begins
 returns-clause-begins g c = rw c.loop-next.invariant.found.1 (take_at c.args.found.now.items _ _ refl)

@@ -1,5 +1,6 @@
 use Rattle.determinize_find.proofs.Common.{chunks_rest, chunks_size, nil_from_length, of_err, refl, rules, ◌∙◌, ◌≡◌}
-use Rattle.determinize_find.proofs.streams.Kept.{all_read, read_more, read_none, read_part}
+use Rattle.determinize_find.proofs.streams.Steps.{part_fed}
+use Rattle.determinize_find.proofs.streams.Kept.{all_read, read_more, read_none}
 use Rattle.determinize_find.proofs.pieces.Pieces.feed.Goals as goal
 
 pub loop-block-init : goal.loop-block-init
@@ -29,7 +30,8 @@ returns-in_err-read_block-clause-read g c searching =
     let (before, read) = c.loop-block.invariant.3 searching in
     let block = (rw c.loop-block.invariant.2 at c.read_block.ensures.read) before in
     let failed = rw c.in_err-read_block.was at block.failed in
-    let part = read_part read (chunks_rest c.next.new.self) c.in-Some.ensures.steps.1.0 failed in
+    let cut = rw c.in-Some.ensures.steps.1.0 at read.cut in
+    let part = part_fed (chunks_rest c.next.new.self) c.args.piece.now cut read.fed failed in
     record { fed = search rules; failed = of_err _ part; searching = block.searching }
 
 pub returns-clause-read : goal.returns-clause-read

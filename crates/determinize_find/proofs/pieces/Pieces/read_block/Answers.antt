@@ -1,13 +1,13 @@
-use Rattle.determinize_find.proofs.Common.{moved, None, of_err, rules, [], ◌++◌, ◌∙◌, ◌∷◌, ◌≡◌}
+use Rattle.determinize_find.proofs.Common.{append-nil, moved, None, of_err, refl, rules, [], ◌++◌, ◌∙◌, ◌∷◌, ◌≡◌}
 use Rattle.determinize_find.proofs.streams.Kept.{moved_none}
-use Rattle.determinize_find.proofs.streams.Steps.{all_fed, joined_none, none_fed}
+use Rattle.determinize_find.proofs.streams.Steps.{front_fed, joined_none}
 use Rattle.determinize_find.proofs.pieces.Pieces.read_block.Goals as goal
 
 pub returns-in_err-keep-clause-read : goal.returns-in_err-keep-clause-read
 returns-in_err-keep-clause-read g c searching =
     let none = (moved_none c.in_err-keep.ensures.failed).fed c.args.found.now.items in record {
       fed = search rules;
-      failed = of_err _ (none_fed c.args.block.now none);
+      failed = of_err _ (front_fed c.args.block.now refl none);
       searching = c.in_err-keep.ensures.searching searching;
     }
 
@@ -24,7 +24,7 @@ pub returns-in_err-next-clause-read : goal.returns-in_err-next-clause-read
 returns-in_err-next-clause-read g c searching =
     let (fed, now) = c.loop-next.invariant.read searching in
     let move = (rw c.loop-next.invariant.same at c.next_certain.ensures.moved) now in
-    let failed = all_fed (joined_none fed (move.fed c.loop-next.found.items)) in
+    let failed = front_fed [] (append-nil _) (joined_none fed (move.fed c.loop-next.found.items)) in
     record { fed = search rules; failed = of_err _ failed; searching = move.searching }
 
 pub returns-in_err-push-clause-read : goal.returns-in_err-push-clause-read
@@ -34,7 +34,7 @@ returns-in_err-push-clause-read g c searching =
     let items : c.push.new.self.items ≡ c.loop-next.found.items = search rules in
     record {
       fed = search rules;
-      failed = of_err _ (all_fed (rw items (joined_none fed (move.fed c.loop-next.found.items))));
+      failed = of_err _ (front_fed [] (append-nil _) (rw items (joined_none fed (move.fed c.loop-next.found.items))));
       searching = move.searching;
     }
 

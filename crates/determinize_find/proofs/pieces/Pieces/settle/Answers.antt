@@ -7,7 +7,7 @@ returns-in_err-rest-clause-left g c = c.in_err-rest.ensures.left
 
 pub returns-clause-moved : goal.returns-clause-moved
 returns-clause-moved g c is = settled c.skip_idle.new.self (rw (← c.self.view_is) c.self.invariant.within)
-    (rw (← c.self.view_is) c.drop_passed.ensures) (c.in_ok-rest.ensures.fed is) (c.in_ok-rest.ensures.scan is)
+    (rw (← c.self.view_is) c.drop_passed.ensures) (c.in_ok-rest.ensures.scan is) (c.in_ok-rest.ensures.fed is)
 
 pub returns-clause-few : goal.returns-clause-few
 returns-clause-few g c is unsettled = few_kept c.skip_idle.new.self (rw (← c.self.view_is) c.self.invariant.within)

@@ -2,9 +2,6 @@ use Rattle.determinize_find.proofs.Common.{asked_of, None, rules, Yes, ◌≡◌
 use Rattle.determinize_find.proofs.leftmost.TwoSearches.{begin_found, some_found}
 use Rattle.determinize_find.proofs.regex.Regex.search_start.Goals as goal
 
-pub returns-in_err-begin-clause-reverse : goal.returns-in_err-begin-clause-reverse
-returns-in_err-begin-clause-reverse g c = rw (← c.self.view_is) (_, c.self.invariant.reverse)
-
 pub returns-in_default-clause-some : goal.returns-in_default-clause-some
 returns-in_default-clause-some g c (asked, m, e) =
     let own : c.anchored-before.result ≡ asked_of c.args.haystack.now c.args.start c.args.end Yes = search rules in
@@ -12,14 +9,8 @@ returns-in_default-clause-some g c (asked, m, e) =
     absurd (some_found (rw (← c.self.view_is) at e) c.self.invariant.reverse c.self.invariant.reads_forward
     (rw (own, none, c.self.invariant.kind_backward) at c.in_ok-begin.ensures.search))
 
-pub returns-in_default-clause-reverse : goal.returns-in_default-clause-reverse
-returns-in_default-clause-reverse g c = rw (← c.self.view_is) (_, c.self.invariant.reverse)
-
 pub returns-clause-start : goal.returns-clause-start
 returns-clause-start g c asked m e =
     let own : c.anchored-before.result ≡ asked_of c.args.haystack.now c.args.start c.args.end Yes = search rules in
     begin_found (rw (← c.self.view_is) at e) c.self.invariant.reverse c.self.invariant.reads_forward c.in-Some.begin
     (rw (own, c.in-Some.is, c.self.invariant.kind_backward) at c.in_ok-begin.ensures.search)
-
-pub returns-clause-reverse : goal.returns-clause-reverse
-returns-clause-reverse g c = rw (← c.self.view_is) (_, c.self.invariant.reverse)
