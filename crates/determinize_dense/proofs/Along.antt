@@ -3,20 +3,18 @@
 -- last_listed-dead, along_text.
 -- Used by: `reading`, `overlapping`, Inputs, and the searches of `determinize_linear` and `determinize_stored`.
 -- Idea: the row after each beginning of the units lists what the value after it lists.
-use Rattle.determinize_dense.proofs.Common.{after_at, All, All-cons, All-head, All-nil, All-tail, all_read, Anchored}
-use Rattle.determinize_dense.proofs.Common.{arith, Bool, chain, drop, drop_more, ended_at, future}
-use Rattle.determinize_dense.proofs.Common.{get_or_from_slice_get, is_anchored, IsAccepted, IsDead, IsDfaOf, IsUnit}
+use Rattle.determinize_dense.proofs.Common.{add-one, after_at, All, All-cons, All-head, All-nil, All-tail, all_read}
+use Rattle.determinize_dense.proofs.Common.{Anchored, arith, Bool, chain, chain-first, chain_leftmost, chain_of_all}
+use Rattle.determinize_dense.proofs.Common.{drop, drop_all, drop_more, ended_at, future, get_or_from_slice_get}
+use Rattle.determinize_dense.proofs.Common.{is_anchored, IsAccepted, IsDead, IsDfaOf, IsUnit, IsWalkOfAll, last_listed}
 use Rattle.determinize_dense.proofs.Common.{length, length-drop, length-map, length-map-range_with_len, List}
-use Rattle.determinize_dense.proofs.Common.{lists_along, ListsAlong, MatchKind, Nfa, None, Option, option_or}
+use Rattle.determinize_dense.proofs.Common.{lists_along, lists_of, ListsAlong, MatchKind, Nfa, None, Option, option_or}
 use Rattle.determinize_dense.proofs.Common.{patterns_at, range_with_len, refl, row_after, row_over, slice_get}
-use Rattle.determinize_dense.proofs.Common.{slice_get_within, Some, start_for, start_in, start_row, start_value, suc}
-use Rattle.determinize_dense.proofs.Common.{Table, Text, units, Value, value_after, [], ℕ, ◌+◌, ◌-◌, ◌<◌, ◌∷◌, ◌≡◌, ◌≤◌}
-use Rattle.determinize_core.proofs.Common.{add-one, lists_of, step}
-use Rattle.determinize_core.proofs.walk.WalkOfRuns.{chain-first, chain_leftmost, chain_of_all}
+use Rattle.determinize_dense.proofs.Common.{slice_get_within, Some, start_for, start_in, start_row, start_value, step}
+use Rattle.determinize_dense.proofs.Common.{suc, Table, Text, units, Value, value_after, [], ℕ, ◌+◌, ◌-◌, ◌<◌, ◌∷◌, ◌≡◌}
+use Rattle.determinize_dense.proofs.Common.{◌≤◌}
 use Rattle.determinize_core.proofs.walk.WalkValues.{length-chain}
-use Rattle.determinize_core.specs.Walk.{IsWalkOfAll, last_listed}
 use Rattle.determinize_below.specs.declared.search.Anchored.TheVariants.{No, Pattern, Yes}
-use Rattle.std.proofs.lemmas.List.{drop_all}
 
 -- the numbers from one up to another are that number, and those from the next one
 pub range_first : (a b : ℕ) → a < b → range_with_len a (b - a) ≡ a ∷ range_with_len (a + 1) (b - (a + 1))

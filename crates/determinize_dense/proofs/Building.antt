@@ -3,29 +3,21 @@
 -- one_too_many.
 -- Used by: the functions of `Builder`, and `build`.
 -- Idea: what holds of each value so far, and of one more, holds of each after it is added.
-use Rattle.determinize_core.proofs.Common.{All-nil, AllResolve, ap, arith, Bool, get_or, by_cases, by_test, dead, Err, false}
-use Rattle.determinize_core.proofs.Common.{IsAccepted, length, length_push, List, list_any, MatchKind, nat_eq, nat_lt}
-use Rattle.determinize_core.proofs.Common.{Nfa, Ok, refl, Result, same, slice_get, slice_index, slice_set, Some}
-use Rattle.determinize_core.proofs.Common.{sym, true, Value, ℕ, [], get_or-set_other, get_or-set_same}
-use Rattle.determinize_core.proofs.Common.{length-set, slice_get-get_or, slice_get_within, ◌*◌, ◌++◌, ◌+◌, ◌-◌, ◌<◌, ◌∙◌, ◌∷◌, ◌≡◌, ◌≤◌}
-use Rattle.determinize_dense.proofs.Common.{AreClasses, AreClassesOf, AreStarts, Building, Classes, columns_of}
-use Rattle.determinize_dense.proofs.Common.{first_of, HasChanges, HasIds, HasMoreStates, IsBase, IsBuilding}
-use Rattle.determinize_dense.proofs.Common.{IsReachedValue, IsStart, IsNextRow, IsUnit, slot_number, Stays, unit_at}
-use Rattle.determinize_core.specs.Private.Reading.{gives_nothing}
-use Rattle.determinize_core.specs.Step.{step}
+use Rattle.determinize_dense.proofs.Common.{All-nil, AllResolve, apart-push, AreClasses, AreClassesOf, AreStarts, arith}
+use Rattle.determinize_dense.proofs.Common.{Bool, Building, by_cases, by_test, cases_eq, Classes, columns_of, dead}
+use Rattle.determinize_dense.proofs.Common.{div-mul-add, EachApart, Err, false, filter-append, first_of, get_more}
+use Rattle.determinize_dense.proofs.Common.{get_or, get_or-set_other, get_or-set_same, get_push, gives_nothing}
+use Rattle.determinize_dense.proofs.Common.{HasChanges, HasIds, HasMoreStates, IsAccepted, IsBase, IsBuilding}
+use Rattle.determinize_dense.proofs.Common.{IsNextRow, IsReachedValue, IsStart, IsUnit, length, length-set, length_push}
+use Rattle.determinize_dense.proofs.Common.{List, list_any, MatchKind, MAX_STATES, mod-mul-add, mul-add-lt, mul_comm}
+use Rattle.determinize_dense.proofs.Common.{nat_lt, Nfa, not_none, of_some, one_slot, refl, Result, same, slice_get}
+use Rattle.determinize_dense.proofs.Common.{slice_get-get_or, slice_get_read, slice_get_within, slice_set, slot_number}
+use Rattle.determinize_dense.proofs.Common.{slot_number-below, Some, Stays, step, sym, true, unit_at, Value, without}
+use Rattle.determinize_dense.proofs.Common.{[], ℕ, ◌%◌, ◌*◌, ◌++◌, ◌+◌, ◌-◌, ◌/◌, ◌<◌, ◌∙◌, ◌∷◌, ◌≡◌, ◌≤◌}
 use Rattle.determinize_dense.proofs.IdleStates.{step_same}
-use Rattle.ordered_reach.specs.Runs.{without}
-use Rattle.std.proofs.lemmas.List.Elements.{filter-append}
-use Rattle.std.specs.Prelude.{◌%◌, ◌/◌}
-use Rattle.std.proofs.Math.Nat.{mul-le-mul_right, mul_comm}
-use Rattle.std.proofs.lemmas.Option.{slice_get_read}
-use Rattle.std.proofs.lemmas.Nat.{div-mul-add, mod-mul-add, mul-add-lt}
 use Rattle.ordered_reach.proofs.lists.Elements.{In_from_Contains}
 use Rattle.determinize_dense.proofs.Reached.{reached-dead}
-use Rattle.determinize_start.proofs.kinds.StartSlots.{one_slot, slot_number-below}
 use Rattle.determinize_start.specs.declared.start.StartSlot.{StartSlot}
-use Rattle.determinize_engine.proofs.Places.{apart-push, get_more, get_push, not_both, not_none, of_some}
-use Rattle.determinize_engine.specs.declared.state_table.TheConstants.{MAX_STATES}
 
 -- other values behind those that were found, and other entries
 pub stays-grown : (b : Building) (values : List Value) (next : List ℕ) → length b.values ≤ length values
@@ -81,9 +73,7 @@ module _ (b : Building) (is : IsBuilding b) where
       resolve = one_more (λ x. AllResolve b.nfa x.states) b.values v is.resolve resolve;
       entries = λ e r at. let k = is.entries e r at in
           (k.0, get_more b.values (v ∷ []) _ _ k.1, get_more b.values (v ∷ []) _ _ k.2);
-      within = let m : length b.values * columns_of b.classes ≤ length more.values * columns_of b.classes =
-          mul-le-mul_right (columns_of b.classes) (omega (arith, longer)) in
-          let w : length b.next ≤ length b.values * columns_of b.classes = is.within in omega (arith, m, w);
+      within = rw longer (omega (arith, is.within));
       few = omega (arith, longer, room);
       limit = is.limit;
     }
@@ -164,8 +154,7 @@ stays-more {a} {b} {c} s t = record {
   kind = t.kind ∙ s.kind;
   classes = t.classes ∙ s.classes;
   limit = t.limit ∙ s.limit;
-  longer = let k : length a.values ≤ length b.values = s.longer in
-      let l : length b.values ≤ length c.values = t.longer in omega (arith, k, l);
+  longer = omega (arith, s.longer, t.longer);
   values = λ i v at. t.values i v (s.values i v at);
 }
 
@@ -174,7 +163,7 @@ pub starts-stay : {a b : Building} {nfa : Nfa} {n : ℕ} {starts : List ℕ} →
     → AreStarts nfa b.values n starts
 starts-stay {a} {b} s are = record {
   count = are.count;
-  within = λ i h. let k = are.within i h in let l : length a.values ≤ length b.values = s.longer in omega (arith, k, l);
+  within = λ i h. omega (arith, are.within i h, s.longer);
   rows = λ slot h p unit e. s.values _ _ (are.rows slot h p unit e);
 }
 
@@ -182,26 +171,18 @@ starts-stay {a} {b} s are = record {
 pub starts-push : {nfa : Nfa} {values : List Value} {n : ℕ} {starts : List ℕ} (slot : StartSlot) (row : ℕ)
     → AreStarts nfa values n starts → slot_number slot ≡ n → row < length values → IsStart nfa values slot row
     → AreStarts nfa values (n + 1) (slice_set starts n row)
-starts-push {nfa} {values} {n} {starts} slot row are n_is inside start = record {
-  count = length-set starts n row ∙ are.count;
-  within = λ i h. by_test (nat_eq i n)
-      (λ e. let i_is : i ≡ n = grind (arith, e) in rw (set-here i i_is) inside)
-      (λ e. rw (set-there i e) (are.within i (grind (arith, e, h))));
-  rows = λ other h. by_test (nat_eq (slot_number other) n)
-      (λ e. let i_is : slot_number other ≡ n = grind (arith, e) in
-      rw (set-here (slot_number other) i_is, one_slot other slot (i_is ∙ sym n_is)) start)
-      (λ e. rw (set-there (slot_number other) e) (are.rows other (grind (arith, e, h))));
-}
-  where
-    room : n < length starts
-    room = let below : slot_number slot < 12 = slot_number-below slot in omega (arith, below, n_is, are.count)
-
-    set-here : (i : ℕ) → i ≡ n → slice_index (slice_set starts n row) i ≡ row
-    set-here i e = ap (λ k. slice_index (slice_set starts n row) k) e ∙ get_or-set_same starts n row 0 room
-
-    set-there : (i : ℕ) → nat_eq i n ≡ false → slice_index (slice_set starts n row) i ≡ slice_index starts i
-    set-there i e = get_or-set_other starts n i row 0 (λ same. not_both (let yes : nat_eq i n
-        ≡ true = grind (arith, same) in yes) e)
+starts-push {nfa} {values} {n} {starts} slot row are n_is inside start =
+    let below : slot_number slot < 12 = slot_number-below slot in
+    let here = get_or-set_same starts n row 0 (omega (arith, below, n_is, are.count)) in
+    record {
+      count = length-set starts n row ∙ are.count;
+      within = λ i h. by_cases (cases_eq i n)
+          (λ e. rw (e, here) inside)
+          (λ e. rw (get_or-set_other starts n i row 0 e) (are.within i (omega (arith, e, h))));
+      rows = λ other h. by_cases (cases_eq (slot_number other) n)
+          (λ e. rw (e, here, one_slot other slot (e ∙ sym n_is)) start)
+          (λ e. rw (get_or-set_other starts n (slot_number other) row 0 e) (are.rows other (omega (arith, e, h))));
+    }
 
 -- another NFA, kind and limit that are the same
 pub more-as : {m n : Nfa} {j k : MatchKind} {l r : ℕ} → m ≡ n → j ≡ k → l ≡ r → HasMoreStates m j l
@@ -212,20 +193,23 @@ more-as nfa kind limit h = rw (← nfa, ← kind, ← limit) h
 pub more-before : {a b : Building} → Stays a b → HasMoreStates b.nfa b.kind b.limit → HasMoreStates a.nfa a.kind a.limit
 more-before s = more-as s.nfa s.kind s.limit
 
-module _ (nfa : Nfa) (kind : MatchKind) where
-  none : (P : Value → Type 0) (i : ℕ) (v : Value) → slice_get [] i ≡ Some v → P v
-  none P i v at = not_none (sym at)
+-- of the dead value only
+dead_only : (P : Value → Type 0) → P dead → (i : ℕ) (v : Value) → slice_get (dead ∷ []) i ≡ Some v → P v
+dead_only P = one_more P [] dead (λ i v at. not_none (sym at))
 
+dead_apart : EachApart (dead ∷ [])
+dead_apart = apart-push [] dead (λ p q v at. not_none (sym at)) refl
+
+module _ (nfa : Nfa) (kind : MatchKind) where
   dead_reached : (i : ℕ) (v : Value) → slice_get (dead ∷ []) i ≡ Some v → IsReachedValue nfa kind v
-  dead_reached = let P : Value → Type 0 = λ v. IsReachedValue nfa kind v in
-      one_more P [] dead (none P) (reached-dead nfa kind)
+  dead_reached = dead_only (λ v. IsReachedValue nfa kind v) (reached-dead nfa kind)
 
   -- there is one value at least
   pub more-than-none : {limit : ℕ} → limit ≡ 0 → HasMoreStates nfa kind limit
-  more-than-none none_left = (
+  more-than-none none = (
     dead ∷ [],
-    apart-push [] dead (λ p q v at. not_none (sym at)) refl,
-    omega (arith, none_left),
+    dead_apart,
+    omega (arith, none),
     λ x h. let k = In_from_Contains (dead ∷ []) x h in dead_reached k.0 x k.1,
   )
 
@@ -237,10 +221,10 @@ module _ (nfa : Nfa) (kind : MatchKind) where
     accepted = accepted;
     classes = of;
     sound = sound;
-    apart = apart-push [] dead (λ p q v at. not_none (sym at)) refl;
+    apart = dead_apart;
     first = refl;
     reached = dead_reached;
-    resolve = let P : Value → Type 0 = λ v. AllResolve nfa v.states in one_more P [] dead (none P) (All-nil _);
+    resolve = dead_only (λ v. AllResolve nfa v.states) (All-nil _);
     entries = λ e r at. not_none (sym at);
     within = omega arith;
     few = some;
@@ -256,8 +240,7 @@ read-at {K} {xs} {ys} {i} {x} inside same is = slice_get_read xs (length xs) i x
 value-before : {a b : Building} {row : ℕ} {v : Value} → Stays a b → row < length a.values
     → slice_get b.values row ≡ Some v → slice_get a.values row ≡ Some v
 value-before {a} {b} {row} {v} s inside at =
-    let here : slice_get a.values row ≡ Some (get_or a.values row v) = slice_get-get_or a.values row v inside in
-    let same : get_or a.values row v ≡ v = of_some (sym (s.values row _ here) ∙ at) in here ∙ ap Some same
+    let here = slice_get-get_or a.values row v inside in let there = s.values row _ here in cc
 
 -- the marks of a row stay
 pub changes-stay : {a b : Building} {row : ℕ} (marks : List Bool) → Stays a b → row < length a.values
@@ -293,9 +276,6 @@ pub stays-next : {a b : Building} (next : List ℕ) → Stays a b → Stays a (r
 stays-next {a} {b} next s = stays-more s (stays-grown b b.values next (omega arith) (λ i v at. at))
 
 -- the error of one result and of another
-abbrev err_of : {T E : Type 0} → E → Result T E → E
-err_of d (Ok t) = d
-err_of d (Err e) = e
-
-pub same_err : {T E : Type 0} {x y : E} → ◌≡◌ {A = Result T E} (Err x) (Err y) → x ≡ y
-same_err {T} {E} {x} e = ap (λ (r : Result T E). err_of x r) e
+pub err-as : {T U E : Type 0} {r : Result T E} {x y : E} → r ≡ Err y → r ≡ Err x
+    → ◌≡◌ {A = Result U E} (Err x) (Err y)
+err-as same is = cc

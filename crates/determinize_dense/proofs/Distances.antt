@@ -1,16 +1,14 @@
 -- The distance of a row to one that lists patterns, and rows of different distance.
--- Main statements: apart-distance, so_far-set, less-set.
+-- Main statements: apart-distance, shortened.
 -- Used by: `shorten`, `partition`.
 -- Idea: where one of two rows comes to a row that lists patterns first, the other lists none.
-use Rattle.determinize_dense.proofs.Common.{All, All-cons, All-head, All-tail, AreApart, AreEqual, arith, by_cases}
-use Rattle.determinize_dense.proofs.Common.{cases_eq, cases_lt, column_of, entry, IsFilled, IsUnit, length, List, Option}
-use Rattle.determinize_dense.proofs.Common.{patterns_at, row_after, row_over, slice_index, sym, Table, [], ℕ}
+use Rattle.determinize_dense.proofs.Common.{All, All-cons, All-head, All-tail, AreApart, AreDistances}
+use Rattle.determinize_dense.proofs.Common.{AreDistancesSoFar, AreEqual, arith, by_cases, cases_eq, cases_lt, column_of}
+use Rattle.determinize_dense.proofs.Common.{entry, get_or-set_other, get_or-set_same, IsDistanceSoFar, IsFilled, IsUnit}
+use Rattle.determinize_dense.proofs.Common.{length, length-set, List, ListsAfter, Option, patterns_at, row_after}
+use Rattle.determinize_dense.proofs.Common.{row_over, slice_index, slice_set, sum_by, sum_by-set, sym, Table, [], ℕ}
 use Rattle.determinize_dense.proofs.Common.{◌+◌, ◌<◌, ◌∙◌, ◌∷◌, ◌≡◌, ◌≤◌}
-use Rattle.determinize_core.proofs.Common.{get_or-set_other, get_or-set_same, length-set, slice_set}
-use Rattle.std.proofs.lemmas.List.Sums.{sum_by-set}
-use Rattle.std.specs.Prelude.{sum_by}
 use Rattle.determinize_dense.proofs.Refining.{entry-below}
-use Rattle.determinize_dense.specs.Private.Minimizing.{AreDistances, AreDistancesSoFar, IsDistanceSoFar, ListsAfter}
 
 module _ (d : Table) (is : IsFilled d) (values : List ℕ) where
   -- one unit more
@@ -23,13 +21,13 @@ module _ (d : Table) (is : IsFilled d) (values : List ℕ) where
         lists = rw k.2 after.lists;
       }
 
-  path : AreDistances d values → (r : ℕ) → r < length d.patterns → IsDistanceSoFar d r (slice_index values r)
-  path are r inside = are.so_far.each r (omega (arith, inside, are.so_far.count))
+  path : AreDistancesSoFar d values → (r : ℕ) → r < length d.patterns → IsDistanceSoFar d r (slice_index values r)
+  path so_far r inside = so_far.each r (omega (arith, inside, so_far.count))
 
   -- no row that lists patterns is nearer
   least : AreDistances d values → (us : List (Option ℕ)) (r : ℕ) → All IsUnit us → r < length d.patterns
       → (patterns_at d (row_after d r us) ≡ [] → ⊥) → slice_index values r ≤ length us
-  least are [] r all inside lists = omega (arith, (path are r inside).listing lists)
+  least are [] r all inside lists = omega (arith, (path are.so_far r inside).listing lists)
   least are (u ∷ us) r all inside lists =
       let unit = All-head IsUnit u us all in
       let rest = least are us (row_over d r u) (All-tail IsUnit u us all) (is.within r u inside unit) lists in
@@ -39,7 +37,7 @@ module _ (d : Table) (is : IsFilled d) (values : List ℕ) where
   nearer : AreDistances d values → (r s : ℕ) → r < length d.patterns → s < length d.patterns
       → slice_index values r < slice_index values s → AreApart d r s
   nearer are r s h l less =
-      let k = (path are r h).lists (omega (arith, less, (path are s l).far)) in (
+      let k = (path are.so_far r h).lists (omega (arith, less, (path are.so_far s l).far)) in (
         k.us,
         k.units,
         λ same. let far = least are k.us s k.units l (rw same at k.lists) in
@@ -56,25 +54,23 @@ module _ (d : Table) (is : IsFilled d) (values : List ℕ) where
   module _ (row c distance : ℕ) (room : row < length d.patterns) (inside : c < d.class_count + 1)
       (is_more : distance ≡ slice_index values (entry d row c) + 1) (shorter : distance < slice_index values row)
       (so_far : AreDistancesSoFar d values) where
-    before : (r : ℕ) → r < length d.patterns → IsDistanceSoFar d r (slice_index values r)
-    before r h = so_far.each r (omega (arith, h, so_far.count))
-
-    -- a shorter distance
-    pub so_far-set : AreDistancesSoFar d (slice_set values row distance)
-    so_far-set = record {
-      count = length-set values row distance ∙ so_far.count;
-      each = λ r h. by_cases (cases_eq r row)
-          (λ e. rw (e, get_or-set_same values row distance 0 (omega (arith, room, so_far.count))) record {
-            far = omega (arith, shorter, (before row room).far);
-            lists = λ near. rw is_more (lists-more row c (slice_index values (entry d row c)) inside
-                ((before (entry d row c) (entry-below d is row c room inside)).lists (omega (arith, is_more, near))));
-            listing = λ lists. absurd (omega (arith, shorter, (before row room).listing lists));
-          })
-          (λ e. rw (get_or-set_other values row r distance 0 e)
-          (so_far.each r (rw (length-set values row distance) at h)));
-    }
-
-    pub less-set : sum_by (λ n. n) (slice_set values row distance) < sum_by (λ n. n) values
-    less-set =
+    -- a shorter distance, and the sum of all
+    pub shortened : AreDistancesSoFar d (slice_set values row distance)
+        × (sum_by (λ n. n) (slice_set values row distance) < sum_by (λ n. n) values)
+    shortened =
         let sum = sum_by-set (λ n. n) values row distance 0 (omega (arith, room, so_far.count)) in
-        omega (arith, sum, shorter)
+        let size = length-set values row distance in (
+          record {
+            count = size ∙ so_far.count;
+            each = λ r h. by_cases (cases_eq r row)
+                (λ e. rw (e, get_or-set_same values row distance 0 (omega (arith, room, so_far.count))) record {
+                  far = omega (arith, shorter, (path so_far row room).far);
+                  lists = λ near. rw is_more (lists-more row c (slice_index values (entry d row c)) inside
+                      ((path so_far (entry d row c) (entry-below d is row c room inside)).lists
+                      (omega (arith, is_more, near))));
+                  listing = λ lists. absurd (omega (arith, shorter, (path so_far row room).listing lists));
+                })
+                (λ e. rw (get_or-set_other values row r distance 0 e) (so_far.each r (rw size at h)));
+          },
+          omega (arith, sum, shorter),
+        )

@@ -2,15 +2,14 @@
 -- Main statements: step_same, idle-push.
 -- Used by: Building, `none_gives`.
 -- Idea: what is read of a list is what is read of it without them.
-use Rattle.determinize_core.proofs.Common.{[], All, arith, before, distinct, is_match, LeftmostFirst, List}
-use Rattle.determinize_core.proofs.Common.{MatchKind, Nfa, none_held, Option}
-use Rattle.determinize_core.proofs.Common.{patterns_of, refl, same_decides, step, true, Value}
-use Rattle.determinize_core.proofs.Common.{Bool, get_or, length, take, take_more, without, ℕ, ◌+◌, ◌<◌, ◌≡◌}
+use Rattle.determinize_dense.proofs.Common.{arith, before, before-without, Bool, distinct, filter-append}
+use Rattle.determinize_dense.proofs.Common.{flat_map-without, get_or, gives_nothing, is_match, LeftmostFirst, length}
+use Rattle.determinize_dense.proofs.Common.{List, MatchKind, Nfa, none_held, Option, patterns_of, refl, roots_of}
+use Rattle.determinize_dense.proofs.Common.{same_decides, step, take, take_more, true, Value, without, [], ℕ, ◌+◌, ◌<◌}
+use Rattle.determinize_dense.proofs.Common.{◌≡◌}
+use Rattle.determinize_core.proofs.Common.{All}
 use Rattle.determinize_core.proofs.step.Reopening.{unneeded}
-use Rattle.determinize_core.specs.Private.Reading.{gives_nothing, roots_of}
 use Rattle.ordered_reach.proofs.lists.NewNodes.{filter-fresh}
-use Rattle.std.proofs.lemmas.List.Elements.{filter-append}
-use Rattle.ordered_reach.proofs.lists.Pieces.{before-without, flat_map-without}
 
 module _ (nfa : Nfa) (u : Option ℕ) where
   -- the patterns of a list

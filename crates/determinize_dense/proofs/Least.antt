@@ -1,14 +1,14 @@
 -- Tables with one meaning, of which one has the fewest rows.
--- Main statements: row_after-more, row_after-below, has_rows, dead_zero, least_is_least.
+-- Main statements: row_after-more, row_after-below, has_rows, least_is_least.
 -- Used by: Merging, Searching, Stepping, `len`, the starts and the walker, and the law of the fewest rows.
 -- Idea: rows of the one table that are reached by the same units as one row of the other list the same, and so are one.
 use Rattle.determinize_dense.proofs.Common.{All, All-append, All-head, All-tail, AreApart, arith, by_cases, cases_eq}
-use Rattle.determinize_dense.proofs.Common.{cases_lt, DfaValue, inl, inr, IsDead, IsDfa, IsDfaOf, IsLeast, IsReachedRow}
-use Rattle.determinize_dense.proofs.Common.{IsUnit, length, List, MatchKind, Nfa, Option, patterns_at, refl, row_after}
+use Rattle.determinize_dense.proofs.Common.{cases_lt, DfaValue, inl, inr, IsDfa, IsDfaOf, IsLeast, IsReachedRow, IsUnit}
+use Rattle.determinize_dense.proofs.Common.{length, List, MatchKind, Nfa, Option, patterns_at, refl, row_after}
 use Rattle.determinize_dense.proofs.Common.{row_over, slot_number-below, start_row, sym, Table, [], ℕ, ◌++◌, ◌<◌, ◌∙◌}
 use Rattle.determinize_dense.proofs.Common.{◌∷◌, ◌≡◌, ◌≤◌, ◌⊎◌}
 use Rattle.determinize_dense.proofs.Pigeonhole.{pigeonhole}
-use Rattle.determinize_dense.specs.Least.{HasRows, LeastIsLeast}
+use Rattle.determinize_dense.specs.Least.{HasRows}
 
 -- units after units
 pub row_after-more : (d : Table) (us rest : List (Option ℕ)) (r : ℕ)
@@ -27,13 +27,6 @@ row_after-below nfa d rows (u ∷ us) r h all =
 -- the rows of a DFA
 pub has_rows : (v : DfaValue) → IsDfa v → HasRows v.nfa v.table
 has_rows v is = grind (arith, slot_number-below)
-
--- nothing is listed from row 0 on
-pub dead_zero : (v : DfaValue) → IsDfa v → 0 < length v.table.patterns → IsDead v.table 0
-dead_zero v is some us all =
-    let k : IsReachedRow v.nfa v.table 0 = is.reached 0 some in
-    let units = All-append IsUnit k.2 us k.4 all in
-    grind (arith, row_after-more, is.tells k.0 k.1 (k.2 ++ us) k.3 units, is.over k.0 k.1 k.2 us k.3 k.4 all)
 
 module _ (nfa : Nfa) (kind : MatchKind) (d e : Table) (is_d : IsDfaOf nfa kind d) (least : IsLeast nfa d)
     (is_e : IsDfaOf nfa kind e) (rows : HasRows nfa e) where
@@ -68,13 +61,11 @@ module _ (nfa : Nfa) (kind : MatchKind) (d e : Table) (is_d : IsDfaOf nfa kind d
   row_for-is r l (inl h) = (least.reached r h, refl)
   row_for-is r l (inr h) = absurd (omega arith)
 
-  fewest : length d.patterns ≤ length e.patterns
-  fewest = pigeonhole (length d.patterns) (length e.patterns) (λ r. row_for r (cases_lt r (length d.patterns)))
+  -- the law of the fewest rows
+  pub least_is_least : length d.patterns ≤ length e.patterns
+  least_is_least = pigeonhole (length d.patterns) (length e.patterns) (λ r. row_for r (cases_lt r (length d.patterns)))
       (λ r h. let k = row_for-is r h (cases_lt r (length d.patterns)) in rw k.1 (row_of-below k.0))
       (λ r s h l same.
       let j = row_for-is r h (cases_lt r (length d.patterns)) in
       let k = row_for-is s l (cases_lt s (length d.patterns)) in
       same_row r s h l j.0 k.0 (sym j.1 ∙ same ∙ k.1))
-
-pub least_is_least : LeastIsLeast
-least_is_least nfa kind d e is_d least is_e rows = fewest nfa kind d e is_d least is_e rows

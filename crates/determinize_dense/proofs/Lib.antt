@@ -1,13 +1,9 @@
 pub mod Along
-mod Arranging
 mod Building
-mod Collecting
 mod Common
-mod Counting
 mod Distances
 mod FirstRows
 mod IdleStates
-mod Inputs
 mod Least
 mod Listing
 mod Lists
@@ -21,5 +17,4 @@ mod Searching
 mod Simulation
 mod Splitting
 pub mod Stepping
-mod Tables
 mod Writing

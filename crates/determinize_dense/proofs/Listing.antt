@@ -3,19 +3,16 @@
 -- Used by: Stepping, `patterns_after` and the law of what a table means.
 -- Idea: the last value of a walk is that over the unit ahead. Under `LeftmostFirst` it lists a pattern exactly if the
 -- last match of the walk, which is the preferred one, ends with the text.
-use Rattle.determinize_dense.proofs.Common.{after_at, arith, chain, Contains, ended_at, false, future, HalfMatch}
-use Rattle.determinize_dense.proofs.Common.{IsAccepted, last_match-push, length, length-map, length-map-range_with_len}
-use Rattle.determinize_dense.proofs.Common.{List, ListsAccepted, map, MatchKind, Nfa, None, Option, option_or, refl}
-use Rattle.determinize_dense.proofs.Common.{slice_get, Some, start_value, suc, sym, Text, text_units, units}
-use Rattle.determinize_dense.proofs.Common.{units_listed, Value, value_after, value_after-push, [], ℕ, ◌<◌, ◌∷◌, ◌≡◌}
-use Rattle.determinize_dense.proofs.Common.{◌≤◌}
-use Rattle.determinize_core.proofs.Common.{Accepts, All, IfSome, IsPreferredMatch, LeftmostFirst, step}
-use Rattle.determinize_core.proofs.step.StepLaws.{one_pattern}
+use Rattle.determinize_dense.proofs.Common.{Accepts, after_at, arith, chain, chain_is_future, Contains}
+use Rattle.determinize_dense.proofs.Common.{EachTextIsListed, ended_at, false, future, HalfMatch, IfSome, IsAccepted}
+use Rattle.determinize_dense.proofs.Common.{IsPreferredMatch, last_match-push, last_match-within, leftmost_walk}
+use Rattle.determinize_dense.proofs.Common.{LeftmostFirst, length, length-map, length-map-range_with_len, List}
+use Rattle.determinize_dense.proofs.Common.{ListsAccepted, ListsPreferred, map, MatchKind, Nfa, None, one_pattern}
+use Rattle.determinize_dense.proofs.Common.{Option, option_or, refl, slice_get, Some, start_value, step, suc, sym, Text}
+use Rattle.determinize_dense.proofs.Common.{text_units, units, units_listed, Value, value_after, value_after-push}
+use Rattle.determinize_dense.proofs.Common.{walk_of_all, [], ℕ, ◌<◌, ◌∷◌, ◌≡◌, ◌≤◌}
+use Rattle.determinize_core.proofs.Common.{All}
 use Rattle.determinize_core.proofs.walk.AcceptedPatterns.{each_answer_is_one}
-use Rattle.determinize_core.proofs.walk.UnitLists.{chain_is_future}
-use Rattle.determinize_dense.specs.Meaning.{EachTextIsListed, ListsPreferred}
-use Rattle.determinize_engine.proofs.LastUnits.{last_match-within}
-use Rattle.determinize_core.proofs.walk.WalkOfRuns.{leftmost_walk, walk_of_all}
 
 -- the value after all units is the last one
 future-last : (nfa : Nfa) (kind : MatchKind) (v : Value) (us : List (Option ℕ))

@@ -2,10 +2,8 @@
 -- Main statements: items-at, mapped-push, lists-push, map-copied.
 -- Used by: the loops over lists of patterns, `memory_usage`, `offsets_of`, `numbers_of`, `to_rows`.
 -- Idea: `map_more` of std, with the equations that a loop has.
-use Rattle.determinize_dense.proofs.Common.{get_or, get_or-map, length, List, map, map_push, refl, take, Value, [], ℕ}
-use Rattle.determinize_dense.proofs.Common.{◌++◌, ◌+◌, ◌<◌, ◌∷◌, ◌≡◌}
-use Rattle.std.proofs.lemmas.List.{map_more}
-use Rattle.std.specs.List.{AllZip}
+use Rattle.determinize_dense.proofs.Common.{AllZip, get_or, get_or-map, length, List, lists_of, map, map_more, map_push}
+use Rattle.determinize_dense.proofs.Common.{refl, take, Value, [], ℕ, ◌++◌, ◌+◌, ◌<◌, ◌∷◌, ◌≡◌}
 
 -- the list of an element at an index
 pub items-at : {L : Type 0} (f : L → List ℕ) (lists : List L) {x : L} {i : ℕ} → i < length lists → x ≡ get_or lists i x
@@ -19,12 +17,10 @@ pub mapped-push : {A B : Type 0} (f : A → B) (done more : List B) (xs : List A
 mapped-push f done more xs i d so_far more_is inside = rw (more_is, so_far, map_more f xs i d inside)
 
 -- one list more
-pub lists-push : {L : Type 0} (f : L → List ℕ) (lists more : List L) (list : L) (values : List Value) (i : ℕ)
-    (v : Value)
-    → map f lists ≡ map (λ (x : Value). x.patterns) (take i values) → more ≡ lists ++ list ∷ []
-    → f list ≡ v.patterns → i < length values → get_or values i v ≡ v
-    → map f more ≡ map (λ (x : Value). x.patterns) (take (i + 1) values)
-lists-push f lists more list values i v so_far more_is same inside at =
+pub lists-push : {L : Type 0} (f : L → List ℕ) (lists : List L) {more : List L} {list : L}
+    (values : List Value) {i : ℕ} {v : Value} → map f lists ≡ lists_of (take i values) → more ≡ lists ++ list ∷ [] → f list ≡ v.patterns → i < length values
+    → get_or values i v ≡ v → map f more ≡ lists_of (take (i + 1) values)
+lists-push f lists values {i = i} {v = v} so_far more_is same inside at =
     rw (more_is, map_push, so_far, same, map_more (λ (x : Value). x.patterns) values i v inside, at)
 
 -- copies of lists

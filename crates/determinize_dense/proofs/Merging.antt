@@ -1,31 +1,22 @@
 -- The table of the blocks of a grouping of rows.
--- Main statements: merged-dfa, merged-is, merged-least, merged-fewest.
--- Used by: Arranging, `merged` and `minimized`.
+-- Main statements: merged-dfa, merged-is, merged-least, merged-push.
+-- Used by: Ordering, `merged`, `minimized` and `merged_rows`.
 -- Idea: the row of a block over a unit is the block of the row of its member, and so along units.
-use Rattle.determinize_dense.proofs.Common.{All, All-append, All-head, All-nil, All-tail, arith, Blocks, Bool}
-use Rattle.determinize_dense.proofs.Common.{column_of, DfaValue, div-mul-add, entry, IsDfa, IsDfaOf, IsFilled}
-use Rattle.determinize_dense.proofs.Common.{IsGrouping, IsLeast, IsMerged, IsPartition, IsReachedRow, IsUnit, length}
-use Rattle.determinize_dense.proofs.Common.{List, mod-mul-add, mul-add-lt, None, Option, patterns_at, refl, row_after}
-use Rattle.determinize_dense.proofs.Common.{row_over, slice_index, slot_number, slot_number-below, slot_of, Some}
-use Rattle.determinize_dense.proofs.Common.{start_kind_of, start_row, Table, value_from, [], ℕ, ◌*◌, ◌++◌, ◌+◌, ◌<◌}
-use Rattle.determinize_dense.proofs.Common.{◌∷◌, ◌≡◌, ◌≤◌}
-use Rattle.determinize_dense.proofs.Least.{dead_zero, has_rows, row_after-below, row_after-more}
+use Rattle.determinize_dense.proofs.Common.{All, All-head, All-nil, All-tail, AreMergedEntries, AreMergedLists}
+use Rattle.determinize_dense.proofs.Common.{AreMergedRows, AreMergedStarts, arith, Blocks, Bool, column_of, DfaValue}
+use Rattle.determinize_dense.proofs.Common.{div-mul-add, entry, IsDfa, IsDfaOf, IsFilled, IsGrouping, IsLeast, IsMerged}
+use Rattle.determinize_dense.proofs.Common.{IsPartition, IsReachedRow, IsUnit, length, List, mod-mul-add, mul-add-lt}
+use Rattle.determinize_dense.proofs.Common.{None, Option, patterns_at, refl, row_after, row_over, slice_index}
+use Rattle.determinize_dense.proofs.Common.{slot_number, slot_number-below, slot_of, Some, start_kind_of, start_row}
+use Rattle.determinize_dense.proofs.Common.{Table, [], ℕ, ◌*◌, ◌++◌, ◌+◌, ◌<◌, ◌∷◌, ◌≡◌}
+use Rattle.determinize_dense.proofs.Least.{has_rows, row_after-below}
 use Rattle.determinize_dense.proofs.Splitting.{few_blocks}
-use Rattle.determinize_dense.specs.Private.Minimizing.{AreMergedLists, AreMergedRows, AreMergedStarts}
+use Rattle.determinize_dense.proofs.Splitting.{pushed}
 
 -- a DFA with other rows
 abbrev pub with_rows : DfaValue → List ℕ → List ℕ → List (List ℕ) → DfaValue
-with_rows v next starts lists = record {
-  nfa = v.nfa;
-  kind = v.kind;
-  table = record {
-    classes = v.table.classes;
-    class_count = v.table.class_count;
-    next = next;
-    starts = starts;
-    patterns = lists;
-  };
-}
+with_rows v next starts lists =
+    record v { table = record v.table { next = next; starts = starts; patterns = lists } }
 
 module _ {v : DfaValue} (is : IsDfa v) {p : Blocks} (part : IsGrouping v.table p) {next starts : List ℕ}
     {lists : List (List ℕ)} (rows : AreMergedRows v.table p next) (firsts : AreMergedStarts v.table p starts)
@@ -108,14 +99,7 @@ module _ {v : DfaValue} (is : IsDfa v) {p : Blocks} (part : IsGrouping v.table p
 
   -- no match follows row 0
   none-after : (rest : List (Option ℕ)) → All IsUnit rest → patterns_at e (row_after e 0 rest) ≡ []
-  none-after rest all = grind (arith, lists-after 0 rest, dead_zero v is, member-below 0)
-
-  over : (anchored : Bool) (q : Option ℕ) (us rest : List (Option ℕ)) → IsUnit q → All IsUnit us → All IsUnit rest
-      → row_after e (start_row v.nfa e anchored q) us ≡ 0
-      → (value_from v.nfa v.kind anchored q (us ++ rest)).patterns ≡ []
-  over anchored q us rest h all more dead =
-      rw (← tells anchored q (us ++ rest) h (All-append IsUnit us rest all more), row_after-more, dead)
-      (none-after rest more)
+  none-after rest all = rw (lists-after 0 rest part.blocks.some all, part.blocks.first) (is.dead rest all)
 
   reached : (b : ℕ) → b < length e.patterns → IsReachedRow v.nfa e b
   reached b h = grind (arith, is.reached (member b), member-below, block-from, part.blocks.own)
@@ -146,7 +130,7 @@ module _ {v : DfaValue} (is : IsDfa v) {p : Blocks} (part : IsGrouping v.table p
     table = filled;
     tells = tells;
     reached = reached;
-    over = over;
+    dead = none-after;
   }
 
   pub merged-is : IsMerged v p (with_rows v next starts lists)
@@ -157,6 +141,12 @@ module _ (v w : DfaValue) (p : Blocks) (part : IsPartition v.table p) (is : IsMe
   pub merged-least : IsLeast w.nfa w.table
   merged-least = grind (arith, part.blocks.rows, part.blocks.own, part.apart, is.apart, is.reached)
 
-  -- and no more than there were
-  pub merged-fewest : length w.table.patterns ≤ length v.table.patterns
-  merged-fewest = omega (arith, few_blocks part.blocks)
+-- one entry more of the table of the blocks
+pub merged-push : (d : Table) (p : Blocks) (next : List ℕ) (row column : ℕ) {more : List ℕ} {to : ℕ}
+    → more ≡ next ++ to ∷ []
+    → AreMergedEntries d p next → length next ≡ row * (d.class_count + 1) + column → column < d.class_count + 1
+    → to ≡ slice_index p.numbers (entry d (slice_index p.members row) column) → AreMergedEntries d p more
+merged-push d p next row column more_is entries size inside to_is =
+    let row_is = div-mul-add row (d.class_count + 1) column inside in
+    let column_is = mod-mul-add row (d.class_count + 1) column inside in
+    rw more_is (grind (arith, pushed, row_is, column_is))

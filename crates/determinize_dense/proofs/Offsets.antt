@@ -1,16 +1,14 @@
--- Offsets of rows.
--- Main statements: rows_at-offsets, same-offset, row-of, stored-offsets, inverse-is.
--- Used by: Searching, Writing, `match_of`, `next_row`, `finished` and `walker`.
+-- Offsets of rows, and entries.
+-- Main statements: rows_at-offsets, same-offset, row-of, stored-offsets, inverse-is, entry-at, over-stored.
+-- Used by: Searching, Writing, `match_of`, `next_row`, `finished`, `walker`, `entry` and `row_over`.
 -- Idea: an offset is a number times the columns, so it is divided by them, and ordered as the numbers are.
-use Rattle.determinize_dense.proofs.Common.{All, All-from_get_or, arith, DfaValue, div-mul-add, get_or-map, IsDfa}
-use Rattle.determinize_dense.proofs.Common.{IsFilled, IsInverse, IsStored, length, length-map, List, map, offset_of}
-use Rattle.determinize_dense.proofs.Common.{refl, rows_at, Table, [], ℕ, ◌*◌, ◌+◌, ◌-◌, ◌/◌, ◌<◌, ◌^◌, ◌∷◌, ◌≡◌, ◌≤◌}
+use Rattle.determinize_dense.proofs.Common.{All, All-from_get_or, All-weaker, arith, column_of, DfaValue, div-add-mod'}
+use Rattle.determinize_dense.proofs.Common.{div-lt_iff_lt-mul, div-mul-add, drop, get_or-drop, get_or-map, IsDfa}
+use Rattle.determinize_dense.proofs.Common.{IsFilled, IsInverse, IsStored, IsUnit, length, length-drop, length-map}
+use Rattle.determinize_dense.proofs.Common.{List, map, MAX_STATES, mod-lt, mul-add, mul-add-lt, mul-le-mul_left}
+use Rattle.determinize_dense.proofs.Common.{mul_assoc, offset_of, Option, refl, row_over, rows_at, slice_index, Table}
+use Rattle.determinize_dense.proofs.Common.{take, take_rest, [], ℕ, ◌%◌, ◌*◌, ◌+◌, ◌-◌, ◌/◌, ◌<◌, ◌^◌, ◌∷◌, ◌≡◌, ◌≤◌}
 use Rattle.determinize_dense.proofs.Refining.{entry-below}
-use Rattle.std.specs.Prelude.{◌%◌}
-use Rattle.std.proofs.Math.Nat.{div-lt_iff_lt-mul, mod-lt, mul-add, mul-le-mul_left, mul_assoc}
-use Rattle.std.proofs.lemmas.Nat.{div-add-mod'}
-use Rattle.std.proofs.lemmas.List.Elements.{All-weaker}
-use Rattle.determinize_engine.specs.declared.state_table.TheConstants.{MAX_STATES}
 
 -- a number of columns, over the columns
 divided : (r columns : ℕ) → 0 < columns → r * columns / columns ≡ r
@@ -75,3 +73,29 @@ entries_within d is = All-from_get_or (λ row. row < length d.patterns) d.next 0
 pub entries_few : (d : Table) → IsFilled d → All (λ row. row < MAX_STATES) d.next
 entries_few d is = All-weaker (λ row. row < length d.patterns) (λ row. row < MAX_STATES) (λ row h. omega arith) d.next
     (entries_within d is)
+
+-- each row has an entry in each column
+pub entry-at : (d : Table) → IsFilled d → (r c : ℕ) → r < length d.patterns → c < d.class_count + 1
+    → r * (d.class_count + 1) + c < length d.next
+entry-at d is r c h l = omega (arith, mul-add-lt r (d.class_count + 1) c (length d.patterns) h l)
+
+-- as an offset, over a unit
+pub over-stored : (v : DfaValue) (offsets : List ℕ) → IsStored v offsets → (r : ℕ) (u : Option ℕ)
+    → r < length v.table.patterns → IsUnit u
+    → (r * (v.table.class_count + 1) + column_of v.table u < length offsets)
+    × (slice_index offsets (r * (v.table.class_count + 1) + column_of v.table u)
+    ≡ offset_of v.table (row_over v.table r u))
+over-stored v offsets is r u h unit =
+    let there = entry-at v.table is.dfa.table r (column_of v.table u) h (is.dfa.table.column u unit) in
+    grind (arith, there)
+
+-- the end of a list, from an index on
+abbrev pub rest_of : List ℕ → ℕ → List ℕ
+rest_of xs k = take (length xs - k) (drop k xs)
+
+pub rest-length : (xs : List ℕ) (k : ℕ) → length (rest_of xs k) ≡ length xs - k
+rest-length xs k = simp (take_rest, length-drop)
+
+-- and an element of it
+pub rest-index : (xs : List ℕ) (k i : ℕ) → slice_index (rest_of xs k) i ≡ slice_index xs (k + i)
+rest-index xs k i = simp (take_rest, get_or-drop)

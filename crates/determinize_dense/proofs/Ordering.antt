@@ -1,16 +1,17 @@
--- Rows in the order of their ranks, one row more at a time.
--- Main statements: ordering-skip, ordering-push, ordering-by_rank.
--- Used by: `by_rank`.
--- Idea: a rank and a number within it are a turn, and blocks are numbered in the order of turns.
-use Rattle.determinize_dense.proofs.Common.{AreBlocks, arith, get_or-set_at, IsByRank, IsOrdering, length, List}
-use Rattle.determinize_dense.proofs.Common.{mul-add-lt, slice_index, [], ℕ, ◌*◌, ◌++◌, ◌+◌, ◌<◌, ◌∷◌, ◌≡◌, ◌≤◌}
-use Rattle.std.proofs.Common.{All, get_or-set_other}
-use Rattle.std.proofs.lemmas.List.{length-set}
-use Rattle.std.proofs.lemmas.Nat.{same_from_place}
-use Rattle.std.specs.Prelude.{slice_set}
+-- Rows in the order of their ranks, one row more at a time, and the table of these rows.
+-- Main statements: ordering-skip, ordering-push, ordering-by_rank, grouping-by_rank, arranged-least, arranged-ordered.
+-- Used by: `by_rank` and `arranged`.
+-- Idea: a rank and a number within it are a turn, blocks are numbered in the order of turns, and each has one row.
+use Rattle.determinize_dense.proofs.Common.{AreBlocks, AreTogether, arith, Blocks, DfaValue, get_or-set_at}
+use Rattle.determinize_dense.proofs.Common.{get_or-set_other, IsByRank, IsGrouping, IsLastUpto, IsLeast, IsMerged}
+use Rattle.determinize_dense.proofs.Common.{IsOrdered, IsOrdering, IsRank, length, length-set, List, mul-add-lt}
+use Rattle.determinize_dense.proofs.Common.{mul-le-mul_right, offset_of, same_from_place, slice_index, slice_set}
+use Rattle.determinize_dense.proofs.Common.{turn_of, [], ℕ, ◌*◌, ◌++◌, ◌+◌, ◌<◌, ◌∙◌, ◌∷◌, ◌≡◌, ◌≤◌}
+use Rattle.std.proofs.Common.{All}
 use Rattle.determinize_dense.proofs.Pigeonhole.{pigeonhole}
 use Rattle.determinize_dense.proofs.Splitting.{few_blocks, pushed}
-use Rattle.determinize_dense.specs.Private.Partition.{turn_of}
+use Rattle.determinize_dense.proofs.Merging.{merged-least}
+use Rattle.determinize_dense.specs.Private.Order.{AreRanks}
 
 module _ {ranks numbers members : List ℕ} (rank row : ℕ)
     (is : IsOrdering ranks (rank * length ranks + row) numbers members) (h : row < length ranks) where
@@ -60,3 +61,44 @@ module _ {ranks numbers members : List ℕ} (is : IsOrdering ranks (4 * length r
         back = λ r h. (placed r h).1;
         ascend = λ b c h l. grind (arith, is.rows c l, is.ascend b c h l);
       }
+
+module _ (v : DfaValue) {ranks : List ℕ} {p : Blocks} (are : AreRanks v.table ranks) (is : IsByRank ranks p) where
+  -- each block has one row
+  same_row : (r s : ℕ) → r < length v.table.patterns → s < length v.table.patterns → AreTogether p r s → r ≡ s
+  same_row r s h l e = grind (arith, is.back r, is.back s)
+
+  pub grouping-by_rank : IsGrouping v.table p
+  grouping-by_rank = grind (arith, same_row)
+
+  module _ {w : DfaValue} (m : IsMerged v p w) where
+    pub arranged-least : IsLeast v.nfa v.table → IsLeast w.nfa w.table
+    arranged-least least = let same = same_row in merged-least v w p (record {
+      blocks = is.blocks;
+      count = is.count ∙ are.count;
+      patterns = grind (arith, same);
+      apart = grind (arith, least.apart);
+    }) m
+
+    -- only block 0 has row 0
+    later : (b : ℕ) → 0 < b → b < length p.members → 0 < slice_index p.members b
+    later b some h = grind (arith, is.blocks.own b h, is.blocks.own 0)
+
+    -- the rank of the row of a block
+    rank-is : (b : ℕ) → b < length p.members
+        → IsRank v.table (slice_index p.members b) (slice_index ranks (slice_index p.members b))
+    rank-is b h = are.each _ (grind (arith, is.blocks.rows b))
+
+    pub arranged-ordered : {first second : ℕ} → IsLastUpto ranks p 1 first → IsLastUpto ranks p 2 second
+        → IsOrdered w.table (offset_of w.table first) (offset_of w.table second)
+    arranged-ordered {first} {second} lists scans = record {
+      dead = m.dead;
+      some = λ b some h l.
+          let i : b < length p.members = omega arith in
+          let upto : b ≤ first = grind arith in
+          rw (m.patterns b i) ((rank-is b i).some (later b some i) (lists.upto b upto));
+      none = λ b h l.
+          let i : b < length p.members = omega arith in
+          let past : first < b = grind arith in
+          rw (m.patterns b i) ((rank-is b i).none (lists.past b past i));
+      more = mul-le-mul_right (w.table.class_count + 1) (grind (arith, lists.upto first, scans.past first));
+    }

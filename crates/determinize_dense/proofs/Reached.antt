@@ -2,19 +2,13 @@
 -- Main statements: reached-step, reached-dead, reached-tested.
 -- Used by: Simulation, Building, and `entry`.
 -- Idea: a value is reached by units from a start, so the next one is reached by one unit more.
-use Rattle.determinize_dense.proofs.Common.{All-nil, All-push, dead, IsReachedValue, IsUnit, List, MatchKind}
-use Rattle.determinize_dense.proofs.Common.{NeedsTested, Nfa, None, Option, refl, start_in, start_value, true, Value}
-use Rattle.determinize_dense.proofs.Common.{value_after, value_after-push, [], ℕ, ◌++◌, ◌∷◌, ◌≡◌}
-use Rattle.determinize_core.proofs.Common.{tables_of}
-use Rattle.ordered_reach.proofs.lists.Pieces.{flat_map_none}
-use Rattle.determinize_below.specs.Edges.{is_match, target}
-use Rattle.determinize_below.specs.Look.{has}
+use Rattle.determinize_dense.proofs.Common.{All-nil, All-push, dead, each_need_is_tested, flat_map_none, has}
+use Rattle.determinize_dense.proofs.Common.{have_after, is_match, IsReachedValue, IsUnit, List, MatchKind, NeedsTested}
+use Rattle.determinize_dense.proofs.Common.{Nfa, None, Option, part_read, refl, start_in, start_value, step, step_over}
+use Rattle.determinize_dense.proofs.Common.{tables_of, target, true, Value, value_after, value_after-push, working_list}
+use Rattle.determinize_dense.proofs.Common.{[], ℕ, ◌++◌, ◌∷◌, ◌≡◌}
 use Rattle.determinize_below.proofs.nfas.Edges.{target-end}
-use Rattle.determinize_start.specs.LookTables.{have_after}
-use Rattle.determinize_core.specs.Step.{part_read, step, working_list}
 use Rattle.determinize_core.proofs.closure.EmptySearch.{reach-none}
-use Rattle.determinize_core.proofs.step.AlikeBytes.{each_need_is_tested}
-use Rattle.determinize_engine.proofs.LastUnits.{step_over}
 
 module _ (nfa : Nfa) (kind : MatchKind) where
   -- the value after a reached one is reached

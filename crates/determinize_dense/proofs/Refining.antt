@@ -2,13 +2,11 @@
 -- Main statements: entry-below, partition-first, partition-apart, partition-split, refined-more, refined-fewer.
 -- Used by: Offsets, `entry`, `partition`, `split_by` and `refine`.
 -- Idea: rows that are split were apart, or have entries in a column that were apart.
-use Rattle.determinize_dense.proofs.Common.{All-cons, All-nil, AreApart, AreEqual, arith, Blocks, by_cases, cases_eq}
-use Rattle.determinize_dense.proofs.Common.{entry, IsFilled, IsPartition, IsRefined, IsSplit, IsUnit, length}
-use Rattle.determinize_dense.proofs.Common.{length-replicate, List, patterns_at, slice_index, Table, [], ℕ, ◌+◌}
-use Rattle.determinize_dense.proofs.Common.{◌<◌, ◌∙◌, ◌∷◌, ◌≡◌, ◌≤◌}
-use Rattle.determinize_core.proofs.Common.{replicate}
-use Rattle.std.proofs.lemmas.List.{get_or-replicate}
-use Rattle.determinize_dense.specs.Private.Minimizing.{AreFirstAlike, AreTargets, IsSplitBy}
+use Rattle.determinize_dense.proofs.Common.{All-cons, All-nil, AreApart, AreEqual, AreFirstAlike, AreTargets, arith}
+use Rattle.determinize_dense.proofs.Common.{Blocks, by_cases, cases_eq, entry, get_or-replicate, IsFilled, IsPartition}
+use Rattle.determinize_dense.proofs.Common.{IsRefined, IsSplit, IsSplitBy, IsUnit, length, length-replicate, List}
+use Rattle.determinize_dense.proofs.Common.{patterns_at, replicate, slice_index, Table, [], ℕ, ◌+◌, ◌<◌, ◌∙◌, ◌∷◌, ◌≡◌}
+use Rattle.determinize_dense.proofs.Common.{◌≤◌}
 
 -- the row after a row in a column is a row
 pub entry-below : (d : Table) → IsFilled d → (r c : ℕ) → r < length d.patterns → c < d.class_count + 1

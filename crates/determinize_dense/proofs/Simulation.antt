@@ -2,35 +2,22 @@
 -- Main statements: is_dfa, has_states.
 -- Used by: `finish`.
 -- Idea: the unit for which a column is computed is alike to each unit of the column.
-use Rattle.determinize_dense.proofs.Common.{All, All-head, All-tail, AreClassesOf, AreStarts, arith, Bool, Building}
-use Rattle.determinize_dense.proofs.Common.{by_cases, cases_lt, Classes, column_of, columns_of, Contains, dead}
-use Rattle.determinize_dense.proofs.Common.{div-mul-add, false, first_of, get_or, get_or_from_slice_get, HasStates}
+use Rattle.determinize_dense.proofs.Common.{All, All-head, All-tail, AreStarts, arith, Bool, Building, by_cases}
+use Rattle.determinize_dense.proofs.Common.{cases_lt, column_of, columns_of, Contains, dead, dead_stays, div-mul-add}
+use Rattle.determinize_dense.proofs.Common.{each_class_steps, false, first_of, get_or, get_or_from_slice_get, HasStates}
 use Rattle.determinize_dense.proofs.Common.{IsBuilding, IsDfa, IsFilled, IsReachedRow, IsReachedValue, IsUnit, length}
-use Rattle.determinize_dense.proofs.Common.{length-map, List, map, MatchKind, mod-mul-add, mul-add-lt, NeedsTested, Nfa}
-use Rattle.determinize_dense.proofs.Common.{None, Option, patterns_at, refl, row_after, row_over, slice_get}
-use Rattle.determinize_dense.proofs.Common.{slice_get_within, slice_index, slot_number-below, slot_of, Some}
-use Rattle.determinize_dense.proofs.Common.{start_kind_of, start_row, step, sym, Table, true, unit_at, Value}
-use Rattle.determinize_dense.proofs.Common.{value_after, value_from, [], ℕ, ◌*◌, ◌++◌, ◌+◌, ◌<◌, ◌∙◌, ◌∷◌, ◌≡◌}
-use Rattle.determinize_core.proofs.Common.{nat_lt, slice_get-get_or, slice_get-map}
-use Rattle.determinize_core.proofs.step.AlikeBytes.{each_class_steps}
-use Rattle.determinize_core.proofs.step.StepLaws.{dead_stays}
-use Rattle.determinize_engine.proofs.Places.{of_some}
+use Rattle.determinize_dense.proofs.Common.{length-map, List, lists_of, MatchKind, mod-mul-add, mul-add-lt, nat_lt}
+use Rattle.determinize_dense.proofs.Common.{NeedsTested, Nfa, None, Option, patterns_at, refl, row_after, row_over}
+use Rattle.determinize_dense.proofs.Common.{slice_get, slice_get-get_or, slice_get-map, slice_get_within, slice_index}
+use Rattle.determinize_dense.proofs.Common.{slot_number-below, slot_of, Some, start_kind_of, start_row, step, Table}
+use Rattle.determinize_dense.proofs.Common.{true, unit_at, Value, value_after, value_from, [], ℕ, ◌*◌, ◌+◌, ◌<◌, ◌∷◌}
+use Rattle.determinize_dense.proofs.Common.{◌≡◌}
 use Rattle.determinize_dense.proofs.Reached.{reached-tested}
 
 -- the dead value stays along units
-dead_after : (nfa : Nfa) (kind : MatchKind) (us rest : List (Option ℕ)) (v : Value) → value_after nfa kind v us ≡ dead
-    → value_after nfa kind v (us ++ rest) ≡ dead
-dead_after nfa kind [] [] v is = is
-dead_after nfa kind [] (u ∷ rest) v is =
-    dead_after nfa kind [] rest (step nfa kind v u) (rw is (dead_stays nfa kind u).0)
-dead_after nfa kind (u ∷ us) rest v is = dead_after nfa kind us rest (step nfa kind v u) is
-
--- other classes of the same bytes
-classes-as : {nfa : Nfa} {p q : Classes} → q.of_bytes ≡ p.of_bytes → AreClassesOf nfa p → AreClassesOf nfa q
-classes-as e are = record {
-  alike = λ b c h l same. are.alike b c h l (rw e at same);
-  coarsest = λ b c h l alike. rw e (are.coarsest b c h l alike);
-}
+dead_after : (nfa : Nfa) (kind : MatchKind) (us : List (Option ℕ)) → value_after nfa kind dead us ≡ dead
+dead_after nfa kind [] = refl
+dead_after nfa kind (u ∷ us) = rw (dead_stays nfa kind u).0 (dead_after nfa kind us)
 
 module _ (b : Building) (is : IsBuilding b) (whole : length b.next ≡ length b.values * columns_of b.classes)
     (starts : List ℕ) (are : AreStarts b.nfa b.values 12 starts) where
@@ -40,7 +27,7 @@ module _ (b : Building) (is : IsBuilding b) (whole : length b.next ≡ length b.
     class_count = length b.classes.firsts;
     next = b.next;
     starts = starts;
-    patterns = map (λ (v : Value). v.patterns) b.values;
+    patterns = lists_of b.values;
   }
 
   column-below : (u : Option ℕ) → IsUnit u → column_of table u < columns_of b.classes
@@ -89,7 +76,7 @@ module _ (b : Building) (is : IsBuilding b) (whole : length b.next ≡ length b.
       row_after-steps us _ _ (are.rows slot (slot_number-below slot) p h refl) all
 
   lists-at : (r : ℕ) (v : Value) → slice_get b.values r ≡ Some v → patterns_at table r ≡ v.patterns
-  lists-at r v at = get_or_from_slice_get (map (λ (x : Value). x.patterns) b.values) r v.patterns []
+  lists-at r v at = get_or_from_slice_get (lists_of b.values) r v.patterns []
       (rw (slice_get-map, at))
 
   count : length table.patterns ≡ length b.values
@@ -125,13 +112,14 @@ module _ (b : Building) (is : IsBuilding b) (whole : length b.next ≡ length b.
   pub is_dfa : IsDfa record { nfa = b.nfa; kind = b.kind; table = table }
   is_dfa = record {
     accepted = is.accepted;
-    classes = λ p same. classes-as same is.classes;
+    classes = λ p same. record {
+      alike = λ x y h l e. is.classes.alike x y h l (rw same at e);
+      coarsest = λ x y h l alike. rw same (is.classes.coarsest x y h l alike);
+    };
     table = is_table;
     tells = λ anchored p us h all. lists-at _ _ (row_after-start anchored p us h all);
     reached = row-reached;
-    over = λ anchored p us rest h all _ end.
-        let at = rw end at (row_after-start anchored p us h all) in
-        rw (dead_after b.nfa b.kind us rest _ (of_some (sym at ∙ is.first)));
+    dead = λ us all. rw (lists-at _ _ (row_after-steps us 0 dead is.first all), dead_after) refl;
   }
 
   -- the values are those that are reached

@@ -2,16 +2,13 @@
 -- Main statements: few_blocks, row-kept, row-split, splitting-split.
 -- Used by: Collecting, Merging, Ordering, `split`, `len`, and the loops over rows.
 -- Idea: a row stays in its block if it has the value of the member; else its block and value are a key of a new number.
-use Rattle.determinize_dense.proofs.Common.{AreBlocks, AreEqual, arith, Blocks, IsSplit, IsSplitting, length}
-use Rattle.determinize_dense.proofs.Common.{length_push, List, None, Option, same_pair, slice_index, Some, [], ℕ, ◌++◌}
-use Rattle.determinize_dense.proofs.Common.{◌<◌, ◌∷◌, ◌≡◌, ◌≤◌}
-use mathlib.Core.Path.{fun_ext}
+use Rattle.determinize_dense.proofs.Common.{AreBlocks, AreEqual, arith, Blocks, by_cases, fun_ext, get_or_append_left}
+use Rattle.determinize_dense.proofs.Common.{get_or_push, IsNumbered, IsSplit, IsSplitting, length, length_push, List}
+use Rattle.determinize_dense.proofs.Common.{None, Option, pair_of, same_pair, slice_index, Some, [], ℕ, ◌++◌, ◌<◌, ◌∷◌}
+use Rattle.determinize_dense.proofs.Common.{◌≡◌, ◌≤◌}
 use Rattle.std.proofs.Common.{cond}
 use Rattle.std.proofs.lemmas.Grind.{same_number_lists}
-use Rattle.std.proofs.lemmas.List.{get_or_append_left, get_or_push}
-use Rattle.ordered_reach.proofs.Cases.{by_cases}
 use Rattle.determinize_dense.proofs.Pigeonhole.{pigeonhole}
-use Rattle.determinize_dense.specs.Private.Partition.{IsNumbered, pair_of}
 
 -- there are no more blocks than rows
 pub few_blocks : {p : Blocks} → AreBlocks p → length p.members ≤ length p.numbers

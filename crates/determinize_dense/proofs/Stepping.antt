@@ -2,13 +2,12 @@
 -- Main statements: row_after-byte, listed_at_end.
 -- Used by: `determinize_uses`.
 -- Idea: the row after all bytes and the unit ahead is the row after the units of a text.
-use Rattle.determinize_dense.proofs.Common.{All, Bool, get_or, IsAccepted, IsDfaOf, IsUnit, length, List, ListsAccepted}
-use Rattle.determinize_dense.proofs.Common.{map, map_push, Nfa, patterns_at, refl, row_after, row_over, Some, start_in}
-use Rattle.determinize_dense.proofs.Common.{start_row, Table, take, take_more, Text, units_listed, [], ℕ, ◌+◌, ◌<◌, ◌∷◌}
-use Rattle.determinize_dense.proofs.Common.{◌≡◌}
+use Rattle.determinize_dense.proofs.Common.{All, Bool, get_or, IsAccepted, IsDfaOf, IsUnit, length, List, list_after}
+use Rattle.determinize_dense.proofs.Common.{ListsAccepted, map, map_push, Nfa, patterns_at, refl, row_after, row_over}
+use Rattle.determinize_dense.proofs.Common.{Some, start_in, start_row, Table, take, take_more, Text, units_listed, []}
+use Rattle.determinize_dense.proofs.Common.{ℕ, ◌+◌, ◌<◌, ◌∷◌, ◌≡◌}
 use Rattle.determinize_dense.proofs.Least.{row_after-more}
 use Rattle.determinize_dense.proofs.Listing.{each_text_is_listed}
-use Rattle.determinize_dense.specs.Meaning.{list_after}
 use Rattle.determinize_below.specs.declared.search.MatchKind.TheVariants as kinds
 
 -- a byte more

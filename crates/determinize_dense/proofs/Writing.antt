@@ -1,49 +1,36 @@
 -- Numbers that are written one after the other.
--- Main statements: write_more, end_more, list_more, whole_of.
+-- Main statements: write_more, list_more, ids_more, whole_of.
 -- Used by: `bytes`.
 -- Idea: what is written, and then the numbers that are left, are all numbers.
-use Rattle.determinize_dense.proofs.Common.{All-append, All-from_get_or, AreClasses, arith, bytes_of_words, Classes}
-use Rattle.determinize_dense.proofs.Common.{concat, DfaValue, drop, drop_more, ends_from, get_or, IsDfa, length, List}
-use Rattle.determinize_dense.proofs.Common.{MAX_ID, slice_index, take, take_more, [], ℕ, ◌++◌, ◌+◌, ◌<◌, ◌^◌, ◌≡◌, ◌≤◌}
+use Rattle.determinize_dense.proofs.Common.{All-append, All-from_get_or, append-nil, append_assoc, AreClasses, arith}
+use Rattle.determinize_dense.proofs.Common.{bytes_of_words, Classes, concat, DfaValue, drop, drop_more, flat_map-append}
+use Rattle.determinize_dense.proofs.Common.{get_or, IsDfa, length, List, MAX_ID, slice_index, take, take_more, [], ℕ}
+use Rattle.determinize_dense.proofs.Common.{◌++◌, ◌+◌, ◌<◌, ◌^◌, ◌≡◌, ◌≤◌}
 use Rattle.std.specs.Prelude.{All}
 use Rattle.std.specs.Int.{to_le_bytes, w32}
-use Rattle.std.proofs.Common.{append_assoc}
-use Rattle.std.proofs.lemmas.List.{append-nil, length-append}
-use Rattle.std.proofs.lemmas.List.Concat.{flat_map-append}
 use Rattle.std.proofs.lemmas.List.Folds.{concat-append}
 use Rattle.determinize_dense.proofs.Offsets.{entries_within}
 use Rattle.determinize_dense.specs.Bytes.{IsWhole, stored_of}
 
 -- one number more
-pub write_more : (before total xs : List ℕ) (i x : ℕ) → i < length xs → x ≡ slice_index xs i
+pub write_more : (before : List ℕ) {total : List ℕ} (xs : List ℕ) {i x : ℕ} → i < length xs → x ≡ slice_index xs i
     → before ++ bytes_of_words (drop i xs) ≡ total
     → (before ++ to_le_bytes w32 x) ++ bytes_of_words (drop (i + 1) xs) ≡ total
-write_more before total xs i x h at so_far = rw (append_assoc, at) (rw (drop_more xs i 0 h) at so_far)
+write_more before xs {i = i} h at so_far = rw (append_assoc, at) (rw (drop_more xs i 0 h) at so_far)
 
--- where one list more ends
-pub end_more : (before total : List ℕ) (ps : List (List ℕ)) (i start end : ℕ) → i < length ps
-    → end ≡ start + length (get_or ps i []) → before ++ bytes_of_words (ends_from start (drop i ps)) ≡ total
-    → (before ++ to_le_bytes w32 end) ++ bytes_of_words (ends_from end (drop (i + 1) ps)) ≡ total
-end_more before total ps i start end h at so_far = rw (append_assoc, at) (rw (drop_more ps i [] h) at so_far)
+module _ (ps : List (List ℕ)) {i : ℕ} (h : i < length ps) where
+  -- one list more
+  pub list_more : (before : List ℕ) {total list : List ℕ} → list ≡ get_or ps i []
+      → before ++ bytes_of_words (concat (drop i ps)) ≡ total
+      → (before ++ bytes_of_words list) ++ bytes_of_words (concat (drop (i + 1) ps)) ≡ total
+  list_more before at so_far =
+      rw (append_assoc, at, ← flat_map-append (to_le_bytes w32) (get_or ps i []) (concat (drop (i + 1) ps)))
+      (rw (drop_more ps i [] h) at so_far)
 
--- one list more
-pub list_more : (before total : List ℕ) (ps : List (List ℕ)) (i : ℕ) (list : List ℕ) → i < length ps
-    → list ≡ get_or ps i [] → before ++ bytes_of_words (concat (drop i ps)) ≡ total
-    → (before ++ bytes_of_words list) ++ bytes_of_words (concat (drop (i + 1) ps)) ≡ total
-list_more before total ps i list h at so_far =
-    rw (append_assoc, at, ← flat_map-append (to_le_bytes w32) (get_or ps i []) (concat (drop (i + 1) ps)))
-    (rw (drop_more ps i [] h) at so_far)
-
--- the numbers before where a list ends, and those left
-pub sum_more : (ps : List (List ℕ)) (i start end : ℕ) → i < length ps → end ≡ start + length (get_or ps i [])
-    → start + length (concat (drop i ps)) ≡ length (concat ps)
-    → end + length (concat (drop (i + 1) ps)) ≡ length (concat ps)
-sum_more ps i start end h at so_far = omega (arith, rw (drop_more ps i [] h, length-append) at so_far)
-
-pub ids_more : (P : ℕ → Type 0) (ps : List (List ℕ)) (i : ℕ) → i < length ps → All P (concat (take i ps))
-    → All P (get_or ps i []) → All P (concat (take (i + 1) ps))
-ids_more P ps i h before here = rw (take_more ps i [] h, concat-append, append-nil)
-    (All-append P (concat (take i ps)) (get_or ps i []) before here)
+  pub ids_more : (P : ℕ → Type 0) → All P (concat (take i ps)) → All P (get_or ps i [])
+      → All P (concat (take (i + 1) ps))
+  ids_more P before here = rw (take_more ps i [] h, concat-append, append-nil)
+      (All-append P (concat (take i ps)) (get_or ps i []) before here)
 
 -- a whole table is stored
 pub whole_of : (v : DfaValue) (p : Classes) → IsDfa v → AreClasses p → p.of_bytes ≡ v.table.classes

@@ -1,5 +1,5 @@
 -- What is true of every DFA.
-use Rattle.std.specs.Prelude.{◌≡◌, ◌<◌, ◌≤◌, ◌+◌, ◌*◌, ◌/◌, ◌^◌, ◌++◌, ℕ, All, Bool, Option, List, []}
+use Rattle.std.specs.Prelude.{◌≡◌, ◌<◌, ◌≤◌, ◌+◌, ◌*◌, ◌/◌, ◌^◌, ℕ, Option, List}
 use Rattle.std.specs.Prelude.{length, map, slice_index}
 use Rattle.determinize_below.specs.ByteClasses.{AreClassesOf, Classes}
 use Rattle.determinize_below.specs.Nfa.{IsAccepted}
@@ -8,10 +8,10 @@ use Rattle.determinize_below.specs.Truth.{IsUnit}
 use Rattle.determinize_below.specs.declared.search.MatchKind.{MatchKind}
 use Rattle.determinize_engine.specs.declared.state_table.TheConstants.{MAX_STATES}
 use Rattle.determinize_start.specs.declared.start.TheConstants.StartSlot.{COUNT}
-use Rattle.determinize_dense.specs.Dfa.{IsDfaOf, value_from}
+use Rattle.determinize_dense.specs.Dfa.{IsDfaOf}
 use Rattle.determinize_dense.specs.Least.{IsReachedRow}
-use Rattle.determinize_dense.specs.Table.{DfaValue, Table, column_of, row_after}
-use Rattle.determinize_dense.specs.Table.{row_over, start_row}
+use Rattle.determinize_dense.specs.Reading.{IsDead}
+use Rattle.determinize_dense.specs.Table.{DfaValue, Table, column_of, row_over}
 
 -- each entry is in place and is the number of a row, and each column is that of a unit; there are
 -- at most MAX_STATES rows, of at most 257 entries
@@ -41,17 +41,14 @@ dfa_value nfa kind classes next starts patterns = record {
 }
 
 -- a table of this NFA, which is valid, and of this match kind; the classes of bytes are those of
--- the NFA, each row is reached, and no match follows row 0
+-- the NFA, each row is reached, and nothing is listed from row 0 on
 pub record IsDfa (v : DfaValue) : Type 0 where
   pub accepted : IsAccepted v.nfa
   pub classes : (p : Classes) → p.of_bytes ≡ v.table.classes → AreClassesOf v.nfa p
   pub table : IsFilled v.table
   pub tells : IsDfaOf v.nfa v.kind v.table
   pub reached : (r : ℕ) → r < length v.table.patterns → IsReachedRow v.nfa v.table r
-  pub over : (anchored : Bool) (p : Option ℕ) (us rest : List (Option ℕ)) → IsUnit p → All IsUnit us
-      → All IsUnit rest
-      → row_after v.table (start_row v.nfa v.table anchored p) us ≡ 0
-      → (value_from v.nfa v.kind anchored p (us ++ rest)).patterns ≡ []
+  pub dead : IsDead v.table 0
 
 -- the offset of a row: the number of entries before it
 abbrev pub offset_of : Table → ℕ → ℕ

@@ -1,6 +1,4 @@
-use Rattle.determinize_below.specs.Unit.{byte_of}
-use Rattle.determinize_core.proofs.Common.{arith, length, rules, take_all, true, ◌<◌, ◌≡◌}
-use Rattle.determinize_core.specs.Private.Reading.{gives_nothing}
+use Rattle.determinize_dense.proofs.Common.{arith, byte_of, gives_nothing, length, rules, take_all, true, ◌<◌, ◌≡◌}
 use Rattle.determinize_dense.proofs.IdleStates.{idle-push}
 use Rattle.determinize_dense.proofs.build.none_gives.Goals as goal
 

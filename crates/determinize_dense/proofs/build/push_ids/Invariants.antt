@@ -1,4 +1,4 @@
-use Rattle.determinize_core.proofs.Common.{◌++◌, ◌≡◌}
+use Rattle.determinize_dense.proofs.Common.{◌++◌, ◌≡◌}
 use Rattle.determinize_dense.proofs.build.push_ids.Given as goal
 
 abbrev pub invariant-loop-id : goal.invariant-loop-id

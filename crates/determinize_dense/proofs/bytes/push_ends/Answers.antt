@@ -1,6 +1,6 @@
-use Rattle.determinize_dense.proofs.Common.{arith, get_or, length, length-map, map, rules, [], ◌+◌, ◌≡◌}
+use Rattle.determinize_dense.proofs.Common.{append_assoc, arith, drop_more, get_or, length, length-append, length-map}
+use Rattle.determinize_dense.proofs.Common.{map, rules, [], ◌+◌, ◌<◌, ◌≡◌}
 use Rattle.determinize_dense.proofs.Lists.{items-at}
-use Rattle.determinize_dense.proofs.Writing.{end_more, sum_more}
 use Rattle.determinize_dense.proofs.bytes.push_ends.Goals as goal
 
 pub loop-list-preserved : goal.loop-list-preserved
@@ -11,11 +11,9 @@ loop-list-preserved g c =
     let size : c.len.result ≡ length (get_or lists c.loop-list.list-index []) = rw (← list) (search rules) in
     let end : c.saturating_add-end.result ≡ c.loop-list.end + length (get_or lists c.loop-list.list-index []) =
     omega (arith, c.saturating_add-end.ensures, c.if-end.false) in
-    record {
+    let inside : c.loop-list.list-index < length lists = omega (arith, c.loop-list-test.true) in
+    let here = drop_more lists c.loop-list.list-index [] inside in record {
       small = omega (arith, c.if-end.false);
-      sum = sum_more lists c.loop-list.list-index c.loop-list.end c.saturating_add-end.result
-          (omega (arith, c.loop-list-test.true)) end c.loop-list.invariant.sum;
-      rest = rw c.in_ok-push_word.ensures (end_more c.loop-list.bytes.items _ lists c.loop-list.list-index
-          c.loop-list.end c.saturating_add-end.result (omega (arith, c.loop-list-test.true)) end
-          c.loop-list.invariant.rest);
+      sum = omega (arith, end, rw (here, length-append) at c.loop-list.invariant.sum);
+      rest = rw (c.in_ok-push_word.ensures, append_assoc, end) (rw here at c.loop-list.invariant.rest);
     }

@@ -1,5 +1,4 @@
-use Rattle.determinize_dense.proofs.Common.{get_or_default_zero, MAX_ID, take_all, ◌∙◌, ◌≤◌}
-use Rattle.std.proofs.lemmas.List.Elements.{All-more}
+use Rattle.determinize_dense.proofs.Common.{All-more, get_or_default_zero, MAX_ID, take_all, ◌∙◌, ◌≤◌}
 use Rattle.determinize_dense.proofs.Writing.{write_more}
 use Rattle.determinize_dense.proofs.bytes.push_list.Goals as goal
 
@@ -7,8 +6,7 @@ pub loop-pattern-preserved : goal.loop-pattern-preserved
 loop-pattern-preserved g c =
     let test = c.loop-pattern-test.true in
     record {
-      rest = rw c.in_ok-push_word.ensures (write_more c.loop-pattern.bytes.items _ c.args.list.now
-          c.loop-pattern.pattern-index c.as_u32.result test (c.as_u32.ensures.value ∙ c.pattern-item.is
+      rest = rw c.in_ok-push_word.ensures (write_more _ _ test (c.as_u32.ensures.value ∙ c.pattern-item.is
           ∙ get_or_default_zero c.args.list.now c.loop-pattern.pattern-index c.pattern-item.result test)
           c.loop-pattern.invariant.rest);
       ids = All-more (λ id. id ≤ MAX_ID) c.args.list.now c.loop-pattern.pattern-index c.pattern-item.result test

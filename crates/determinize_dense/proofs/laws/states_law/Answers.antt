@@ -1,4 +1,4 @@
-use Rattle.determinize_dense.proofs.Counting.{each_count_is_one}
+use Rattle.determinize_dense.proofs.Pigeonhole.{each_count_is_one}
 use Rattle.determinize_dense.proofs.laws.states_law.Goals as goal
 
 pub returns : goal.returns

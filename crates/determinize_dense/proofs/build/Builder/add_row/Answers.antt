@@ -1,18 +1,15 @@
-use Rattle.determinize_core.proofs.Common.{ap, arith, Err, length, length_push, rules, sym, ◌*◌, ◌+◌, ◌<◌, ◌∙◌, ◌≡◌}
-use Rattle.determinize_dense.proofs.Building.{base-stays, building-entry, changes-stay, dead-ids, more-before, same_err, stays-more, stays-next}
-use Rattle.determinize_dense.proofs.Common.{columns_of}
-use Rattle.determinize_dense.proofs.build.Builder.add_row.Given.{Over}
+use Rattle.determinize_dense.proofs.Common.{arith, columns_of, IfSome_then, length, length_push, rules, ◌*◌, ◌+◌, ◌<◌}
+use Rattle.determinize_dense.proofs.Common.{◌∙◌, ◌≡◌}
+use Rattle.determinize_dense.proofs.Building.{base-stays, building-entry, changes-stay, dead-ids, more-before, err-as, stays-more, stays-next}
 use Rattle.determinize_dense.proofs.build.Builder.add_row.Goals.{In_ok-push}
 use Rattle.determinize_dense.proofs.build.Builder.add_row.Goals as goal
-use Rattle.std.proofs.lemmas.Option.{IfSome_then}
 
 pub returns-in_err-entry-clause-many : goal.returns-in_err-entry-clause-many
 returns-in_err-entry-clause-many g c = λ same.
-    let e : c.from_residual-in_err-entry.result ≡ Err c.in_err-entry.field-0.0 = search rules in
-    more-before c.loop-column.invariant.stays (c.in_err-entry.ensures.many (ap Err (same_err (sym e ∙ same))))
+    more-before c.loop-column.invariant.stays (c.in_err-entry.ensures.many (err-as same (search rules)))
 
 -- where the next entry is
-count : (g : Over) (c : In_ok-push g) → length c.self-in-loop-column.inside.next.items
+count : (g : _) (c : In_ok-push g) → length c.self-in-loop-column.inside.next.items
     ≡ c.args.row * columns_of c.self-in-loop-column.inside.classes + c.loop-column.column
 count g c =
     let now : length c.entry.new.self.next ≡ c.args.row * columns_of c.entry.new.self.classes + c.loop-column.column =

@@ -1,5 +1,4 @@
-use Rattle.determinize_core.proofs.Common.{IfSome, length, ◌*◌, ◌+◌, ◌≡◌}
-use Rattle.determinize_dense.proofs.Common.{columns_of, HasChanges, IsBase, Stays}
+use Rattle.determinize_dense.proofs.Common.{columns_of, HasChanges, IfSome, IsBase, length, Stays, ◌*◌, ◌+◌, ◌≡◌}
 use Rattle.determinize_dense.proofs.build.Builder.add_row.Given as goal
 
 abbrev pub invariant-loop-column : goal.invariant-loop-column

@@ -1,4 +1,4 @@
-use Rattle.determinize_core.proofs.Common.{[], append-nil, arith, Some, ◌++◌, ◌≡◌}
+use Rattle.determinize_dense.proofs.Common.{append-nil, arith, Some, [], ◌++◌, ◌≡◌}
 use Rattle.determinize_dense.proofs.build.Builder.base.Goals as goal
 use Rattle.std.proofs.lemmas.Bool.Decides.{Decides-eqb}
 use Rattle.std.proofs.lemmas.Slice.Eq.{strip_suffix_is}

@@ -1,7 +1,6 @@
-use Rattle.determinize_core.proofs.Common.{arith, false≢true, slice_get, Some, sym, true, false, ◌+◌, ◌∙◌, ◌≡◌}
-use Rattle.std.proofs.lemmas.List.{get_or-replicate}
+use Rattle.determinize_dense.proofs.Common.{arith, false, false≢true, get_or-replicate, of_some, slice_get, Some, sym}
+use Rattle.determinize_dense.proofs.Common.{true, ◌+◌, ◌∙◌, ◌≡◌}
 use Rattle.determinize_dense.proofs.Building.{read-at}
-use Rattle.determinize_engine.proofs.Places.{of_some}
 use Rattle.determinize_dense.proofs.build.Builder.changes.Goals as goal
 
 pub returns-then-alphabet_len-lt-SHARING : goal.returns-then-alphabet_len-lt-SHARING

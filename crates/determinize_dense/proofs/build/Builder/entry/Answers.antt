@@ -1,19 +1,16 @@
-use Rattle.determinize_core.proofs.Common.{ap, Err, length, rules, slice_get, Some, sym, ◌<◌, ◌∙◌, ◌≡◌}
-use Rattle.determinize_below.specs.Unit.{byte_of}
-use Rattle.determinize_dense.proofs.Building.{next_row-placed, read-at, same_err, unit_at-unit}
-use Rattle.determinize_dense.proofs.Common.{unit_at}
+use Rattle.determinize_dense.proofs.Common.{byte_of, length, rules, slice_get, Some, unit_at, ◌<◌, ◌≡◌}
+use Rattle.determinize_dense.proofs.Building.{next_row-placed, read-at, err-as, unit_at-unit}
 use Rattle.determinize_dense.proofs.Reached.{reached-step}
-use Rattle.determinize_dense.proofs.build.Builder.entry.Given.{Over}
 use Rattle.determinize_dense.proofs.build.Builder.entry.Goals.{After-next_lent}
 use Rattle.determinize_dense.proofs.build.Builder.entry.Goals as goal
 
-at-row : (g : Over) (c : After-next_lent g)
+at-row : (g : _) (c : After-next_lent g)
     → slice_get c.self.inside.states c.args.row ≡ Some c.index-as_slice-row.result
 at-row g c =
     let room : c.args.row < length c.self.inside.states = rw (← c.self.view_is) at c.requires.row in
     read-at room c.as_slice.ensures c.index-as_slice-row.is
 
-unit-is : (g : Over) (c : After-next_lent g) → byte_of c.unit-unit.result ≡ unit_at c.self.inside.classes c.args.column
+unit-is : (g : _) (c : After-next_lent g) → byte_of c.unit-unit.result ≡ unit_at c.self.inside.classes c.args.column
 unit-is g c = rw (← c.self.view_is) at c.unit-unit.ensures
 
 pub place-requires-clause-reached : goal.place-requires-clause-reached
@@ -25,9 +22,8 @@ place-requires-clause-reached g c =
 
 pub returns-in_err-entry-clause-many : goal.returns-in_err-entry-clause-many
 returns-in_err-entry-clause-many g c = λ same.
-    let e : c.from_residual-in_err-entry.result ≡ Err c.in_err-entry.field-0.0 = search rules in
     rw (← c.self.view_is)
-    (rw c.in_ok-next.ensures.unchanged at (c.in_err-entry.ensures.many (ap Err (same_err (sym e ∙ same)))))
+    (rw c.in_ok-next.ensures.unchanged at (c.in_err-entry.ensures.many (err-as same (search rules))))
 
 pub returns-clause-at : goal.returns-clause-at
 returns-clause-at g c =

@@ -1,5 +1,5 @@
-use Rattle.determinize_core.proofs.Common.{ap, arith, Err, length, rules, sym, ◌<◌, ◌∙◌, ◌≡◌}
-use Rattle.determinize_dense.proofs.Building.{ids-stay, more-before, same_err, stays-more}
+use Rattle.determinize_dense.proofs.Common.{arith, length, rules, ◌<◌}
+use Rattle.determinize_dense.proofs.Building.{ids-stay, more-before, err-as, stays-more}
 use Rattle.determinize_dense.proofs.build.Builder.fill.Goals as goal
 
 pub loop-row-preserved : goal.loop-row-preserved
@@ -16,5 +16,4 @@ loop-row-preserved g c =
 
 pub returns-in_err-add_row-clause-many : goal.returns-in_err-add_row-clause-many
 returns-in_err-add_row-clause-many g c = λ same.
-    let e : c.from_residual-in_err-add_row.result ≡ Err c.in_err-add_row.field-0.0 = search rules in
-    more-before c.loop-row.invariant.stays (c.in_err-add_row.ensures.many (ap Err (same_err (sym e ∙ same))))
+    more-before c.loop-row.invariant.stays (c.in_err-add_row.ensures.many (err-as same (search rules)))

@@ -1,5 +1,4 @@
-use Rattle.determinize_core.proofs.Common.{length, ◌*◌, ◌-◌, ◌<◌, ◌≡◌, ◌≤◌}
-use Rattle.determinize_dense.proofs.Common.{columns_of, HasIds, Stays}
+use Rattle.determinize_dense.proofs.Common.{columns_of, HasIds, length, Stays, ◌*◌, ◌-◌, ◌<◌, ◌≡◌, ◌≤◌}
 use Rattle.determinize_dense.proofs.build.Builder.fill.Given as goal
 
 abbrev pub invariant-loop-row : goal.invariant-loop-row

@@ -1,7 +1,6 @@
-use Rattle.determinize_core.proofs.Common.{arith, slice_get, Some, sym, ◌∙◌, ◌≡◌}
+use Rattle.determinize_dense.proofs.Common.{arith, of_some, slice_get, Some, sym, ◌∙◌, ◌≡◌}
 use Rattle.determinize_dense.proofs.Building.{read-at}
 use Rattle.determinize_dense.proofs.build.Builder.list_ids.Goals as goal
-use Rattle.determinize_engine.proofs.Places.{of_some}
 
 pub returns-clause-ids : goal.returns-clause-ids
 returns-clause-ids g c = λ v got.

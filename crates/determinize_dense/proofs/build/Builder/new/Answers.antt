@@ -1,7 +1,6 @@
-use Rattle.determinize_core.proofs.Common.{arith, min, ◌≡◌}
+use Rattle.determinize_dense.proofs.Common.{arith, MAX_STATES, min, ◌≡◌}
 use Rattle.determinize_dense.proofs.Building.{building-first, more-than-none}
 use Rattle.determinize_dense.proofs.build.Builder.new.Goals as goal
-use Rattle.determinize_engine.specs.declared.state_table.TheConstants.{MAX_STATES}
 
 pub returns-then-limit-eq0-clause-many : goal.returns-then-limit-eq0-clause-many
 returns-then-limit-eq0-clause-many g c = λ _.

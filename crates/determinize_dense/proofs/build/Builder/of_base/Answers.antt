@@ -1,18 +1,14 @@
-use Rattle.determinize_below.specs.Unit.{byte_of}
-use Rattle.determinize_core.proofs.Common.{arith, length, refl, ◌*◌, ◌+◌, ◌<◌, ◌≡◌}
+use Rattle.determinize_dense.proofs.Common.{arith, byte_of, columns_of, IsBase, length, mul-add-lt, mul_comm, refl}
+use Rattle.determinize_dense.proofs.Common.{unit_at, ◌*◌, ◌+◌, ◌<◌, ◌≡◌}
 use Rattle.determinize_dense.proofs.Building.{next_row-base, read-at}
-use Rattle.determinize_dense.proofs.Common.{columns_of, IsBase, unit_at}
-use Rattle.determinize_dense.proofs.build.Builder.of_base.Given.{Over}
 use Rattle.determinize_dense.proofs.build.Builder.of_base.Goals.{After-alphabet_len}
 use Rattle.determinize_dense.proofs.build.Builder.of_base.Goals as goal
-use Rattle.std.proofs.Math.Nat.{mul_comm}
-use Rattle.std.proofs.lemmas.Nat.{mul-add-lt}
 
-is-base : (g : Over) (c : After-alphabet_len g)
+is-base : (g : _) (c : After-alphabet_len g)
     → IsBase c.args.self.now c.args.row c.in-Some.base.row c.in-Some.base.further.now
 is-base g c = rw c.in-Some.is at c.requires.base
 
-entry-at : (g : Over) (c : After-alphabet_len g)
+entry-at : (g : _) (c : After-alphabet_len g)
     → c.in-Some.base.row * columns_of c.self.inside.classes + c.args.column < length c.self.inside.next.items
 entry-at g c =
     let below = mul-add-lt c.in-Some.base.row (columns_of c.self.inside.classes) c.args.column c.args.row

@@ -1,22 +1,14 @@
-use Rattle.determinize_core.proofs.Common.{arith, false, list_any, rules, same, ◌≡◌}
-use Rattle.determinize_core.proofs.Common.{[], ◌++◌, ◌∷◌}
-use Rattle.determinize_dense.proofs.Common.{IsReachedValue}
-use Rattle.determinize_engine.proofs.Places.{get_last, same_is}
+use Rattle.determinize_dense.proofs.Common.{arith, false, get_last, IsReachedValue, rules, same_is, [], ◌++◌, ◌∷◌, ◌≡◌}
 use Rattle.determinize_dense.proofs.Building.{building-value, one_too_many, stays-same, stays-value}
-use Rattle.determinize_dense.proofs.build.Builder.place.Given.{Over}
 use Rattle.determinize_dense.proofs.build.Builder.place.Goals.{In_default, In_ok-intern}
 use Rattle.determinize_dense.proofs.build.Builder.place.Goals as goal
 
--- the state is new
-fresh : (g : Over) (c : In_default g) → list_any (same c.args.state.now) c.self.inside.states ≡ false
-fresh g c = c.in_default.ensures.index
-
-reached : (g : Over) (c : In_default g)
+reached : (g : _) (c : In_default g)
     → IsReachedValue c.self.inside.stepper.nfa c.self.inside.stepper.kind c.args.state.now
 reached g c = rw (← c.self.view_is) at c.requires.reached
 
 -- the table has it behind the others
-grown : (g : Over) (c : In_ok-intern g) → c.intern.new.self ≡ c.self.inside.states ++ c.args.state.now ∷ []
+grown : (g : _) (c : In_ok-intern g) → c.intern.new.self ≡ c.self.inside.states ++ c.args.state.now ∷ []
 grown g c = let copy : c.in_ok-found.found ≡ c.args.state.now = search rules in rw copy at c.in_ok-intern.ensures.states
 
 pub returns-then-eq-clause-at : goal.returns-then-eq-clause-at
@@ -36,14 +28,14 @@ returns-in-Some-clause-stays g c = stays-same c.args.self.now
 pub returns-then-len-self-clause-many : goal.returns-then-len-self-clause-many
 returns-then-len-self-clause-many g c = λ _.
     let d = (goal.at.returns-then-len-self-clause-many g c).In_default in
-    rw (← c.self.view_is) (one_too_many _ c.self.invariant c.args.state.now (fresh g d) (reached g d)
+    rw (← c.self.view_is) (one_too_many _ c.self.invariant c.args.state.now c.in_default.ensures.index (reached g d)
     (rw c.len.ensures.value at c.if-len-self.true))
 
 pub invariant_of-self-2 : goal.invariant_of-self-2
 invariant_of-self-2 g c =
     let at = goal.at.invariant_of-self-2 g c in
     let few = c.self.invariant.few in
-    rw (grown g at.In_ok-intern) (building-value _ c.self.invariant c.args.state.now (fresh g at.In_default)
+    rw (grown g at.In_ok-intern) (building-value _ c.self.invariant c.args.state.now c.in_default.ensures.index
     (reached g at.In_default) (rw (← c.self.view_is) at c.requires.resolve)
     (grind (arith, few, c.len.ensures.value, c.if-len-self.false)))
 
@@ -56,4 +48,4 @@ pub returns-clause-stays : goal.returns-clause-stays
 returns-clause-stays g c =
     let at = goal.at.returns-clause-stays g c in
     rw (← c.self.view_is, grown g at.In_ok-intern)
-    (stays-value _ c.self.invariant c.args.state.now (fresh g at.In_default) (reached g at.In_default))
+    (stays-value _ c.self.invariant c.args.state.now c.in_default.ensures.index (reached g at.In_default))

@@ -1,20 +1,16 @@
-use Rattle.determinize_core.proofs.Common.{arith, length, refl, rules, slice_get, Some, ◌*◌, ◌+◌, ◌-◌, ◌<◌, ◌≡◌}
+use Rattle.determinize_dense.proofs.Common.{arith, columns_of, length, refl, rules, slice_get, Some, ◌*◌, ◌+◌, ◌-◌, ◌<◌}
+use Rattle.determinize_dense.proofs.Common.{◌≡◌}
 use Rattle.determinize_dense.proofs.Building.{next_row-before, read-at}
-use Rattle.determinize_dense.proofs.Common.{columns_of}
-use Rattle.determinize_dense.proofs.build.Builder.repeated.Given.{Over}
 use Rattle.determinize_dense.proofs.build.Builder.repeated.Goals.{After-nfa}
 use Rattle.determinize_dense.proofs.build.Builder.repeated.Goals as goal
 
-at-row : (g : Over) (c : After-nfa g) → slice_get c.self.inside.states c.args.row ≡ Some c.index-as_slice-row.result
+at-row : (g : _) (c : After-nfa g) → slice_get c.self.inside.states c.args.row ≡ Some c.index-as_slice-row.result
 at-row g c =
     let room : c.args.row < length c.self.inside.states = rw (← c.self.view_is) at c.requires.row in
     read-at room c.as_slice.ensures c.index-as_slice-row.is
 
--- the column and the one before are those of bytes
-positive : (g : Over) (c : After-nfa g) → 0 < c.args.column
-positive g c = grind (arith, c.if-column-eq0.false)
-
-inside : (g : Over) (c : After-nfa g) → c.args.column < length c.self.inside.classes.firsts
+-- the column is that of a byte
+inside : (g : _) (c : After-nfa g) → c.args.column < length c.self.inside.classes.firsts
 inside g c =
     let below : c.args.column < length c.representatives-bytes.result.now = grind (arith, c.if-column-bytes.false) in
     rw c.representatives-bytes.ensures.firsts at below
@@ -27,14 +23,14 @@ steps_alike-requires-clause-changes g c =
 pub steps_alike-requires-clause-order : goal.steps_alike-requires-clause-order
 steps_alike-requires-clause-order g c =
     let d = (goal.at.steps_alike-requires-clause-order g c).After-nfa in
-    let from = positive g d in
+    let from : 0 < c.args.column = grind (arith, c.if-column-eq0.false) in
     let ascends = c.self.invariant.sound.ascend (c.args.column - 1) c.args.column (omega (arith, from)) (inside g d) in
     rw c.representatives-bytes.ensures.firsts (omega (arith, ascends))
 
 pub returns : goal.returns
 returns g c =
     let d = (goal.at.returns g c).After-nfa in
-    let from = positive g d in
+    let from : 0 < c.args.column = grind (arith, c.if-column-eq0.false) in
     let count : length c.self.inside.next.items ≡ c.args.row * columns_of c.self.inside.classes + c.args.column =
     rw (← c.self.view_is) at c.requires.entry in
     let long : c.len.result ≡ length c.self.inside.next.items = search rules in

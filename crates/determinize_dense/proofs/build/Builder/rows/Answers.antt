@@ -1,23 +1,19 @@
-use Rattle.determinize_core.proofs.Common.{ap, Err, rules, sym, ◌∙◌, ◌≡◌}
-use Rattle.determinize_dense.proofs.Common.{Stays}
-use Rattle.determinize_dense.proofs.Building.{more-before, same_err, starts-stay, stays-more}
-use Rattle.determinize_dense.proofs.build.Builder.rows.Given.{Over}
+use Rattle.determinize_dense.proofs.Common.{rules, Stays, ◌∙◌}
+use Rattle.determinize_dense.proofs.Building.{more-before, err-as, starts-stay, stays-more}
 use Rattle.determinize_dense.proofs.build.Builder.rows.Goals.{In_ok-fill}
 use Rattle.determinize_dense.proofs.build.Builder.rows.Goals as goal
 
 -- the starts are found, and then all rows
-filled : (g : Over) (c : In_ok-fill g) → Stays c.args.self.now c.fill.new.self
+filled : (g : _) (c : In_ok-fill g) → Stays c.args.self.now c.fill.new.self
 filled g c = stays-more c.in_ok-starts.ensures.stays c.in_ok-fill.ensures.stays
 
 pub returns-in_err-starts-clause-many : goal.returns-in_err-starts-clause-many
 returns-in_err-starts-clause-many g c = λ same.
-    let e : c.from_residual.result ≡ Err c.in_err-starts.field-0.0 = search rules in
-    c.in_err-starts.ensures.many (ap Err (same_err (sym e ∙ same)))
+    c.in_err-starts.ensures.many (err-as same (search rules))
 
 pub returns-in_err-fill-clause-many : goal.returns-in_err-fill-clause-many
 returns-in_err-fill-clause-many g c = λ same.
-    let e : c.from_residual-in_err-fill.result ≡ Err c.in_err-fill.field-0.0 = search rules in
-    more-before c.in_ok-starts.ensures.stays (c.in_err-fill.ensures.many (ap Err (same_err (sym e ∙ same))))
+    more-before c.in_ok-starts.ensures.stays (c.in_err-fill.ensures.many (err-as same (search rules)))
 
 pub finish-requires-clause-whole : goal.finish-requires-clause-whole
 finish-requires-clause-whole g c = c.in_ok-fill.ensures.whole

@@ -1,6 +1,4 @@
-use Rattle.determinize_core.proofs.Common.{ap, ◌∙◌}
-use Rattle.determinize_dense.proofs.Common.{Building}
-use Rattle.determinize_core.specs.Stepper.{StepperValue}
+use Rattle.determinize_dense.proofs.Common.{ap, Building, StepperValue, ◌∙◌}
 use Rattle.determinize_dense.proofs.Building.{more-as}
 use Rattle.determinize_dense.proofs.build.Builder.start.Goals as goal
 

@@ -1,14 +1,12 @@
-use Rattle.determinize_core.proofs.Common.{ap, arith, Err, rules, Some, subst, sym, ◌<◌, ◌∙◌, ◌≡◌}
-use Rattle.determinize_dense.proofs.Common.{IsStart, slot_number}
-use Rattle.determinize_dense.proofs.Building.{more-before, same_err, starts-push, starts-stay, stays-more}
-use Rattle.determinize_start.proofs.kinds.StartSlots.{slot_number-below, slot_number-from}
+use Rattle.determinize_dense.proofs.Common.{arith, IsStart, rules, slot_number, slot_number-below, slot_number-from}
+use Rattle.determinize_dense.proofs.Common.{Some, subst, sym, ◌<◌, ◌∙◌, ◌≡◌}
+use Rattle.determinize_dense.proofs.Building.{more-before, err-as, starts-push, starts-stay, stays-more}
 use Rattle.determinize_start.specs.StartSlots.{slot_of_number}
 use Rattle.determinize_dense.proofs.build.Builder.starts.Goals as goal
 
 pub returns-in_err-starts-clause-many : goal.returns-in_err-starts-clause-many
 returns-in_err-starts-clause-many g c = λ same.
-    let e : c.from_residual.result ≡ Err c.in_err-starts.field-0.0 = search rules in
-    more-before c.loop-slot.invariant.stays (c.in_err-starts.ensures.many (ap Err (same_err (sym e ∙ same))))
+    more-before c.loop-slot.invariant.stays (c.in_err-starts.ensures.many (err-as same (search rules)))
 
 pub loop-slot-preserved : goal.loop-slot-preserved
 loop-slot-preserved g c =

@@ -1,5 +1,4 @@
-use Rattle.determinize_core.proofs.Common.{◌-◌, ◌≡◌, ◌≤◌}
-use Rattle.determinize_dense.proofs.Common.{AreStarts, Stays}
+use Rattle.determinize_dense.proofs.Common.{AreStarts, Stays, ◌-◌, ◌≡◌, ◌≤◌}
 use Rattle.determinize_start.specs.declared.start.TheConstants.StartSlot.{COUNT}
 use Rattle.determinize_dense.proofs.build.Builder.starts.Given as goal
 

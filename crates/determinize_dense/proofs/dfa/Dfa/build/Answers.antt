@@ -1,14 +1,12 @@
-use Rattle.determinize_dense.proofs.Common.{ap, arith, rules, sym, ℕ, ◌<◌, ◌∙◌, ◌≡◌, ◌≤◌}
-use Rattle.determinize_core.proofs.Common.{Err}
-use Rattle.determinize_dense.proofs.Building.{more-as, same_err}
-use Rattle.determinize_dense.proofs.Counting.{each_count_is_one}
+use Rattle.determinize_dense.proofs.Common.{arith, rules, ℕ, ◌<◌, ◌∙◌, ◌≡◌, ◌≤◌}
+use Rattle.determinize_dense.proofs.Building.{more-as, err-as}
+use Rattle.determinize_dense.proofs.Pigeonhole.{each_count_is_one}
 use Rattle.determinize_dense.proofs.dfa.Dfa.build.Goals as goal
 
 pub returns-in_err-rows-clause-many : goal.returns-in_err-rows-clause-many
 returns-in_err-rows-clause-many g c = λ same.
-    let e : c.from_residual-in_err-rows.result ≡ Err c.in_err-rows.field-0.0 = search rules in
     more-as c.in_ok-builder.ensures.nfa c.in_ok-builder.ensures.kind c.in_ok-builder.ensures.limit
-    (c.in_err-rows.ensures.many (ap Err (same_err (sym e ∙ same))))
+    (c.in_err-rows.ensures.many (err-as same (search rules)))
 
 not-more : {count limit least : ℕ} → least < count → count ≤ limit → limit ≡ least → ⊥
 not-more more few same = omega arith

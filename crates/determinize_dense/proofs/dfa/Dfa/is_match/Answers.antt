@@ -1,4 +1,4 @@
-use Rattle.determinize_dense.proofs.Inputs.{found-decides}
+use Rattle.determinize_dense.proofs.Searching.{found-decides}
 use Rattle.determinize_dense.proofs.dfa.Dfa.is_match.Goals as goal
 
 pub returns-clause-accepts : goal.returns-clause-accepts

@@ -1,13 +1,9 @@
-use Rattle.determinize_dense.proofs.Common.{arith, length, length-map, List, take_all, ℕ, ◌*◌, ◌+◌}
+use Rattle.determinize_dense.proofs.Common.{arith, length, length-map, List, sum_by_more, take_all, ℕ, ◌*◌, ◌+◌}
 use Rattle.determinize_dense.proofs.Lists.{items-at}
-use Rattle.std.proofs.lemmas.List.Sums.{sum_by_more}
 use Rattle.determinize_dense.proofs.dfa.Dfa.memory_usage.Goals as goal
 
 abbrev list_bytes : List ℕ → ℕ
 list_bytes list = 24 + length list * 4
-
-pub loop-list-init : goal.loop-list-init
-loop-list-init g c = grind arith
 
 pub loop-list-preserved : goal.loop-list-preserved
 loop-list-preserved g c =

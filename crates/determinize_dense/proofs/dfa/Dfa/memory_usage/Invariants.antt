@@ -1,7 +1,5 @@
-use Rattle.determinize_dense.proofs.Common.{length, take, ◌*◌, ◌+◌, ◌≡◌}
-use Rattle.determinize_core.proofs.Common.{min}
+use Rattle.determinize_dense.proofs.Common.{length, min, sum_by, take, ◌*◌, ◌+◌, ◌≡◌}
 use Rattle.std.below.core.specs.declared.int.usize.TheConstants.{MAX}
-use Rattle.std.specs.Prelude.{sum_by}
 use Rattle.determinize_dense.proofs.dfa.Dfa.memory_usage.Given as goal
 
 abbrev pub invariant-loop-list : goal.invariant-loop-list

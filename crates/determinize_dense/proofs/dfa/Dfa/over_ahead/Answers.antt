@@ -1,5 +1,4 @@
-use Rattle.determinize_dense.proofs.Common.{IsRead, length, refl}
-use Rattle.determinize_engine.proofs.Texts.{unit-last}
+use Rattle.determinize_dense.proofs.Common.{IsRead, length, refl, unit-last}
 use Rattle.determinize_dense.proofs.Searching.{next-offset}
 use Rattle.determinize_dense.proofs.dfa.Dfa.over_ahead.Goals as goal
 

@@ -1,5 +1,4 @@
-use Rattle.determinize_dense.proofs.Common.{IsRead, Some}
-use Rattle.determinize_engine.proofs.Texts.{unit-here}
+use Rattle.determinize_dense.proofs.Common.{IsRead, Some, unit-here}
 use Rattle.determinize_dense.proofs.Searching.{next-offset}
 use Rattle.determinize_dense.proofs.dfa.Dfa.over_byte.Goals as goal
 

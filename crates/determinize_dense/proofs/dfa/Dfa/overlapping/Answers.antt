@@ -1,6 +1,5 @@
 use Rattle.determinize_dense.proofs.Common.{All, All-from_get_or, between, false, is_anchored, IsUnit, lists_along}
-use Rattle.determinize_dense.proofs.Common.{ListsAlong, rules, start_for, sym, Text, text_units, units, ◌<◌}
-use Rattle.determinize_core.proofs.Common.{subst}
+use Rattle.determinize_dense.proofs.Common.{ListsAlong, rules, start_for, subst, sym, Text, text_units, units, ◌<◌}
 use Rattle.determinize_dense.proofs.Along.{along_text, start_is}
 use Rattle.determinize_dense.proofs.dfa.Dfa.overlapping.Goals as goal
 

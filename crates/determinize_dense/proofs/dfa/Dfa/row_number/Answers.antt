@@ -1,9 +1,8 @@
 use Rattle.determinize_dense.proofs.Common.{arith, IsInverse, ◌*◌, ◌/◌, ◌≡◌}
-use Rattle.determinize_dense.proofs.dfa.Dfa.row_number.Given.{Over}
 use Rattle.determinize_dense.proofs.dfa.Dfa.row_number.Goals.{After-self}
 use Rattle.determinize_dense.proofs.dfa.Dfa.row_number.Goals as goal
 
-inverse : (g : Over) (c : After-self g) → IsInverse c.args.self.now.table c.self.inside.inverse
+inverse : (g : _) (c : After-self g) → IsInverse c.args.self.now.table c.self.inside.inverse
 inverse g c = rw (← c.self.view_is) c.self.invariant.inverted
 
 pub overflow_mul-result : goal.overflow_mul-result

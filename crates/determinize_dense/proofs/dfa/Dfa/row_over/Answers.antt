@@ -1,5 +1,5 @@
 use Rattle.determinize_dense.proofs.Common.{arith}
-use Rattle.determinize_dense.proofs.Tables.{over-stored, rest-index, rest-length}
+use Rattle.determinize_dense.proofs.Offsets.{over-stored, rest-index, rest-length}
 use Rattle.determinize_dense.proofs.dfa.Dfa.row_over.Goals as goal
 
 pub bounds-column-row : goal.bounds-column-row

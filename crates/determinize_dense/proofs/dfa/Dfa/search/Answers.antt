@@ -1,5 +1,5 @@
 use Rattle.determinize_dense.proofs.Common.{between}
-use Rattle.determinize_dense.proofs.Inputs.{found-search}
+use Rattle.determinize_dense.proofs.Searching.{found-search}
 use Rattle.determinize_dense.proofs.dfa.Dfa.search.Goals as goal
 
 pub returns : goal.returns

@@ -1,7 +1,6 @@
-use Rattle.determinize_dense.proofs.Common.{false, rules, sym, text_of, ◌∙◌, ◌≡◌}
-use Rattle.determinize_core.proofs.Common.{is_done}
-use Rattle.determinize_engine.proofs.Ranges.{is-result, none-done, offset-within}
-use Rattle.determinize_dense.proofs.Inputs.{found-search}
+use Rattle.determinize_dense.proofs.Common.{false, is-result, is_done, none-done, offset-within, rules, sym, text_of}
+use Rattle.determinize_dense.proofs.Common.{◌∙◌, ◌≡◌}
+use Rattle.determinize_dense.proofs.Searching.{found-search}
 use Rattle.determinize_dense.proofs.dfa.Dfa.search_input.Goals as goal
 
 pub returns-then-is_done-clause-search : goal.returns-then-is_done-clause-search

@@ -1,11 +1,10 @@
 use Rattle.determinize_dense.proofs.Common.{dfa_value, map, rules, same_from_all_zip, ◌≡◌}
 use Rattle.determinize_dense.proofs.Lists.{map-copied}
-use Rattle.determinize_dense.proofs.dfa.Dfa.to_rows.Given.{Over}
 use Rattle.determinize_dense.proofs.dfa.Dfa.to_rows.Goals.{In_ok-clone-2}
 use Rattle.determinize_dense.proofs.dfa.Dfa.to_rows.Goals as goal
 
 -- the copy is seen as the DFA
-copied : (g : Over) (c : In_ok-clone-2 g) → dfa_value c.self.inside.nfa.now c.self.inside.match_kind
+copied : (g : _) (c : In_ok-clone-2 g) → dfa_value c.self.inside.nfa.now c.self.inside.match_kind
     c.in_ok-clone.field-0 c.in_ok-numbers_of.field-0.items c.self.inside.starts
     (map (λ list. list.items) c.in_ok-clone-2.field-0.items) ≡ c.args.self.now
 copied g c =

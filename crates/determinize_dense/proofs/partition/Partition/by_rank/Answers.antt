@@ -1,7 +1,5 @@
-use Rattle.determinize_dense.proofs.Common.{arith, length-replicate, ◌≡◌}
-use Rattle.std.proofs.Math.Nat.{add-zero}
+use Rattle.determinize_dense.proofs.Common.{add-zero, arith, length-replicate, ◌≡◌}
 use Rattle.determinize_dense.proofs.Ordering.{ordering-blocks, ordering-by_rank, ordering-push, ordering-skip}
-use Rattle.determinize_dense.proofs.partition.Partition.by_rank.Goals.{else-ranks-row, then-ranks-row+in_ok-push}
 use Rattle.determinize_dense.proofs.partition.Partition.by_rank.Goals as goal
 
 pub loop-rank-init : goal.loop-rank-init
@@ -14,19 +12,16 @@ pub loop-row-preserved : goal.loop-row-preserved
 loop-row-preserved g c = record {
   below = omega (arith, c.loop-row-test.true);
   ordering = elim c.if-ranks-row.branch [
-    | then-ranks-row+in_ok-push w ↦ rw (w.members-is, w.blocks-is) (grind (
+    | goal.then-ranks-row+in_ok-push w ↦ rw (w.members-is, w.blocks-is) (grind (
       arith,
       w.in_ok-push.ensures.items,
       w.len.ensures,
       ordering-push c.loop-rank.rank c.loop-row.row c.loop-row.invariant.ordering,
     ))
-    | else-ranks-row w ↦ rw (w.members-is, w.blocks-is) (ordering-skip c.loop-rank.rank c.loop-row.row
+    | goal.else-ranks-row w ↦ rw (w.members-is, w.blocks-is) (ordering-skip c.loop-rank.rank c.loop-row.row
         c.loop-row.invariant.ordering c.loop-row-test.true w.if-ranks-row.false)
   ];
 }
-
-pub loop-rank-preserved : goal.loop-rank-preserved
-loop-rank-preserved g c = grind arith
 
 pub invariant_of-result : goal.invariant_of-result
 invariant_of-result g c =

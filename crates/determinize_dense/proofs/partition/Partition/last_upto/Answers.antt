@@ -8,9 +8,6 @@ pub offset_bounds-ranks-index : goal.offset_bounds-ranks-index
 offset_bounds-ranks-index g c =
     let inside : c.index.result.now < length c.args.ranks.now = grind (arith, get_or_default_zero) in omega arith
 
-pub loop-last-init : goal.loop-last-init
-loop-last-init g c = grind arith
-
 pub loop-last-preserved : goal.loop-last-preserved
 loop-last-preserved g c = rw (← c.self.view_is) (grind (arith, get_or_default_zero))
 

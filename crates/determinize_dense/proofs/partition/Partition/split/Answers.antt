@@ -1,12 +1,10 @@
 use Rattle.determinize_dense.proofs.Common.{arith, get_or_default_zero, length, length_push, rules, same_from_all_zip}
 use Rattle.determinize_dense.proofs.Common.{slice_index, ◌<◌, ◌≡◌}
 use Rattle.determinize_dense.proofs.Splitting.{row-kept, row-split, splitting-blocks, splitting-none, splitting-split}
-use Rattle.determinize_dense.proofs.partition.Partition.split.Given.{Over}
 use Rattle.determinize_dense.proofs.partition.Partition.split.Goals.{After-index-in-loop-row}
-use Rattle.determinize_dense.proofs.partition.Partition.split.Goals.{else-value-values+in_ok-number, then-value-values}
 use Rattle.determinize_dense.proofs.partition.Partition.split.Goals as goal
 
-module _ (g : Over) (c : After-index-in-loop-row g) where
+module _ (g : _) (c : After-index-in-loop-row g) where
   room : c.loop-row.row < length c.args.self.now.numbers
   room = rw (← c.self.view_is) (search rules)
 
@@ -43,9 +41,9 @@ loop-row-preserved g c =
       count = grind (arith, length_push);
       below = omega (arith, room g at);
       splitting = rw c.in_ok-push.ensures.items (elim c.if-value-values.branch [
-        | then-value-values w ↦ rw (w.members-is, w.numbers-is, w.number-is) (row-kept are splitting count
+        | goal.then-value-values w ↦ rw (w.members-is, w.numbers-is, w.number-is) (row-kept are splitting count
             (room g at) (block-is g at) (member-is g at) w.if-value-values.true)
-        | else-value-values+in_ok-number w ↦ rw (w.members-is, w.numbers-is, w.number-is) (row-split are
+        | goal.else-value-values+in_ok-number w ↦ rw (w.members-is, w.numbers-is, w.number-is) (row-split are
             splitting count (room g at) (block-is g at) (member-is g at) w.if-value-values.false
             w.in_ok-number.ensures)
       ]);

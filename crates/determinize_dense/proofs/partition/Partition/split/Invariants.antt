@@ -1,5 +1,4 @@
-use Rattle.determinize_dense.proofs.Common.{IsSplitting, length, same_pair, ◌≡◌, ◌≤◌}
-use Rattle.std.specs.HashMap.{get}
+use Rattle.determinize_dense.proofs.Common.{get, IsSplitting, length, same_pair, ◌≡◌, ◌≤◌}
 use Rattle.determinize_dense.proofs.partition.Partition.split.Given as goal
 
 abbrev pub invariant-loop-row : goal.invariant-loop-row

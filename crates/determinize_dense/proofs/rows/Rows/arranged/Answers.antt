@@ -1,5 +1,5 @@
 use Rattle.determinize_dense.proofs.Common.{All-from_get_or, IfOk-weaker, IsLeast, refl, ◌<◌, ◌≡◌}
-use Rattle.determinize_dense.proofs.Arranging.{arranged-least, arranged-ordered, grouping-by_rank}
+use Rattle.determinize_dense.proofs.Ordering.{arranged-least, arranged-ordered, grouping-by_rank}
 use Rattle.determinize_dense.specs.declared.partition.TheConstants.{RANKS}
 use Rattle.determinize_dense.proofs.rows.Rows.arranged.Goals as goal
 

@@ -1,5 +1,4 @@
-use Rattle.determinize_dense.proofs.Common.{arith, ℕ}
-use Rattle.determinize_core.proofs.Common.{get_or-replicate}
+use Rattle.determinize_dense.proofs.Common.{arith, get_or-replicate, ℕ}
 use Rattle.determinize_dense.proofs.rows.Rows.class_sizes.Goals as goal
 
 pub loop-byte-init : goal.loop-byte-init

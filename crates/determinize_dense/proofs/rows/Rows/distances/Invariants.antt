@@ -1,7 +1,6 @@
-use Rattle.determinize_dense.proofs.Common.{length, slice_index, ℕ, ◌<◌, ◌≡◌, ◌≤◌}
-use Rattle.determinize_dense.specs.Private.Minimizing.{AreDistancesSoFar, IsDistanceSoFar}
+use Rattle.determinize_dense.proofs.Common.{AreDistancesSoFar, IsDistanceSoFar, length, slice_index, sum_by, ℕ, ◌<◌}
+use Rattle.determinize_dense.proofs.Common.{◌≡◌, ◌≤◌}
 use Rattle.determinize_dense.proofs.rows.Rows.distances.Given as goal
-use Rattle.std.specs.Prelude.{sum_by}
 
 abbrev pub invariant-loop-row : goal.invariant-loop-row
 invariant-loop-row g l = record {

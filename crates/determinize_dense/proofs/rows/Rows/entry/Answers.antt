@@ -1,12 +1,11 @@
 use Rattle.determinize_dense.proofs.Common.{arith, get_or_default_zero, length, ◌*◌, ◌+◌, ◌<◌}
 use Rattle.determinize_dense.proofs.Refining.{entry-below}
-use Rattle.determinize_dense.proofs.Tables.{entry-at}
-use Rattle.determinize_dense.proofs.rows.Rows.entry.Given.{Over}
+use Rattle.determinize_dense.proofs.Offsets.{entry-at}
 use Rattle.determinize_dense.proofs.rows.Rows.entry.Goals.{After-alphabet_len}
 use Rattle.determinize_dense.proofs.rows.Rows.entry.Goals as goal
 
 -- the entry is there
-there : (g : Over) (c : After-alphabet_len g)
+there : (g : _) (c : After-alphabet_len g)
     → c.args.row * c.alphabet_len.result + c.args.column < length c.self.inside.next.items
 there g c = rw c.alphabet_len.ensures.count (entry-at _ c.self.invariant.table c.args.row c.args.column
     (rw (← c.self.view_is) at c.requires.row) (rw (← c.self.view_is) at c.requires.column))

@@ -2,9 +2,6 @@ use Rattle.determinize_dense.proofs.Common.{arith}
 use Rattle.determinize_dense.proofs.Splitting.{pushed}
 use Rattle.determinize_dense.proofs.rows.Rows.first_rows.Goals as goal
 
-pub loop-row-init : goal.loop-row-init
-loop-row-init g c = grind arith
-
 pub loop-row-preserved : goal.loop-row-preserved
 loop-row-preserved g c = grind (arith, pushed)
 

@@ -1,5 +1,5 @@
-use Rattle.determinize_dense.proofs.Common.{AreFirsts, bytes_eq, IsFirstAlike, length, slice_index, ℕ, ◌<◌, ◌≡◌, ◌≤◌}
-use Rattle.std.specs.HashMap.{get_by}
+use Rattle.determinize_dense.proofs.Common.{AreFirsts, bytes_eq, get_by, IsFirstAlike, length, slice_index, ℕ, ◌<◌, ◌≡◌}
+use Rattle.determinize_dense.proofs.Common.{◌≤◌}
 use Rattle.determinize_dense.proofs.rows.Rows.first_rows.Given as goal
 
 abbrev pub invariant-loop-row : goal.invariant-loop-row

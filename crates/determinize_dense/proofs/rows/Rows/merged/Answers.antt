@@ -1,11 +1,10 @@
 use Rattle.determinize_dense.proofs.Common.{dfa_value, map, rules, ◌≡◌}
 use Rattle.determinize_dense.proofs.Merging.{merged-dfa, merged-is, with_rows}
-use Rattle.determinize_dense.proofs.rows.Rows.merged.Given.{Over}
 use Rattle.determinize_dense.proofs.rows.Rows.merged.Goals.{In_ok-merged_lists}
 use Rattle.determinize_dense.proofs.rows.Rows.merged.Goals as goal
 
 -- the value of the result
-value-is : (g : Over) (c : In_ok-merged_lists g) → dfa_value c.self.inside.nfa.now c.self.inside.match_kind
+value-is : (g : _) (c : In_ok-merged_lists g) → dfa_value c.self.inside.nfa.now c.self.inside.match_kind
     c.in_ok-clone.field-0 c.in_ok-merged_rows.field-0.items c.merged_starts.result
     (map (λ list. list.items) c.in_ok-merged_lists.field-0.items)
     ≡ with_rows c.args.self.now c.in_ok-merged_rows.field-0.items c.merged_starts.result

@@ -1,6 +1,6 @@
 use Rattle.determinize_dense.proofs.Common.{arith}
 use Rattle.determinize_dense.proofs.Splitting.{few_blocks, pushed}
-use Rattle.determinize_dense.proofs.Collecting.{merged-push}
+use Rattle.determinize_dense.proofs.Merging.{merged-push}
 use Rattle.determinize_dense.proofs.rows.Rows.merged_rows.Goals as goal
 
 pub overflow_cast-block : goal.overflow_cast-block

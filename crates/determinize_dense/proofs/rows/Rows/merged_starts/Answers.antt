@@ -1,10 +1,6 @@
-use Rattle.determinize_dense.proofs.Common.{arith, get_or-set_at}
-use Rattle.determinize_core.proofs.Common.{get_or-set_other, length-set}
+use Rattle.determinize_dense.proofs.Common.{arith, get_or-set_at, get_or-set_other, length-set}
 use Rattle.determinize_dense.proofs.Splitting.{few_blocks}
 use Rattle.determinize_dense.proofs.rows.Rows.merged_starts.Goals as goal
-
-pub loop-number-init : goal.loop-number-init
-loop-number-init g c = grind arith
 
 pub block-requires : goal.block-requires
 block-requires g c = rw (c.requires.count, ← c.self.view_is)
@@ -16,6 +12,3 @@ overflow_cast-starts g c =
 
 pub loop-number-preserved : goal.loop-number-preserved
 loop-number-preserved g c = rw (← c.self.view_is) (grind (arith, length-set, get_or-set_at, get_or-set_other))
-
-pub returns : goal.returns
-returns g c = grind arith

@@ -1,5 +1,4 @@
-use Rattle.determinize_dense.proofs.Common.{arith, by_cases, slice_index, ◌+◌, ◌≡◌}
-use Rattle.std.proofs.lemmas.Bool.{cases_lt}
+use Rattle.determinize_dense.proofs.Common.{arith, by_cases, cases_lt, slice_index, ◌+◌, ◌≡◌}
 use Rattle.determinize_dense.proofs.rows.Rows.nearest.Goals as goal
 
 pub loop-column-preserved : goal.loop-column-preserved

@@ -1,5 +1,4 @@
-use Rattle.determinize_dense.proofs.Common.{slice_index, ℕ, ◌+◌, ◌<◌, ◌≡◌, ◌≤◌}
-use Rattle.determinize_dense.specs.Private.Minimizing.{entry}
+use Rattle.determinize_dense.proofs.Common.{entry, slice_index, ℕ, ◌+◌, ◌<◌, ◌≡◌, ◌≤◌}
 use Rattle.determinize_dense.proofs.rows.Rows.nearest.Given as goal
 
 abbrev pub invariant-loop-column : goal.invariant-loop-column

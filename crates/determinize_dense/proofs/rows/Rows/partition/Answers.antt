@@ -1,7 +1,6 @@
-use Rattle.determinize_dense.proofs.Common.{arith, length-replicate, None, true}
+use Rattle.determinize_dense.proofs.Common.{arith, IsPartition, length-replicate, None, true}
 use Rattle.determinize_dense.proofs.Distances.{apart-distance}
 use Rattle.determinize_dense.proofs.Splitting.{few_blocks}
-use Rattle.determinize_dense.specs.Private.Minimizing.{IsPartition}
 use Rattle.determinize_dense.proofs.Refining.{partition-apart, partition-first}
 use Rattle.determinize_dense.proofs.rows.Rows.partition.Goals as goal
 

@@ -1,6 +1,5 @@
-use Rattle.determinize_core.proofs.Common.{true≢false}
-use Rattle.determinize_dense.proofs.Common.{arith, length, ◌<◌, ◌+◌, ◌-◌}
-use Rattle.determinize_dense.proofs.Distances.{less-set, so_far-set}
+use Rattle.determinize_dense.proofs.Common.{arith, length, true≢false, ◌+◌, ◌-◌, ◌<◌}
+use Rattle.determinize_dense.proofs.Distances.{shortened}
 use Rattle.determinize_dense.proofs.rows.Rows.shorten.Goals as goal
 
 pub loop-row-preserved-then-distance-distances : goal.loop-row-preserved-then-distance-distances
@@ -10,12 +9,11 @@ loop-row-preserved-then-distance-distances g c =
     let is = c.nearest-distance.ensures.filled in
     let room : c.loop-row.row - 1 < length d.patterns =
     omega (arith, c.loop-row.invariant.below, c.loop-row-test.true) in
-    let less = less-set d is c.loop-row.distances (c.loop-row.row - 1) there.0 (c.nearest-distance.result + 1) room
+    let set = shortened d is c.loop-row.distances (c.loop-row.row - 1) there.0 (c.nearest-distance.result + 1) room
     there.1 (omega (arith, there.2)) c.if-distance-distances.true c.loop-row.invariant.so_far in record {
       below = omega (arith, c.loop-row.invariant.below);
-      so_far = so_far-set d is c.loop-row.distances (c.loop-row.row - 1) there.0 (c.nearest-distance.result + 1) room
-          there.1 (omega (arith, there.2)) c.if-distance-distances.true c.loop-row.invariant.so_far;
+      so_far = set.0;
       short = λ no. absurd (true≢false no);
-      fewer = omega (arith, less, c.loop-row.invariant.fewer);
-      less = λ _. omega (arith, less, c.loop-row.invariant.fewer);
+      fewer = omega (arith, set.1, c.loop-row.invariant.fewer);
+      less = λ _. omega (arith, set.1, c.loop-row.invariant.fewer);
     }

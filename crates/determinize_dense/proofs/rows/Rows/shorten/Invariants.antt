@@ -1,7 +1,5 @@
-use Rattle.determinize_dense.proofs.Common.{false, length, true, ℕ, ◌<◌, ◌≡◌, ◌≤◌}
-use Rattle.determinize_dense.specs.Private.Minimizing.{AreDistancesSoFar, IsShort}
+use Rattle.determinize_dense.proofs.Common.{AreDistancesSoFar, false, IsShort, length, sum_by, true, ℕ, ◌<◌, ◌≡◌, ◌≤◌}
 use Rattle.determinize_dense.proofs.rows.Rows.shorten.Given as goal
-use Rattle.std.specs.Prelude.{sum_by}
 
 abbrev pub invariant-loop-row : goal.invariant-loop-row
 invariant-loop-row g l = record {

@@ -11,9 +11,6 @@ block-requires g c = rw c.requires.parts c.entry.ensures.limit
 pub loop-row-preserved : goal.loop-row-preserved
 loop-row-preserved g c = rw (← c.self.view_is, length-map) (grind (arith, pushed))
 
-pub returns-clause-filled : goal.returns-clause-filled
-returns-clause-filled g c = grind arith
-
 pub returns-clause-targets : goal.returns-clause-targets
 returns-clause-targets g c = record {
   count = rw (← c.self.view_is, length-map) (search rules);
