@@ -99,8 +99,8 @@ impl<'n, N: Allocator, A: Allocator + Copy> Dfa<'n, N, A> {
     ///
     /// Returns a DFA only if at most that many states are reached, and `TooManyStates` only if more
     /// are. Returns `OutOfMemory` if an allocation fails, also where more states are reached; at
-    /// limit 0 nothing is allocated. Under `MatchKind::All` the number of states may be exponential
-    /// in the size of the NFA.
+    /// limit 0 nothing is allocated. The number of states may be exponential in the size of the
+    /// NFA, above all under `MatchKind::All`.
     pub fn build(
         alloc: A,
         nfa: &'n NFA<N>,
@@ -130,10 +130,10 @@ impl<'n, N: Allocator, A: Allocator + Copy> Dfa<'n, N, A> {
     ///
     /// States are merged if they list the same patterns along all units. A text has no unit behind
     /// EOI, so a table that agrees with this DFA after each text may have fewer states. A few
-    /// passes over the table suffice mostly, also for a chain of states whose last one lists
-    /// patterns. For a chain of states that all list some, as that of `a{0,10000}`, the time is
-    /// quadratic in their number, and it is never more. The lists of patterns are allocated by the
-    /// allocator of this DFA, all else by `alloc`.
+    /// passes over the table suffice mostly. For a long chain of states that all list patterns, as
+    /// that of `a{0,10000}`, or of states with a loop over most bytes and others in turn, as in
+    /// `(?:a[^b]*b){5000}`, the time is quadratic in their number, and it is never more. The lists
+    /// of patterns are allocated by the allocator of this DFA, all else by `alloc`.
     pub fn minimize(&self, alloc: A) -> Result<Dfa<'n, N, A>, AllocError>
         ensures nfa { IfOk result (λ dfa. dfa.nfa ≡ self.now.nfa) }
         ensures kind { IfOk result (λ dfa. dfa.kind ≡ self.now.kind) }

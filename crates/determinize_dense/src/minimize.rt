@@ -1,9 +1,10 @@
 //! The fewest rows, by partition refinement.
 //!
 //! The blocks are first the rows that list the same patterns and have the same distance: the least
-//! number of units to a row that lists any. So a chain of rows needs one cycle, where it would need
-//! one for each row. A pass over a column splits each block by the blocks of its entries in the
-//! column. When a cycle of passes over all columns splits no block, each block becomes one row.
+//! number of units to a row that lists any. So a chain of rows whose last one lists patterns needs
+//! one cycle of passes, and not one for each row. A pass over a column splits each block by the
+//! blocks of its entries in the column. When a cycle of passes over all columns splits no block,
+//! each block becomes one row.
 
 ghost use Rattle.std.specs.Prelude.{◌≡◌, ℕ, ◌<◌, ◌≤◌, ◌+◌, IfOk, IsTrue, OnOk, bytes_eq, false, length, map, slice_index, sum_by};
 ghost use Rattle.std.specs.HashMap.{get_by};

@@ -1,7 +1,7 @@
 //! Reading a whole DFA: its rows, which row follows over a unit, and what each row lists.
 //!
-//! A [`RowId`] is the number of a row. Every call takes any id: one that is no row of the DFA, so
-//! one of another DFA, lists no patterns, and the dead row follows it.
+//! A [`RowId`] is the number of a row. Every call takes any id: one that is no row of the DFA, as
+//! one of a larger DFA may be, lists no patterns, and the dead row follows it.
 
 ghost use Rattle.std.specs.Prelude.{◌≡◌, ◌<◌, ◌≤◌, length, map, nat_eq, slice_get, true, None};
 ghost use Rattle.std.specs.List.{range_with_len};

@@ -1,6 +1,6 @@
 //! The leftmost match, with both of its ends, and all matches of a haystack.
 //!
-//! A search returns an error only if an allocation fails or a cache would need more than 16647160
+//! A search returns an error if an allocation fails or a cache would need more than 16647160
 //! states. The caches stay usable: later results are the same.
 #![tactic(auto)]
 

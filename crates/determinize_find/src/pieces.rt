@@ -40,6 +40,8 @@ const BLOCK: usize = 4096;
 /// If the search is idle at the end of a block (`is_idle`), and the prefix of the NFA is apart
 /// (`has_prefix_apart`), a new one begins there. The bytes before a search are dropped, but for the
 /// last one. So the bytes since the last such end or the last match are kept, whichever is later.
+/// Where each search reads to the end of the text, as for `[^z]*z|a` over bytes `a`, all bytes are
+/// kept, and the time is quadratic.
 #[derive(Drop)]
 pub struct Pieces<A: Allocator = Global> {
     kept: Vec<u8, A>,

@@ -1,8 +1,9 @@
 //! The leftmost match by one anchored search after another, and all matches by it.
 //!
-//! These calls accept any NFA that reads forward, with a prefix or without, and no second NFA. An
-//! input may be read once from each index of its range, or only from its start if it is anchored.
-//! [`Plain`] takes any engine. The functions borrow a [`Lazy`], and say what is unchanged of it.
+//! These calls accept any NFA that reads forward, with a prefix or without, and need no second one.
+//! An input may be read once from each index of its range, or only from its start if it is
+//! anchored. [`Plain`] takes any engine. The functions borrow a [`Lazy`], and say what is unchanged
+//! of it.
 
 ghost use Rattle.std.specs.Prelude.{◌≡◌, ◌≤◌, cond, false, true, None, option_map, IfOk};
 ghost use Rattle.std.specs.Option.{IfSome};

@@ -25,7 +25,8 @@ use determinize_syntax::{Flags, parse_with};
 use std::alloc::{AllocError, Allocator, Global};
 use std::marker::Model;
 
-/// The limits of a regex, and its line terminator.
+/// The options of a regex: its limits, its line terminator, and the flags that hold where a pattern
+/// begins.
 #[derive(Debug, Drop)]
 pub struct RegexConfig {
     /// The options of `compile`.
@@ -131,7 +132,7 @@ impl Regex {
 
     /// Returns the patterns, compiled, with empty caches.
     ///
-    /// Returns an error where `compile` does, or if the reverse of the NFA has too many states.
+    /// Returns an error where `compile` does, or where `reversed` of `determinize_nfa` does.
     pub fn from_patterns(
         alloc: Global,
         patterns: Vec<Pattern>,

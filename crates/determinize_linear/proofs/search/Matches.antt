@@ -1,6 +1,6 @@
 -- What a search from a position finds, as a match of the rest of the input.
 -- Main statements: best_match, best_nothing, best_rest.
--- Used by: `search_from` and `find_from`.
+-- Used by: `search_from`.
 -- Idea: the first accepting pair is the end of the most preferred run, and a run from a later index is one of the rest
 -- of the text (Shifts).
 use Rattle.std.specs.Option.{is_some}
