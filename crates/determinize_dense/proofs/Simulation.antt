@@ -5,13 +5,13 @@
 use Rattle.determinize_dense.proofs.Common.{All, All-head, All-tail, AreStarts, arith, Bool, Building, by_cases}
 use Rattle.determinize_dense.proofs.Common.{cases_lt, column_of, columns_of, Contains, dead, dead_stays, div-mul-add}
 use Rattle.determinize_dense.proofs.Common.{each_class_steps, false, first_of, get_or, get_or_from_slice_get, HasStates}
-use Rattle.determinize_dense.proofs.Common.{IsBuilding, IsDfa, IsFilled, IsReachedRow, IsReachedValue, IsUnit, length}
-use Rattle.determinize_dense.proofs.Common.{length-map, List, lists_of, MatchKind, mod-mul-add, mul-add-lt, nat_lt}
-use Rattle.determinize_dense.proofs.Common.{NeedsTested, Nfa, None, Option, patterns_at, refl, row_after, row_over}
-use Rattle.determinize_dense.proofs.Common.{slice_get, slice_get-get_or, slice_get-map, slice_get_within, slice_index}
-use Rattle.determinize_dense.proofs.Common.{slot_number-below, slot_of, Some, start_kind_of, start_row, step, Table}
-use Rattle.determinize_dense.proofs.Common.{true, unit_at, Value, value_after, value_from, [], ℕ, ◌*◌, ◌+◌, ◌<◌, ◌∷◌}
-use Rattle.determinize_dense.proofs.Common.{◌≡◌}
+use Rattle.determinize_dense.proofs.Common.{IsBuilding, IsDfa, IsFilled, IsNextRow, IsReachedRow, IsReachedValue}
+use Rattle.determinize_dense.proofs.Common.{IsUnit, length, length-map, List, lists_of, MatchKind, mod-mul-add}
+use Rattle.determinize_dense.proofs.Common.{mul-add-lt, nat_lt, NeedsTested, Nfa, None, of_some, Option, patterns_at}
+use Rattle.determinize_dense.proofs.Common.{refl, row_after, row_over, slice_get, slice_get-get_or, slice_get-map}
+use Rattle.determinize_dense.proofs.Common.{slice_get_within, slice_index, slot_number-below, slot_of, Some}
+use Rattle.determinize_dense.proofs.Common.{start_kind_of, start_row, step, sym, Table, true, unit_at, Value}
+use Rattle.determinize_dense.proofs.Common.{value_after, value_from, [], ℕ, ◌*◌, ◌+◌, ◌<◌, ◌∙◌, ◌∷◌, ◌≡◌}
 use Rattle.determinize_dense.proofs.Reached.{reached-tested}
 
 -- the dead value stays along units
@@ -55,9 +55,12 @@ module _ (b : Building) (is : IsBuilding b) (whole : length b.next ≡ length b.
       let below : c < columns = column-below u h in
       let place = mul-add-lt r columns c (length b.values) (slice_get_within b.values r v at) below in
       let inside : r * columns + c < length b.next = omega (arith, whole) in
-      let entry = is.entries (r * columns + c) (slice_index b.next (r * columns + c)) in
+      let next : IsNextRow b r c (slice_index b.next (r * columns + c))
+      = rw (div-mul-add r columns c below, mod-mul-add r columns c below)
+      at (is.entries (r * columns + c) _ (slice_get-get_or b.next (r * columns + c) 0 inside)) in
+      let same : next.0 ≡ v = of_some (sym next.1 ∙ at) in
       let tested = same-step v u (reached-tested b.nfa b.kind v (is.reached r v at)) h in
-      grind (arith, entry, tested, slice_get-get_or, div-mul-add r columns c below, mod-mul-add r columns c below)
+      rw (← tested, ← same) next.2
 
   -- and so along units
   row_after-steps : (us : List (Option ℕ)) (r : ℕ) (v : Value) → slice_get b.values r ≡ Some v → All IsUnit us
