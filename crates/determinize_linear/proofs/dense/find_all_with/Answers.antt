@@ -1,6 +1,7 @@
-use Rattle.std.proofs.Common.{◌≡◌, ◌-◌, ◌≤◌, ◌∙◌, ap, arith, length, sym}
+use Rattle.std.proofs.Common.{◌≡◌, ◌*◌, ◌+◌, ◌-◌, ◌≤◌, ◌∙◌, ap, arith, length}
 use Rattle.determinize_below.specs.Semantics.{Text}
 use Rattle.determinize_find.proofs.matches.OneList.{length-range}
+use Rattle.determinize_linear.specs.Private.Following.{unmarked}
 use Rattle.determinize_linear.proofs.walks.Walked.{steps_enough}
 use Rattle.determinize_linear.proofs.dense.find_all_with.Goals as goal
 
@@ -13,10 +14,13 @@ returns-clause-linear g c = λ k.
     = omega (arith, c.end.ensures.value, c.end.ensures.in_haystack) in
     let count : length c.of_input-text.result.bytes ≡ c.args.input.now.end - c.args.input.now.start
     = ap (λ (t : Text). length t.bytes) c.of_input-text.ensures ∙ length-range c.args.input.now within in
+    let most : unmarked c.args.dfa.now.table c.of_input-text.result c.in_ok-marks.marks
+    ≤ (c.args.input.now.end - c.args.input.now.start + 1) * length c.args.dfa.now.table.patterns
+    = rw (← count) c.in_ok-marks.ensures.few in
     omega (
       arith,
       c.find_all_by.ensures.linear k,
-      rw count at c.in_ok-marks.ensures.few,
+      most,
       count,
       steps_enough (length c.args.dfa.now.table.patterns) (c.args.input.now.end - c.args.input.now.start),
     )
