@@ -30,14 +30,14 @@ const DFA_TEXT: &str = r#"digraph dfa {
   rankdir=LR;
   node [shape=circle];
   anchored [shape=plaintext];
-  anchored -> 3 [label="after \\x00-/, :-@, [-^, `, {-\\xff, nothing"];
+  anchored -> 2 [label="after \\x00-/, :-@, [-^, `, {-\\xff, nothing"];
   unanchored [shape=plaintext];
-  unanchored -> 3 [label="after \\x00-/, :-@, [-^, `, {-\\xff, nothing"];
+  unanchored -> 2 [label="after \\x00-/, :-@, [-^, `, {-\\xff, nothing"];
   1 [shape=doublecircle, label="1\nmatch 0"];
   2;
-  2 -> 1 [label="\\x00-\\xff, EOI"];
+  2 -> 3 [label="0-9"];
   3;
-  3 -> 2 [label="0-9"];
+  3 -> 1 [label="\\x00-\\xff, EOI"];
 }
 "#;
 
