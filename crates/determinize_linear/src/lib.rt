@@ -5,7 +5,7 @@
 //! `aaa..` take quadratic time. Here the searches go from match to match, and stop where one before
 //! has found that no match follows. [`dense`] walks by a whole DFA, and marks pairs of a position
 //! and a row. [`linear`] goes depth first over pairs of a position and an NFA state, and needs no
-//! DFA.
+//! DFA. [`lexer`] finds tokens by longest match, by the walks of [`dense`].
 #![tactic(auto)]
 
 mod assertions;
