@@ -16,5 +16,6 @@ mod Refining
 mod Searching
 mod Simulation
 mod Splitting
+mod Staying
 pub mod Stepping
 mod Writing

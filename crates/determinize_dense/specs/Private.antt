@@ -4,4 +4,5 @@ pub mod Minimizing
 pub mod Order
 pub mod Partition
 pub mod Rows
+pub mod Scans
 pub mod Searching

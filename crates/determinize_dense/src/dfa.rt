@@ -13,6 +13,7 @@ ghost use Rattle.determinize_dense.specs.declared.error.DfaError.TheVariants.{To
 use crate::build::Builder;
 use crate::error::DfaError;
 use crate::rows::Rows;
+use crate::scans::TABLES;
 use determinize_below::alphabet::ByteClasses;
 use determinize_below::{MatchKind, NFA, PatternID};
 use determinize_core::start::{StartSlot, start_kind_of};
@@ -33,7 +34,8 @@ const LIST: usize = size_of::<Vec<PatternID>>();
 ///
 /// First is the row of the dead state, then come the rows that list patterns, then those that a
 /// search scans out of, and then the others. So after the first 64 bytes a search compares once for
-/// each byte.
+/// each byte. The first four rows that are scanned out of have a table of 256 bytes each, by which
+/// a scan reads eight bytes at once: a kilobyte in each `Dfa`, however few rows it has.
 #[derive(Drop)]
 pub struct Dfa<'n, N: Allocator = Global, A: Allocator = Global> {
     pub(crate) nfa: &'n NFA<N>,
@@ -49,6 +51,11 @@ pub struct Dfa<'n, N: Allocator = Global, A: Allocator = Global> {
     pub(crate) last_match: usize,
     /// The offset of the last row that is scanned out of, or `last_match`.
     pub(crate) last_special: usize,
+    /// The number of the first row that is scanned out of, if there is one.
+    pub(crate) first_scanned: usize,
+    /// The tables of the first rows that are scanned out of: for each byte 0 if it does not leave
+    /// the row, and else 1.
+    pub(crate) leaving: [[u8; 256]; TABLES],
     /// `SCALE` divided by the length of a row, rounded down, plus 1. Its product with the offset of
     /// row `r` is at least `r` times `SCALE`, and less than `r + 1` times. So a search needs no
     /// division to look up the patterns of a row.
@@ -70,7 +77,7 @@ impl<'n, N: Allocator, A: Allocator> Model for Dfa<'n, N, A> {
     ghost invariant = { λ d. IsArranged (dfa_value d.nfa.now d.match_kind d.classes
         (rows_at (length d.classes.firsts + 1) d.next.items) d.starts
         (map (λ list. list.items) d.patterns.items))
-        d.next.items d.last_match d.last_special d.inverse };
+        d.next.items d.last_match d.last_special d.first_scanned d.leaving d.inverse };
 }
 
 /// Returns the numbers of the rows at offsets.
@@ -198,7 +205,8 @@ impl<'n, N: Allocator, A: Allocator + Copy> Dfa<'n, N, A> {
 
     /// Returns the heap memory of the DFA in bytes, without spare capacity: four bytes for each
     /// entry, and for each row 24 bytes and four for each pattern that it lists. An allocator that
-    /// has a size is not counted, although each row has a copy of it.
+    /// has a size is not counted, although each row has a copy of it. The tables for scans are in
+    /// the `Dfa` itself.
     pub fn memory_usage(&self) -> usize
         ensures { result ≡ min (bytes_of self.now.table) usize.MAX }
     {

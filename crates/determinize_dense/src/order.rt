@@ -126,6 +126,8 @@ impl<'n, N: Allocator, A: Allocator + Copy> Rows<'n, N, A> {
     {
         let columns = self.classes.alphabet_len();
         let next = offsets_of(alloc, self.next.as_slice(), columns)?;
+        let first_scanned = last_listing + 1;
+        let leaving = self.all_leaving(first_scanned, last_scanned);
         let Rows {
             nfa,
             match_kind,
@@ -143,6 +145,8 @@ impl<'n, N: Allocator, A: Allocator + Copy> Rows<'n, N, A> {
             patterns,
             last_match: last_listing * columns,
             last_special: last_scanned * columns,
+            first_scanned,
+            leaving,
             inverse: SCALE / columns + 1,
         })
     }

@@ -12,7 +12,7 @@ pub(crate) const BLOCK: usize = 64;
 pub(crate) const BLOCKS: usize = 8;
 
 /// A scan that reads fewer bytes costs more time than it saves.
-const WORTHWHILE: usize = 8;
+pub(crate) const WORTHWHILE: usize = 8;
 
 /// The fewest and the most bytes of a pause.
 const SHORTEST: usize = 32;

@@ -16,7 +16,7 @@ ghost use Rattle.determinize_dense.specs.Dfa.{value_from};
 ghost use Rattle.determinize_dense.specs.Meaning.{ListsPreferred};
 ghost use Rattle.determinize_dense.specs.Private.Rows.{IsOffset, IsRowAt};
 ghost use Rattle.determinize_dense.specs.Table.{patterns_at};
-ghost use Rattle.determinize_dense.specs.Private.Searching.{FindsFrom, HasCome, IsFound, IsMatch, IsRead, StaysOver};
+ghost use Rattle.determinize_dense.specs.Private.Searching.{FindsFrom, HasCome, IsFound, IsMatch, IsRead};
 
 use crate::dfa::{Dfa, SCALE};
 use crate::pauses::{BLOCK, BLOCKS, FIRST, Pauses};
@@ -140,7 +140,7 @@ impl<'n, N: Allocator, A: Allocator + Copy> Dfa<'n, N, A> {
     ///
     /// - `row` is the offset of the row.
     #[inline(always)]
-    fn over_byte(&self, row: usize, text: &Text<'_>, index: usize) -> usize
+    pub(crate) fn over_byte(&self, row: usize, text: &Text<'_>, index: usize) -> usize
         requires row { IsOffset self.now.table row }
         requires index { index < length text.now.bytes }
         ensures read { IsRead self.now.table text.now index row result }
@@ -334,24 +334,6 @@ impl<'n, N: Allocator, A: Allocator + Copy> Dfa<'n, N, A> {
             return self.match_of(at.matched, at.offset);
         }
         self.match_of(end, text.len())
-    }
-
-    /// Returns the number of bytes that are read when a search leaves a row.
-    ///
-    /// - `row` is the offset of the row, and `read` the number of bytes read before.
-    #[inline(always)]
-    fn scan(&self, row: usize, text: &Text<'_>, read: usize) -> usize
-        requires row { IsOffset self.now.table row }
-        requires read { read ≤ length text.now.bytes }
-        ensures stays { StaysOver self.now.table row text.now read result }
-        ensures more { read ≤ result }
-        ensures within { result ≤ length text.now.bytes }
-    {
-        let mut read = read;
-        while read < text.len() && self.over_byte(row, text, read) == row {
-            read += 1;
-        }
-        read
     }
 
     /// Searches the range of an input in the direction of the NFA. The match is one of the text

@@ -2,6 +2,7 @@
 use Rattle.std.specs.Prelude.{◌≡◌, ◌<◌, ◌≤◌, ℕ, List, [], length, slice_index, true}
 use Rattle.determinize_state.specs.Value.{is_nonempty}
 use Rattle.determinize_dense.specs.Private.Rows.{IsInverse, IsStored, offset_of}
+use Rattle.determinize_dense.specs.Private.Scans.{AreAllStaying}
 use Rattle.determinize_dense.specs.Table.{DfaValue, Table, patterns_at}
 use Rattle.determinize_dense.specs.declared.partition.TheConstants.{RANKS}
 
@@ -13,11 +14,13 @@ pub record IsOrdered (d : Table) (last_match last_special : ℕ) : Type 0 where
   pub none : (r : ℕ) → r < length d.patterns → last_match < offset_of d r → patterns_at d r ≡ []
   pub more : last_match ≤ last_special
 
--- a DFA in order, whose entries are stored as offsets, and the inverse of its row length
-pub record IsArranged (v : DfaValue) (offsets : List ℕ) (last_match last_special inverse : ℕ)
-    : Type 0 where
+-- a DFA in order, whose entries are stored as offsets, with the tables of rows from the first one
+-- that is scanned on, and the inverse of its row length
+pub record IsArranged (v : DfaValue) (offsets : List ℕ) (last_match last_special first_scanned : ℕ)
+    (leaving : List (List ℕ)) (inverse : ℕ) : Type 0 where
   pub stored : IsStored v offsets
   pub ordered : IsOrdered v.table last_match last_special
+  pub staying : AreAllStaying v.table first_scanned leaving
   pub inverted : IsInverse v.table inverse
 
 -- the rank of a row: 0 is that of row 0, and 1 that of rows that list patterns

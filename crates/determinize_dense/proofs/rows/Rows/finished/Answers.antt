@@ -12,6 +12,7 @@ invariant_of-result g c =
     rw (offsets, rows, c.alphabet_len-columns.ensures.count) (record {
       stored = stored-offsets _ c.self.invariant _ refl;
       ordered = rw (← c.self.view_is) at c.requires.order;
+      staying = rw (← c.self.view_is) at c.all_leaving-leaving.ensures;
       inverted = inverse-is _ c.self.invariant.table;
     })
 

@@ -1,0 +1,163 @@
+//! Scans: a search stays in a row while the bytes that it reads do not leave it.
+//!
+//! The first few rows that are scanned out of have a table of 256 bytes each, by which a scan reads
+//! eight bytes of a text at once.
+
+ghost use Rattle.std.specs.Prelude.{◌≡◌, ◌+◌, ◌<◌, ◌≤◌, ◌^◌, ℕ, IsTrue, length};
+ghost use Rattle.std.specs.Option.{IfSome};
+ghost use Rattle.determinize_dense.specs.Private.Rows.{IsOffset, IsRowAt};
+ghost use Rattle.determinize_dense.specs.Private.Scans.{AreAllStaying, AreZeros, IsStaying};
+ghost use Rattle.determinize_dense.specs.Private.Searching.{StaysOver};
+
+use crate::dfa::Dfa;
+use crate::pauses::WORTHWHILE;
+use crate::rows::Rows;
+use determinize_engine::state_table::MAX_STATES;
+use determinize_engine::text::Text;
+use std::alloc::Allocator;
+
+/// The number of rows that have a table.
+pub(crate) const TABLES: usize = 4;
+
+/// The number of bytes that a scan reads at once.
+const AT_ONCE: usize = 8;
+
+/// Returns whether a table has a 0 for each of eight bytes of a text, from an index on.
+#[inline(always)]
+fn are_zeros(table: &[u8; 256], text: &Text<'_>, from: usize) -> bool
+    requires within { from + AT_ONCE ≤ length text.now.bytes }
+    requires limit { from + AT_ONCE < 2 ^ 63 }
+    ensures { IsTrue result → AreZeros table.now text.now from (from + AT_ONCE) }
+{
+    let mut any = 0;
+    for index in 0..AT_ONCE {
+        any |= table[usize::from(text.byte(from + index))];
+    }
+    any == 0
+}
+
+impl<'n, N: Allocator, A: Allocator + Copy> Rows<'n, N, A> {
+    /// Returns the table of a row: for each byte 0 if it does not leave the row, and else 1.
+    fn leaving(&self, row: usize) -> [u8; 256]
+        requires { row < length self.now.table.patterns }
+        ensures { IsStaying self.now.table row result }
+    {
+        let mut leaving = [1; 256];
+        for byte in 0..=u8::MAX {
+            if self.entry(row, usize::from(self.classes.get(byte))) == row {
+                leaving[usize::from(byte)] = 0;
+            }
+        }
+        leaving
+    }
+
+    /// Returns the tables of the first rows from one row on, up to another.
+    pub(crate) fn all_leaving(&self, first: usize, last: usize) -> [[u8; 256]; TABLES]
+        requires first { first ≤ MAX_STATES }
+        requires last { last < length self.now.table.patterns }
+        ensures { AreAllStaying self.now.table first result }
+    {
+        let mut tables = [[1; 256]; TABLES];
+        for index in 0..TABLES {
+            if first + index <= last {
+                tables[index] = self.leaving(first + index);
+            }
+        }
+        tables
+    }
+}
+
+impl<'n, N: Allocator, A: Allocator + Copy> Dfa<'n, N, A> {
+    /// Returns the table of a row, if it has one: 0 only for bytes that do not leave the row.
+    ///
+    /// - `row` is the offset of the row.
+    #[inline(always)]
+    fn leaving(&self, row: usize) -> Option<&[u8; 256]>
+        requires { IsOffset self.now.table row }
+        ensures { IfSome result (λ table. (r : ℕ) → IsRowAt self.now.table row r
+            → IsStaying self.now.table r table.now) }
+    {
+        let number = self.row_number(row);
+        if number < self.first_scanned || number - self.first_scanned >= TABLES {
+            return None;
+        }
+        Some(&self.leaving[number - self.first_scanned])
+    }
+
+    /// Returns the number of bytes that are read when a search leaves a row, but at most `until`.
+    ///
+    /// - `row` is the offset of the row, and `read` the number of bytes read before.
+    #[inline(always)]
+    fn scan_upto(&self, row: usize, text: &Text<'_>, read: usize, until: usize) -> usize
+        requires row { IsOffset self.now.table row }
+        requires read { read ≤ until }
+        requires until { until ≤ length text.now.bytes }
+        ensures stays { StaysOver self.now.table row text.now read result }
+        ensures more { read ≤ result }
+        ensures within { result ≤ until }
+    {
+        let mut read = read;
+        while read < until && self.over_byte(row, text, read) == row {
+            read += 1;
+        }
+        read
+    }
+
+    /// Returns the number of bytes that are read when a search leaves a row, or fewer: as many
+    /// times eight more than before as do not leave the row by its table.
+    ///
+    /// - `row` is the offset of the row, and `read` the number of bytes read before.
+    #[inline(always)]
+    fn scan_by_table(&self, row: usize, text: &Text<'_>, read: usize) -> usize
+        requires row { IsOffset self.now.table row }
+        requires read { read ≤ length text.now.bytes }
+        ensures stays { StaysOver self.now.table row text.now read result }
+        ensures more { read ≤ result }
+        ensures within { result ≤ length text.now.bytes }
+    {
+        let Some(table) = self.leaving(row) else {
+            return read;
+        };
+        let mut read = read;
+        while text.len() - read >= AT_ONCE && are_zeros(table, text, read) {
+            read += AT_ONCE;
+        }
+        read
+    }
+
+    /// Returns the number of bytes that are read when a search leaves a row.
+    ///
+    /// - `row` is the offset of the row, and `read` the number of bytes read before.
+    #[inline(never)]
+    fn scan_far(&self, row: usize, text: &Text<'_>, read: usize) -> usize
+        requires row { IsOffset self.now.table row }
+        requires read { read ≤ length text.now.bytes }
+        ensures stays { StaysOver self.now.table row text.now read result }
+        ensures more { read ≤ result }
+        ensures within { result ≤ length text.now.bytes }
+    {
+        let read = self.scan_by_table(row, text, read);
+        self.scan_upto(row, text, read, text.len())
+    }
+
+    /// Returns the number of bytes that are read when a search leaves a row.
+    ///
+    /// - `row` is the offset of the row, and `read` the number of bytes read before.
+    ///
+    /// The first bytes are read without a table, since most scans are over after a few.
+    #[inline(always)]
+    pub(crate) fn scan(&self, row: usize, text: &Text<'_>, read: usize) -> usize
+        requires row { IsOffset self.now.table row }
+        requires read { read ≤ length text.now.bytes }
+        ensures stays { StaysOver self.now.table row text.now read result }
+        ensures more { read ≤ result }
+        ensures within { result ≤ length text.now.bytes }
+    {
+        let few = text.len().min(read.saturating_add(WORTHWHILE));
+        let first = self.scan_upto(row, text, read, few);
+        if first - read < WORTHWHILE {
+            return first;
+        }
+        self.scan_far(row, text, first)
+    }
+}
