@@ -22,24 +22,16 @@ use determinize_below::{LookSet, MatchKind, NFA, SparseSet, SparseSets, StateID,
 use determinize_state::state::{State, StateBuilderNFA};
 use std::alloc::{AllocError, Allocator};
 
-/// Pushes the NFA states of a state, each once. Stack and set are empty before.
-fn collect_states<A: Allocator>(
-    state: &State<A>,
-    set: &mut SparseSet<A>,
-    stack: &mut Vec<StateID, A>,
-) -> Result<(), AllocError>
+/// Adds the NFA states of a state to a set, which is empty before.
+fn collect_states<A: Allocator>(state: &State<A>, set: &mut SparseSet<A>)
     requires empty { set.old.ids ≡ [] }
-    requires stack { stack.old.items ≡ [] }
     requires resolve { All (λ id. id < set.old.capacity) state.now.states }
-    ensures ok { OnOk result (stack.new.items ≡ distinct_states state.now) }
+    ensures ids { set.new.ids ≡ distinct_states state.now }
     ensures capacity { set.new.capacity ≡ set.old.capacity }
 {
     for id in state.iter_nfa_state_ids() {
-        if set.insert(id) {
-            stack.push(id)?;
-        }
+        set.insert(id);
     }
-    Ok(())
 }
 
 /// Adds the closure of the NFA states of a state to `second`. Both sets and the stack are empty
@@ -70,8 +62,16 @@ fn reopen<N: Allocator, A: Allocator, C: Counter>(
     ensures bounded { IsTrue C.counts → C.total counter.new ≤ C.total counter.old
         + tries_left nfa.now (has look_have) second.old.ids (distinct_states state.now) }
 {
-    collect_states(state, first, stack)?;
-    explore(nfa, &[], look_have, stack, second, &mut (), counter)?;
+    collect_states(state, first);
+    explore(
+        nfa,
+        first.as_slice(),
+        look_have,
+        stack,
+        second,
+        &mut (),
+        counter,
+    )?;
     first.clear();
     Ok(())
 }

@@ -5,15 +5,6 @@ use Rattle.determinize_core.proofs.determinize.working_list.collect_states.Goals
 pub loop-id-preserved : goal.loop-id-preserved
 loop-id-preserved g c = record {
   ids = grind (arith, distinct-push);
-  stack = grind arith;
-  capacity = grind arith;
-  left = All-rest (λ id. id < c.args.set.now.capacity) _ _ _ c.in-Some.ensures.steps c.loop-id.invariant.left;
-}
-
-pub loop-id-preserved-in-Continue-1 : goal.loop-id-preserved-in-Continue-1
-loop-id-preserved-in-Continue-1 g c = record {
-  ids = grind (arith, distinct-push);
-  stack = grind arith;
   capacity = grind arith;
   left = All-rest (λ id. id < c.args.set.now.capacity) _ _ _ c.in-Some.ensures.steps c.loop-id.invariant.left;
 }

@@ -5,7 +5,6 @@ use Rattle.determinize_core.proofs.determinize.working_list.collect_states.Given
 abbrev pub invariant-loop-id : goal.invariant-loop-id
 invariant-loop-id g l = record {
   ids : l.set.ids ≡ distinct l.yielded;
-  stack : l.stack.items ≡ l.set.ids;
   capacity : l.set.capacity ≡ l.initial.set.capacity;
   left : All (λ id. id < l.initial.set.capacity) l.id-iterator;
 }
