@@ -36,8 +36,8 @@ impl<A: Allocator + Copy> OwnedRegex<A, A> {
         ensures err { IfErr result (λ e. IsTooLarge (most_states nfa) e) }
     {
         let backward = reversed(alloc, &nfa)?;
-        let forward = OwnedLazy::new(alloc, nfa, MatchKind::LeftmostFirst, limit);
-        let backward = OwnedLazy::new(alloc, backward, MatchKind::All, limit);
+        let forward = OwnedLazy::new_by_class(alloc, nfa, MatchKind::LeftmostFirst, limit);
+        let backward = OwnedLazy::new_by_class(alloc, backward, MatchKind::All, limit);
         Ok(Regex::from_engines(forward, backward))
     }
 }

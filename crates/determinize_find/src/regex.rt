@@ -307,8 +307,8 @@ impl<'n, N: Allocator, B: Allocator, A: Allocator + Copy> LazyRegex<'n, N, B, A>
         } }
     {
         Regex {
-            forward: Lazy::new(alloc, nfa, MatchKind::LeftmostFirst, limit),
-            backward: Lazy::new(alloc, backward, MatchKind::All, limit),
+            forward: Lazy::new_by_class(alloc, nfa, MatchKind::LeftmostFirst, limit),
+            backward: Lazy::new_by_class(alloc, backward, MatchKind::All, limit),
             is_apart: Some(has_prefix_apart(nfa)),
         }
     }

@@ -25,9 +25,9 @@ pub use Rattle.determinize_core.specs.LastMatch.{ended_at, last_match}
 pub use Rattle.determinize_core.specs.Equality.{same}
 pub use Rattle.determinize_engine.specs.Searches.{HasMatch, IsSearch, start_for, text_of}
 pub use Rattle.determinize_lazy.specs.Cache.{after_step, after_walk, Cache, cache, count_after, Grows, IsCutOff}
-pub use Rattle.determinize_lazy.specs.Cache.{LazyValue, step_of}
+pub use Rattle.determinize_lazy.specs.Cache.{classes_from, LazyValue, needs_tested, shared_by, step_of}
 pub use Rattle.determinize_table.specs.Table.{fits, keep, empty, is_cached, IsTable, Table, with_value}
-pub use Rattle.determinize_table.specs.Table.{with_values}
+pub use Rattle.determinize_table.specs.Table.{in_one_class, same_unit, shares, with_values}
 pub use Rattle.determinize_lazy.specs.Plenty.{HasRoom, KeepsAll, missing, with_step, with_walk}
 pub use Rattle.determinize_table.specs.Cursors.{cursor_value, IsAt, IsCursor}
 pub use Rattle.determinize_lazy.specs.Private.Invariant.{IsLazy}

@@ -3,4 +3,5 @@ pub mod Cursors
 pub mod Empty
 pub mod FewStates
 pub mod Rule
+pub mod Sharing
 pub mod Starts

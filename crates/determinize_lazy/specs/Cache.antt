@@ -1,21 +1,24 @@
 -- A bounded cache of transitions.
-use Rattle.std.specs.Prelude.{◌≡◌, ℕ, ◌+◌, ◌≤◌, ◌⊎◌, cond, Option, List, [], ◌∷◌, length, min, take}
+use Rattle.std.specs.Prelude.{◌≡◌, ℕ, ◌+◌, ◌≤◌, ◌⊎◌, Bool, cond, Option, Some, None, List, [], ◌∷◌, length, min, nat_eq, take}
+use Rattle.determinize_below.specs.ByteClasses.{Classes}
+use Rattle.determinize_below.specs.Look.{union}
 use Rattle.determinize_below.specs.Semantics.{Nfa, Text}
 use Rattle.determinize_below.specs.declared.search.MatchKind.{MatchKind}
 use Rattle.determinize_core.specs.Chain.{units}
 use Rattle.determinize_core.specs.Step.{start_value, step}
 use Rattle.determinize_core.specs.Value.{Value}
 use Rattle.determinize_table.specs.Stored.{table_in}
-use Rattle.determinize_table.specs.Table.{Table, empty, is_cached, keep}
+use Rattle.determinize_table.specs.Table.{Table, empty, is_cached, keep, shares}
 
--- a cache: its NFA and match kind, the greatest number of states, the table, and how many
--- transitions were computed
+-- a cache: its NFA and match kind, the greatest number of states, the table, how many transitions
+-- were computed, and the classes of bytes that share computed steps, if there are any
 pub record Cache : Type 0 where
   pub nfa : Nfa
   pub kind : MatchKind
   pub limit : ℕ
   pub table : Table
   pub computed : ℕ
+  pub classes : Option Classes
 
 -- what a `Lazy` is seen as: the same, with the table as it is stored
 pub record LazyValue : Type 0 where
@@ -25,6 +28,7 @@ pub record LazyValue : Type 0 where
   pub states : List Value
   pub rows : List ℕ
   pub computed : ℕ
+  pub classes : Option Classes
 
 -- its cache
 abbrev pub cache : LazyValue → Cache
@@ -34,6 +38,7 @@ cache v = record {
   limit = v.limit;
   table = table_in v.states v.rows;
   computed = v.computed;
+  classes = v.classes;
 }
 
 -- the step of its NFA and kind
@@ -44,11 +49,26 @@ step_of c = step c.nfa c.kind
 abbrev pub count_after : ℕ → ℕ → ℕ
 count_after computed n = min (computed + n) 18446744073709551615
 
+-- whether a value needs only assertions that the NFA tests, as each value of its DFA does
+abbrev pub needs_tested : Nfa → Value → Bool
+needs_tested nfa v = nat_eq (union v.look_need nfa.look_set_any) nfa.look_set_any
+
+-- the classes of bytes over which a step from a value is the same
+abbrev pub classes_from : Nfa → Value → Option Classes → Option Classes
+classes_from nfa v None = None
+classes_from nfa v (Some p) = cond (needs_tested nfa v) (Some p) None
+
+-- the units over which a computed step from a value over a unit is cached: the unit and, if there
+-- are classes, the bytes of its class
+abbrev pub shared_by : Cache → Value → Option ℕ → Option ℕ → Bool
+shared_by c v u = shares (classes_from c.nfa v c.classes) u
+
 -- the cache after one step from a value over a unit: a transition that is not cached is computed
 -- and counted, and cached by the rule `keep`
 abbrev pub after_step : Cache → Value → Option ℕ → Cache
 after_step c v u = record c {
-  table = cond (is_cached c.table v u) c.table (keep c.limit c.table v u (step_of c v u));
+  table = cond (is_cached c.table v u) c.table
+      (keep (shared_by c v u) c.limit c.table v (step_of c v u));
   computed = cond (is_cached c.table v u) c.computed (count_after c.computed 1);
 }
 
@@ -61,12 +81,13 @@ after_walk c v (u ∷ us) = after_walk (after_step c v u) (step_of c v u) us
 unfoldable pub after_text : Cache → ℕ → Text → Cache
 after_text c start text = after_walk c (start_value c.nfa start text.behind) (units text)
 
--- what every call leaves: the NFA, the match kind and the limit as they were, and a count that is
--- not smaller
+-- what every call leaves: the NFA, the match kind, the limit and the classes as they were, and a
+-- count that is not smaller
 pub record Grows (old new : Cache) : Type 0 where
   pub nfa : new.nfa ≡ old.nfa
   pub kind : new.kind ≡ old.kind
   pub limit : new.limit ≡ old.limit
+  pub classes : new.classes ≡ old.classes
   pub computed : old.computed ≤ new.computed
 
 -- what a walk leaves that fails after some of its first units: the table after these, or nothing is

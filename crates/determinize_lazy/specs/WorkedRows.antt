@@ -13,8 +13,14 @@ use Rattle.determinize_engine.specs.Searches.{last_in}
 
 -- an empty cache of at most `limit` states
 abbrev pub empty : ℕ → Cache
-empty limit =
-    record { nfa = n4; kind = LeftmostFirst; limit = limit; table = nothing; computed = 0 }
+empty limit = record {
+  nfa = n4;
+  kind = LeftmostFirst;
+  limit = limit;
+  table = nothing;
+  computed = 0;
+  classes = None;
+}
 
 -- `quartz`, a whole word
 abbrev pub whole_word : Text

@@ -4,7 +4,8 @@
 //! the target of one that is added cannot be cached. No single state or transition is ever removed,
 //! so between two clears the id of a cached state stays the same.
 
-ghost use Rattle.std.specs.Prelude.{◌≡◌, ◌<◌, ◌≤◌, ◌*◌, ◌++◌, ◌∷◌, [], length, min, IfOk, OnErr, OnOk};
+ghost use Rattle.std.specs.Prelude.{◌≡◌, ◌<◌, ◌≤◌, ◌*◌, ◌++◌, ◌∷◌, [], length, min, IfOk, None, OnErr, OnOk, Some};
+ghost use Rattle.determinize_below.specs.ByteClasses.{AreClassesOf, Classes};
 ghost use Rattle.determinize_below.specs.Nfa.{AllResolve, IsAccepted};
 ghost use Rattle.determinize_below.specs.Semantics.{between};
 ghost use Rattle.determinize_core.specs.Chain.{future, units};
@@ -23,7 +24,7 @@ use determinize_below::{MatchKind, NFA, StateID};
 use determinize_core::determinize::Stepper;
 use determinize_core::state::State;
 use determinize_engine::text::Text;
-use determinize_table::{Cursor, LazyStateId, TransitionTable};
+use determinize_table::{ClassSpans, Cursor, LazyStateId, TransitionTable};
 use std::alloc::{AllocError, Allocator, Global};
 use std::marker::Model;
 
@@ -32,7 +33,8 @@ use std::marker::Model;
 /// A state is cached if it is the source or the target of a cached transition. A transition that
 /// was computed is cached if the cached states, its source and its target are together at most
 /// `limit` states. If they are more, the cache is cleared, and the transition is cached if its two
-/// states alone are at most `limit`. If they are not, nothing is cached.
+/// states alone are at most `limit`. If they are not, nothing is cached. In a cache of
+/// `new_by_class` one computed step gives a transition over each byte of a class.
 ///
 /// A walk or a search returns `AllocError` if an allocation fails, or if more than 16647160 states
 /// would be cached, since rows have the offsets of rows in 32 bits. After an error the cache is
@@ -44,6 +46,7 @@ pub struct Lazy<'n, N: Allocator = Global, A: Allocator = Global> {
     pub(crate) limit: usize,
     pub(crate) computed: u64,
     pub(crate) table: TransitionTable<A>,
+    pub(crate) spans: Option<ClassSpans>,
 }
 
 // Derived code is proved at each exit of each function that owns a cache, and takes three times as
@@ -56,6 +59,7 @@ impl<'n, N: Allocator, A: Allocator> Drop for Lazy<'n, N, A> {
             limit: _,
             computed: _,
             table: _,
+            spans: _,
         } = self;
     }
 }
@@ -73,9 +77,11 @@ impl<'n, N: Allocator, A: Allocator> Model for Lazy<'n, N, A> {
       states = a.table.states;
       rows = a.table.rows;
       computed = a.computed;
+      classes = a.spans;
     } };
 
-    ghost invariant = { λ a. IsLazy a.stepper.nfa a.stepper.kind a.limit a.computed a.table };
+    ghost invariant = { λ a. IsLazy a.stepper.nfa a.stepper.kind a.limit a.computed a.spans
+        a.table };
 }
 
 impl<'n, N: Allocator, A: Allocator + Copy> Lazy<'n, N, A> {
@@ -88,6 +94,7 @@ impl<'n, N: Allocator, A: Allocator + Copy> Lazy<'n, N, A> {
           limit = limit;
           table = empty;
           computed = 0;
+          classes = None;
         } }
         ensures nfa { result.nfa ≡ nfa.now }
         ensures kind { result.kind ≡ match_kind }
@@ -100,6 +107,41 @@ impl<'n, N: Allocator, A: Allocator + Copy> Lazy<'n, N, A> {
             limit,
             computed: 0,
             table: TransitionTable::new(alloc),
+            spans: None,
+        }
+    }
+
+    /// Returns an empty cache of at most `limit` states, as `new` does, in which a computed step is
+    /// cached over each byte of the class of its byte (`NFA::byte_classes`): these steps are equal.
+    /// So fewer are computed. Finds the classes, in one pass over the NFA. Does not allocate.
+    ///
+    /// Only the steps from a state whose look-need has an assertion that the NFA does not have are
+    /// computed for each byte. No walk over this NFA has such a state.
+    pub fn new_by_class(
+        alloc: A,
+        nfa: &'n NFA<N>,
+        match_kind: MatchKind,
+        limit: usize,
+    ) -> Lazy<'n, N, A>
+        ensures cache { cache result ≡ record {
+          nfa = nfa.now;
+          kind = match_kind;
+          limit = limit;
+          table = empty;
+          computed = 0;
+          classes = result.classes;
+        } }
+        ensures classes { (p : Classes) × (result.classes ≡ Some p) × AreClassesOf nfa.now p }
+        ensures nfa { result.nfa ≡ nfa.now }
+        ensures kind { result.kind ≡ match_kind }
+    {
+        Lazy {
+            alloc,
+            stepper: Stepper::new(alloc, nfa, match_kind),
+            limit,
+            computed: 0,
+            table: TransitionTable::new(alloc),
+            spans: Some(ClassSpans::new(nfa.byte_classes())),
         }
     }
 
@@ -176,6 +218,7 @@ impl<'n, N: Allocator, A: Allocator + Copy> Lazy<'n, N, A> {
             limit: self.limit,
             computed: self.computed,
             table: &self.table,
+            spans: &self.spans,
         }
     }
 

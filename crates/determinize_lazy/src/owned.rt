@@ -1,7 +1,8 @@
 //! A lazy DFA that owns its NFA. A search that only reads the cache is that of a [`Lazy`]; one that
 //! computes a state lends NFA and cache to a `Lazy`, and takes the cache back.
 
-ghost use Rattle.std.specs.Prelude.{◌≡◌, ◌<◌, ◌≤◌, ◌*◌, false, length, min, true, Decides, None, Ok, IfOk, OnErr, OnOk};
+ghost use Rattle.std.specs.Prelude.{◌≡◌, ◌<◌, ◌≤◌, ◌*◌, false, length, min, true, Decides, None, Ok, IfOk, OnErr, OnOk, Some};
+ghost use Rattle.determinize_below.specs.ByteClasses.{AreClassesOf, Classes};
 ghost use Rattle.determinize_below.specs.Nfa.{IsAccepted};
 ghost use Rattle.determinize_below.specs.Search.{is_done};
 ghost use Rattle.determinize_engine.specs.Searches.{has_start, start_for, text_of, HasMatch, IsSearchResult};
@@ -21,7 +22,7 @@ use determinize_below::{HalfMatch, Input, MatchKind, NFA, StateID};
 use determinize_core::determinize::Stepper;
 use determinize_engine::engine::Engine;
 use determinize_engine::text::{Text, in_haystack};
-use determinize_table::TransitionTable;
+use determinize_table::{ClassSpans, TransitionTable};
 use std::alloc::{AllocError, Allocator, Global};
 use std::marker::Model;
 use std::mem;
@@ -44,6 +45,7 @@ pub struct OwnedLazy<N: Allocator = Global, A: Allocator = Global> {
 struct Kept<A: Allocator> {
     table: TransitionTable<A>,
     computed: u64,
+    spans: Option<ClassSpans>,
 }
 
 impl<N: Allocator, A: Allocator> Model for OwnedLazy<N, A> {
@@ -59,9 +61,11 @@ impl<N: Allocator, A: Allocator> Model for OwnedLazy<N, A> {
       states = o.kept.table.states;
       rows = o.kept.table.rows;
       computed = o.kept.computed;
+      classes = o.kept.spans;
     } };
 
-    ghost invariant = { λ o. IsOwned o.nfa o.match_kind o.limit o.kept.computed o.kept.table };
+    ghost invariant = { λ o. IsOwned o.nfa o.match_kind o.limit o.kept.computed o.kept.spans
+        o.kept.table };
 }
 
 impl<A: Allocator + Copy> Kept<A> {
@@ -70,6 +74,7 @@ impl<A: Allocator + Copy> Kept<A> {
         Kept {
             table: TransitionTable::new(alloc),
             computed: 0,
+            spans: None,
         }
     }
 
@@ -81,7 +86,7 @@ impl<A: Allocator + Copy> Kept<A> {
         match_kind: MatchKind,
         limit: usize,
     ) -> Lazy<'n, N, A>
-        requires { IsLazy nfa.now match_kind limit self.computed self.table }
+        requires { IsLazy nfa.now match_kind limit self.computed self.spans self.table }
         ensures { result ≡ record {
           nfa = nfa.now;
           kind = match_kind;
@@ -89,6 +94,7 @@ impl<A: Allocator + Copy> Kept<A> {
           states = self.table.states;
           rows = self.table.rows;
           computed = self.computed;
+          classes = self.spans;
         } }
     {
         Lazy {
@@ -97,6 +103,7 @@ impl<A: Allocator + Copy> Kept<A> {
             limit,
             computed: self.computed,
             table: self.table,
+            spans: self.spans,
         }
     }
 }
@@ -107,13 +114,19 @@ impl<'n, N: Allocator, A: Allocator + Copy> Lazy<'n, N, A> {
         ensures states { result.table.states ≡ self.entry.states }
         ensures rows { result.table.rows ≡ self.entry.rows }
         ensures computed { result.computed ≡ self.entry.computed }
+        ensures classes { result.spans ≡ self.entry.classes }
         ensures lazy { IsLazy self.entry.nfa self.entry.kind self.entry.limit
-            result.computed result.table }
+            result.computed result.spans result.table }
     {
         let computed = self.computed;
         let empty = TransitionTable::new(self.alloc);
         let table = mem::replace(&mut self.table, empty);
-        Kept { table, computed }
+        let spans = mem::replace(&mut self.spans, None);
+        Kept {
+            table,
+            computed,
+            spans,
+        }
     }
 }
 
@@ -127,11 +140,43 @@ impl<N: Allocator, A: Allocator + Copy> OwnedLazy<N, A> {
           limit = limit;
           table = empty;
           computed = 0;
+          classes = None;
         } }
         ensures nfa { result.nfa ≡ nfa }
         ensures kind { result.kind ≡ match_kind }
     {
         let kept = Lazy::new(alloc, &nfa, match_kind, limit).into_kept();
+        OwnedLazy {
+            alloc,
+            nfa,
+            match_kind,
+            limit,
+            kept,
+        }
+    }
+
+    /// Returns an empty cache of at most `limit` states, as `new` does, in which a computed step is
+    /// cached over each byte of the class of its byte, as by `Lazy::new_by_class`. Finds the
+    /// classes, in one pass over the NFA. Does not allocate.
+    pub fn new_by_class(
+        alloc: A,
+        nfa: NFA<N>,
+        match_kind: MatchKind,
+        limit: usize,
+    ) -> OwnedLazy<N, A>
+        ensures cache { cache result ≡ record {
+          nfa = nfa;
+          kind = match_kind;
+          limit = limit;
+          table = empty;
+          computed = 0;
+          classes = result.classes;
+        } }
+        ensures classes { (p : Classes) × (result.classes ≡ Some p) × AreClassesOf nfa p }
+        ensures nfa { result.nfa ≡ nfa }
+        ensures kind { result.kind ≡ match_kind }
+    {
+        let kept = Lazy::new_by_class(alloc, &nfa, match_kind, limit).into_kept();
         OwnedLazy {
             alloc,
             nfa,
@@ -212,6 +257,7 @@ impl<N: Allocator, A: Allocator + Copy> OwnedLazy<N, A> {
             limit: self.limit,
             computed: self.kept.computed,
             table: &self.kept.table,
+            spans: &self.kept.spans,
         }
     }
 

@@ -6,9 +6,10 @@
 //! from any other NFA state always, and else until the state was found cached.
 
 ghost use Rattle.std.specs.Prelude.{Decides, ◌≡◌, ◌<◌, ℕ, false, length, IfOk, OnOk};
+ghost use Rattle.std.specs.Option.{option_copied};
 ghost use Rattle.determinize_below.specs.Nfa.{AllResolve};
 ghost use Rattle.determinize_core.specs.Step.{start_value};
-ghost use Rattle.determinize_lazy.specs.Cache.{cache};
+ghost use Rattle.determinize_lazy.specs.Cache.{cache, classes_from};
 ghost use Rattle.determinize_table.specs.Cursors.{IsAt, IsCursor, cursor_value};
 ghost use Rattle.determinize_lazy.specs.Private.Steps.{IsSound, IsStarted, IsStepped};
 ghost use Rattle.determinize_table.specs.Tags.{tag_in, tag_of};
@@ -19,7 +20,7 @@ use crate::lazy::Lazy;
 use crate::view::start_slot;
 use determinize_below::{NFA, StateID, Unit};
 use determinize_core::state::State;
-use determinize_table::{Cursor, LazyStateId, StateTag};
+use determinize_table::{ClassSpans, Cursor, LazyStateId, StateTag};
 use std::alloc::{AllocError, Allocator};
 
 /// Returns whether each id in a state is that of a state of the NFA.
@@ -28,6 +29,22 @@ fn resolves<N: Allocator, A: Allocator>(nfa: &NFA<N>, state: &State<A>) -> bool
 {
     let count = nfa.len();
     state.iter_nfa_state_ids().all(|id| id.as_usize() < count)
+}
+
+/// Returns the classes of bytes over which a step from a state is the same: none, if the state
+/// needs an assertion that the NFA does not test.
+fn classes_from<'s, N: Allocator, A: Allocator>(
+    nfa: &NFA<N>,
+    state: &State<A>,
+    spans: &'s Option<ClassSpans>,
+) -> Option<&'s ClassSpans>
+    ensures { option_copied result ≡ classes_from nfa.now state.now spans.now }
+{
+    let tested = nfa.look_set_any();
+    match spans {
+        Some(spans) if state.look_need().union(tested) == tested => Some(spans),
+        _ => None,
+    }
 }
 
 impl<'n, N: Allocator, A: Allocator + Copy> Lazy<'n, N, A> {
@@ -143,7 +160,7 @@ impl<'n, N: Allocator, A: Allocator + Copy> Lazy<'n, N, A> {
     }
 
     /// Takes a step that is not cached: the state that follows is computed and counted, and the
-    /// transition is cached by the rule. No other call computes a transition.
+    /// transition is cached by the rule, with those that share it. No other call computes one.
     #[cold]
     #[inline(never)]
     fn compute(&mut self, cursor: Cursor<A>, unit: Option<u8>) -> Result<Cursor<A>, AllocError>
@@ -155,8 +172,9 @@ impl<'n, N: Allocator, A: Allocator + Copy> Lazy<'n, N, A> {
         ensures { IsStepped self.old (cursor_value self.old.states cursor) unit result self.new }
     {
         let state = self.table.state(&cursor);
+        let spans = classes_from(self.stepper.nfa(), state, &self.spans);
         let following = self.stepper.next(state, Unit::from(unit))?;
         self.computed = self.computed.saturating_add(1);
-        self.table.keep(cursor, unit, following, self.limit)
+        self.table.keep(cursor, unit, following, self.limit, spans)
     }
 }

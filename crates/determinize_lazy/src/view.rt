@@ -15,7 +15,7 @@ ghost use Rattle.determinize_lazy.specs.Private.Steps.{IsSound};
 use determinize_below::{Anchored, HalfMatch, MatchKind, NFA, StateID};
 use determinize_core::start::{StartSlot, start_kind_of};
 use determinize_engine::text::Text;
-use determinize_table::{LastMatch, LazyStateId, TransitionTable};
+use determinize_table::{ClassSpans, LastMatch, LazyStateId, TransitionTable};
 use std::alloc::Allocator;
 use std::marker::Model;
 
@@ -27,6 +27,7 @@ pub(crate) struct View<'v, N: Allocator, A: Allocator> {
     pub(crate) limit: usize,
     pub(crate) computed: u64,
     pub(crate) table: &'v TransitionTable<A>,
+    pub(crate) spans: &'v Option<ClassSpans>,
 }
 
 impl<'v, N: Allocator, A: Allocator> Model for View<'v, N, A> {
@@ -42,9 +43,11 @@ impl<'v, N: Allocator, A: Allocator> Model for View<'v, N, A> {
       states = v.table.now.states;
       rows = v.table.now.rows;
       computed = v.computed;
+      classes = v.spans.now;
     } };
 
-    ghost invariant = { λ v. IsLazy v.nfa.now v.match_kind v.limit v.computed v.table.now };
+    ghost invariant = { λ v. IsLazy v.nfa.now v.match_kind v.limit v.computed v.spans.now
+        v.table.now };
 }
 
 /// A position at a cached state.

@@ -1,13 +1,13 @@
 -- What functions that change a table leave, and what ids and cursors are in it.
--- Main statements: transition-kept, entry_inside, index_before, interned-failed, kept-failed, kept-alone, kept-none.
+-- Main statements: transitions-kept, source_there, index_before, interned-failed, kept-failed, kept-alone, kept-none.
 -- Used by: the functions of `table.rt`.
--- Idea: interning adds one state at most, at the end, so ids stay; then one write to the rows adds the transition.
-use Rattle.determinize_table.proofs.Common.{[], ap, arith, by_cases, column, dead, empty, false, get_or_from_slice_get}
-use Rattle.determinize_table.proofs.Common.{inl, inr, is_unit, IsAt, IsInterned, IsKept, IsStored, length, List, list_any}
+-- Idea: interning adds one state at most, at the end, so ids stay; then writes to the rows add the transitions.
+use Rattle.determinize_table.proofs.Common.{[], ap, arith, Bool, by_cases, dead, empty, false, get_or_from_slice_get}
+use Rattle.determinize_table.proofs.Common.{inl, inr, IsAt, IsInterned, IsKept, IsWritten, length, List, list_any}
 use Rattle.determinize_table.proofs.Common.{Ok, Option, refl, same, slice_get, slice_get-get_or, slice_get_within}
-use Rattle.determinize_table.proofs.Common.{slice_set, Some, StoredTable, sym, Table, table_of, true, Value, with_state}
+use Rattle.determinize_table.proofs.Common.{Some, StoredTable, sym, Table, table_of, true, Value, with_state}
 use Rattle.determinize_table.proofs.Common.{with_target, with_transition}
-use Rattle.determinize_table.proofs.Common.{with_value, ℕ, ◌*◌, ◌+◌, ◌<◌, ◌∙◌, ◌≡◌}
+use Rattle.determinize_table.proofs.Common.{with_value, ℕ, ◌<◌, ◌∙◌, ◌≡◌}
 use Rattle.std.proofs.lemmas.Result.{on_err_weaker, on_ok_weaker}
 use Rattle.std.specs.Prelude.{Err, nat_le, Result}
 use Rattle.determinize_table.specs.Cursors.{IsIndexBefore}
@@ -17,7 +17,6 @@ use Rattle.determinize_table.specs.declared.table.Cursor.{Cursor}
 use Rattle.determinize_table.specs.declared.table.Cursor.TheVariants.{Cached, Uncached}
 use Rattle.determinize_engine.specs.States.{IsIndex}
 use Rattle.determinize_engine.proofs.Places.{not_none, same-or, there}
-use Rattle.determinize_table.proofs.TableRows.{rows-set, rows-store, table-is}
 use Rattle.determinize_table.proofs.Values.{any_with, get_with, length_with}
 
 -- the values at ids, and how many there are with one more
@@ -59,17 +58,18 @@ pub kept-cleared : {A E : Type 0} {old mid : StoredTable} {kept : Table} {w : Va
 kept-cleared {old = old} cleared =
     record { at = tt; table = tt; starts = no_starts old cleared; failed = inl cleared.table }
 
--- the transition does not fit: it is kept in an empty table, or does not fit there either
-module _ {old mid : StoredTable} (cleared : IsEmpty mid) (limit : ℕ) (v w x : Value) (u : Option ℕ)
-    (full : fits limit (table_of old) v u w ≡ false) (source : x ≡ v) where
+-- the transitions do not fit: they are kept in an empty table, or do not fit there either
+module _ {old mid : StoredTable} (cleared : IsEmpty mid) (limit : ℕ) (over : Option ℕ → Bool) (v w x : Value)
+    (full : fits limit (table_of old) v w ≡ false) (source : x ≡ v) where
   pub kept-alone : {A E : Type 0} {r : Result (Cursor A) E} {new : StoredTable}
       → nat_le (length (with_value (with_value mid.states x) w)) limit ≡ true
-      → IsKept mid (with_transition (table_of mid) x u w) w r new
-      → IsKept old (keep limit (table_of old) v u w) w r new
+      → IsKept mid (with_transition over (table_of mid) x w) w r new
+      → IsKept old (keep over limit (table_of old) v w) w r new
   kept-alone {r = r} fit kept =
-      let alone : fits limit empty v u w ≡ true = rw (no_states cleared, source) at fit in
-      let is : with_transition (table_of mid) x u w ≡ with_transition empty v u w =
-      ap (λ (t : Table). with_transition t x u w) cleared.table ∙ ap (λ x. with_transition empty x u w) source in record {
+      let alone : fits limit empty v w ≡ true = rw (no_states cleared, source) at fit in
+      let is : with_transition over (table_of mid) x w ≡ with_transition over empty v w =
+      ap (λ (t : Table). with_transition over t x w) cleared.table ∙ ap (λ x. with_transition over empty x w) source
+      in record {
         at = kept.at;
         table = on_ok_weaker r (λ e. rw (full, alone) (e ∙ is)) kept.table;
         starts = λ i k is. not_none (sym (kept.starts i k is).0 ∙ cleared.starts i);
@@ -77,9 +77,9 @@ module _ {old mid : StoredTable} (cleared : IsEmpty mid) (limit : ℕ) (v w x : 
       }
 
   pub kept-none : {A E : Type 0} → nat_le (length (with_value (with_value mid.states x) w)) limit ≡ false
-      → IsKept {A = A} {E = E} old (keep limit (table_of old) v u w) w (Ok (Uncached w)) mid
+      → IsKept {A = A} {E = E} old (keep over limit (table_of old) v w) w (Ok (Uncached w)) mid
   kept-none fit =
-      let alone : fits limit empty v u w ≡ false = rw (no_states cleared, source) at fit in record {
+      let alone : fits limit empty v w ≡ false = rw (no_states cleared, source) at fit in record {
         at = record { cursor_is = none_in cleared w; value = refl };
         table = rw (full, alone) cleared.table;
         starts = no_starts old cleared;
@@ -100,33 +100,32 @@ module _ {E : Type 0} {old mid : StoredTable} {v : Value} {s : ℕ} (first : IsI
       let same_source = get_or_from_slice_get mid.states s v dead first.id in
       grind (arith, any_with old.states v w, get_with old.states v w, states_with)
 
-  -- the target is interned, too: the row of the source is there
-  pub entry_inside : {new : StoredTable} {w : Value} {t row k len : ℕ} → IsInterned {E = E} mid w (Ok t) new
-      → IsStored new.states new.rows → row ≡ s * 258 → k < 257 → len ≡ length new.rows
-      → row + k < len
-  entry_inside {new} {w} second is row_is small len_is =
-      let more : new.states ≡ with_value mid.states w = ap (λ (x : Table). x.states) second.table in
-      let inside = slice_get_within new.states s v (rw more (get_with mid.states w v s first.id)) in
-      omega (arith, inside, is.size, row_is, small, len_is)
+  -- the target is interned, too
+  module _ {next : StoredTable} {w : Value} {t : ℕ} (second : IsInterned {E = E} mid w (Ok t) next) where
+    states_next : next.states ≡ with_value mid.states w
+    states_next = ap (λ (x : Table). x.states) second.table
 
-  -- writing its entry keeps the transition
-  pub transition-kept : {new : StoredTable} {w : Value} {t : ℕ} (u : Option ℕ) → IsInterned {E = E} mid w (Ok t) new
-      → IsStored new.states new.rows → is_unit u ≡ true
-      → IsStored new.states (slice_set new.rows (s * 258 + column u) (t * 258))
-      × ((A : Type 0) → IsKept {A = A} {E = E} old (with_transition (table_of old) v u w) w (Ok (Cached t))
-      (record new { rows = slice_set new.rows (s * 258 + column u) (t * 258) }))
-  transition-kept {new} {w} {t} u second is unit =
-      let more : new.states ≡ with_value mid.states w = ap (λ (x : Table). x.states) second.table in
-      let r = rows-set is s t v w u (rw more (get_with mid.states w v s first.id)) second.id unit in (
-        rows-store r,
-        λ A. record {
-          at = at_id new.states t w second.id;
-          table = table-is r ∙ ap (λ (x : Table). record x { target = with_target x.target v u w })
-              (second.table ∙ ap (λ (x : Table). with_state x w) first.table);
-          starts = λ i k kept. (
-            rw (second.starts, first.starts) at kept,
-            λ x at. rw (more, states_with) (get_with (with_value old.states v) w x k (get_with old.states v x k at)),
-          );
-          failed = tt;
-        },
-      )
+    source_at : slice_get next.states s ≡ Some v
+    source_at = rw states_next (get_with mid.states w v s first.id)
+
+    pub source_there : s < length next.states
+    source_there = slice_get_within next.states s v source_at
+
+    pub target_there : t < length next.states
+    target_there = slice_get_within next.states t w second.id
+
+    -- writing transitions between the two keeps them
+    pub transitions-kept : {A : Type 0} {over : Option ℕ → Bool} {new : StoredTable} → IsWritten over next s t new
+        → IsKept {A = A} {E = E} old (with_transition over (table_of old) v w) w (Ok (Cached t)) new
+    transitions-kept {over = over} {new} wrote = record {
+      at = at_id new.states t w (rw wrote.states second.id);
+      table = wrote.table v w source_at second.id
+          ∙ ap (λ (x : Table). record { states = x.states; target = with_target over x.target v w })
+          (second.table ∙ ap (λ (x : Table). with_state x w) first.table);
+      starts = λ i k kept. (
+        rw (wrote.starts, second.starts, first.starts) at kept,
+        λ x at. rw (wrote.states, states_next, states_with)
+            (get_with (with_value old.states v) w x k (get_with old.states v x k at)),
+      );
+      failed = tt;
+    }

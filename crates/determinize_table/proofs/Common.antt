@@ -13,8 +13,8 @@ pub use Rattle.determinize_core.specs.Equality.{same}
 pub use Rattle.determinize_engine.specs.States.{EachApart}
 pub use Rattle.determinize_table.specs.Cursors.{IsAt}
 pub use Rattle.determinize_table.specs.Rows.{AreRows, IsStored, Leads, StoredTable, table_of, with_state}
-pub use Rattle.determinize_table.specs.Changes.{IsInterned, IsKept}
+pub use Rattle.determinize_table.specs.Changes.{IsInterned, IsKept, IsWritten}
 pub use Rattle.determinize_table.specs.Tags.{tag_in, tag_of}
 pub use Rattle.determinize_table.specs.Stored.{column, entry_at, is_unit, state_at, table_in, target_in}
-pub use Rattle.determinize_table.specs.Table.{empty, index_in, IsTable, same_unit, Table, with_target, with_transition}
-pub use Rattle.determinize_table.specs.Table.{with_value}
+pub use Rattle.determinize_table.specs.Table.{empty, in_one_class, index_in, IsTable, same_unit, shares, Table}
+pub use Rattle.determinize_table.specs.Table.{with_target, with_transition, with_value}

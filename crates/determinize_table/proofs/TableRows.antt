@@ -6,14 +6,14 @@
 use Rattle.determinize_table.proofs.Common.{[], AreRows, arith, by_cases, by_option, column, drop, entry_at, false}
 use Rattle.determinize_table.proofs.Common.{index_in, is_unit, IsStored, Leads, length, length-set, List, list_any}
 use Rattle.determinize_table.proofs.Common.{None, Option, replicate, same, slice_get, slice_get_within, slice_index}
-use Rattle.determinize_table.proofs.Common.{slice_set, Some, state_at, sym, table_in, tag_in, tag_of, take, target_in}
+use Rattle.determinize_table.proofs.Common.{shares, slice_set, Some, state_at, sym, table_in, tag_in, tag_of, take, target_in}
 use Rattle.determinize_table.proofs.Common.{true, Value, with_state, with_target, ℕ, ◌*◌, ◌++◌, ◌+◌, ◌-◌, ◌/◌, ◌<◌, ◌∙◌}
 use Rattle.determinize_table.proofs.Common.{◌∷◌, ◌≡◌, ◌≢◌}
 use Rattle.std.proofs.lemmas.Bool.Decides.{nat_tests}
 use Rattle.std.proofs.lemmas.Grind.{get_or-set_at}
 use Rattle.std.proofs.lemmas.List.{places}
 use Rattle.determinize_engine.proofs.Places.{apart-push, get_more, get_push, not_both, there}
-use Rattle.determinize_table.proofs.Values.{index_is, none_passes, with_target-by}
+use Rattle.determinize_table.proofs.Values.{Decides-unit, index_is, none_passes, with_target-by}
 
 column-lt : (u : Option ℕ) → is_unit u ≡ true → column u < 257
 column-lt u h = grind (arith, nat_tests)
@@ -88,14 +88,16 @@ module _ {states : List Value} {rows : List ℕ} {target : Value → Option ℕ 
     abbrev written : List ℕ
     written = slice_set rows (s * 258 + column u) (t * 258)
 
-    pub rows-set : AreRows states written (with_target target v u w)
+    pub rows-set : AreRows states written (with_target (shares None u) target v w)
     rows-set = let inside = slice_get_within states s v at_s in record {
       size = length-set rows (s * 258 + column u) (t * 258) ∙ r.size;
       apart = r.apart;
-      entries = λ p x y at unit_y. with_target-by target v u w x y (λ o. Leads states (entry_at written p y) o)
-          (λ (x_is, y_is). let p_is = r.apart p s v (rw x_is at at) at_s in
+      entries = λ p x y at unit_y. with_target-by (shares None u) target v w x y (λ o. Leads states (entry_at written p y) o)
+          (λ (x_is, over). let y_is = (Decides-unit y u).0 over in
+          let p_is = r.apart p s v (rw x_is at at) at_s in
           (t, grind (arith, places, get_or-set_at {X = ℕ}, r.size, column-lt u unit), at_t))
-          (λ no. let e : entry_at written p y ≡ entry_at rows p y = grind (
+          (λ none. let no : (x ≡ v) × (y ≡ u) → ⊥ = λ (x_is, y_is). none (x_is, (Decides-unit y u).1 y_is) in
+          let e : entry_at written p y ≡ entry_at rows p y = grind (
             arith,
             places,
             get_or-set_at {X = ℕ},
@@ -105,8 +107,8 @@ module _ {states : List Value} {rows : List ℕ} {target : Value → Option ℕ 
             no,
           ) in
           rw e (r.entries p x y at unit_y));
-      others = λ x y never. with_target-by target v u w x y (λ o. o ≡ None)
-          (λ (x_is, y_is). absurd (never s (rw x_is at_s) (rw y_is unit))) (λ _. r.others x y never);
+      others = λ x y never. with_target-by (shares None u) target v w x y (λ o. o ≡ None)
+          (λ (x_is, over). absurd (never s (rw x_is at_s) (rw ((Decides-unit y u).0 over) unit))) (λ _. r.others x y never);
       tags = λ p x at. grind (arith, places, get_or-set_at {X = ℕ}, column-lt u unit, r.tags p x at);
     }
 

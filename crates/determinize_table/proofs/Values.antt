@@ -4,7 +4,7 @@
 -- Idea: `same` decides equality, so each test in a definition is one for equal values.
 use Rattle.determinize_table.proofs.Common.{[], ap, arith, Bool, by_test, cond, Contains, Decides, EachApart, false}
 use Rattle.determinize_table.proofs.Common.{index_in, inl, length, length_push, List, list_any, None, Option}
-use Rattle.determinize_table.proofs.Common.{position_from, refl, same, same_unit, slice_get, Some, suc, sym, Value}
+use Rattle.determinize_table.proofs.Common.{position_from, refl, same, same_unit, slice_get, Some, suc, sym, true, Value}
 use Rattle.determinize_table.proofs.Common.{with_target, with_value, ℕ, ◌&&◌, ◌+◌, ◌||◌, ◌∷◌, ◌≡◌, ◌⊎◌}
 use Rattle.std.proofs.lemmas.Bool.Decides.{Decides-and, nat_tests}
 use Rattle.std.proofs.lemmas.List.Elements.{Contains-append_left, Contains-push, Contains-push_cases}
@@ -13,16 +13,16 @@ use Rattle.std.proofs.lemmas.Map.Views.{Contains-from_any}
 use Rattle.determinize_state.specs.Equality.{Decides-same}
 use Rattle.determinize_engine.proofs.Places.{apart-push, get_more, not_both, not_none, same-or, same_is, same_laws}
 
-Decides-unit : (u w : Option ℕ) → Decides (same_unit u w) (u ≡ w)
+pub Decides-unit : (u w : Option ℕ) → Decides (same_unit u w) (u ≡ w)
 Decides-unit u w = grind (arith, nat_tests)
 
--- the target of a transition in a table with one more: of the new one, or of another
-pub with_target-by : (target : Value → Option ℕ → Option Value) (v : Value) (u : Option ℕ) (w x : Value) (y : Option ℕ)
-    (P : Option Value → Type 0) → ((x ≡ v) × (y ≡ u) → P (Some w)) → (((x ≡ v) × (y ≡ u) → ⊥) → P (target x y))
-    → P (with_target target v u w x y)
-with_target-by target v u w x y P new old =
-    let both = Decides-and (same x v) (same_unit y u) (Decides-same x v) (Decides-unit y u) in
-    by_test (same x v && same_unit y u) (λ e. rw e (new (both.0 e))) (λ e. rw e (old (λ is. not_both (both.1 is) e)))
+-- the target of a transition in a table with some more: of a new one, or of another
+pub with_target-by : (over : Option ℕ → Bool) (target : Value → Option ℕ → Option Value) (v w x : Value) (y : Option ℕ)
+    (P : Option Value → Type 0) → ((x ≡ v) × (over y ≡ true) → P (Some w))
+    → (((x ≡ v) × (over y ≡ true) → ⊥) → P (target x y)) → P (with_target over target v w x y)
+with_target-by over target v w x y P new old =
+    let both = Decides-and (same x v) (over y) (Decides-same x v) (λ e. e, λ e. e) in
+    by_test (same x v && over y) (λ e. rw e (new (both.0 e))) (λ e. rw e (old (λ is. not_both (both.1 is) e)))
 
 pub none_passes : {K : Type 0} (t : K → Bool) (xs : List K) (i : ℕ) → position_from t i xs ≡ None
     → list_any t xs ≡ false

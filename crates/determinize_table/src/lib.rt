@@ -13,7 +13,8 @@
 //! - A *cursor* is a place of a walk or a search: the id of a cached state, or a state that is not
 //!   cached.
 //!
-//! `TransitionTable::keep` (`table`) caches a computed transition with its two states. If the table
+//! `TransitionTable::keep` (`table`) caches a computed transition with its two states and, if it is
+//! given classes of bytes (`spans`), the same over each byte of the class of its byte. If the table
 //! would then have more than `limit` states, it is cleared first; if `limit` is less than the count
 //! of these two states, it stays empty. It is also cleared if adding the target fails, since the
 //! source may just have been added and would be in no transition. No single state or transition is
@@ -24,10 +25,12 @@
 //! A `Result` is `Err` if an allocation fails or more than 16647160 states would be cached.
 #![tactic(auto)]
 
+mod spans;
 mod state_id;
 mod table;
 mod tag;
 
+pub use crate::spans::ClassSpans;
 pub use crate::state_id::LazyStateId;
 pub use crate::table::{Cursor, TransitionTable};
 pub use crate::tag::{LastMatch, StateTag};

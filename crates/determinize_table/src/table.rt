@@ -3,18 +3,20 @@
 
 ghost use Rattle.std.specs.Prelude.{◌≡◌, ◌*◌, ◌<◌, ◌≤◌, false, true, length, min, nat_le, slice_get, slice_index_or, slice_set, IfOk, None, Some};
 ghost use Rattle.std.specs.List.{list_any};
+ghost use Rattle.std.specs.Option.{option_copied};
 ghost use Rattle.determinize_core.specs.Equality.{same};
 ghost use Rattle.determinize_core.specs.Value.{Value as StateValue};
 ghost use Rattle.determinize_engine.specs.States.{IsIndex};
 ghost use Rattle.determinize_start.specs.StartSlots.{slot_number};
-ghost use Rattle.determinize_table.specs.Changes.{IsInterned, IsKept};
+ghost use Rattle.determinize_table.specs.Changes.{IsInterned, IsKept, IsWritten};
 ghost use Rattle.determinize_table.specs.Cursors.{IsCursor, IsIndexBefore, cursor_value};
 ghost use Rattle.determinize_table.specs.CacheBytes.{cache_bytes};
 ghost use Rattle.determinize_table.specs.Rows.{IsEmpty, IsTarget, table_of};
 ghost use Rattle.determinize_table.specs.Stored.{column, is_unit};
-ghost use Rattle.determinize_table.specs.Table.{keep, with_transition, with_value};
+ghost use Rattle.determinize_table.specs.Table.{in_one_class, keep, shares, with_transition, with_value};
 ghost use Rattle.determinize_table.specs.Tags.{tag_in, tag_of};
 
+use crate::spans::ClassSpans;
 use crate::state_id::{COLUMNS, LazyStateId, UNITS};
 use crate::tag::StateTag;
 use determinize_core::start::StartSlot;
@@ -266,8 +268,63 @@ impl<A: Allocator + Copy> TransitionTable<A> {
         }
     }
 
-    /// Caches the transition from `source` over `unit` to `target`, and both states. Returns the
-    /// cursor of the target. `found` is the id of the target, if it is cached.
+    /// Caches the transition between two cached states over a unit.
+    #[inline(always)]
+    fn write(&mut self, source: LazyStateId, unit: Option<u8>, target: LazyStateId)
+        requires source { source < length self.old.states }
+        requires target { target < length self.old.states }
+        ensures { IsWritten (shares None unit) self.old source target self.new }
+    {
+        self.rows[source.row() + column(unit)] = target.entry();
+    }
+
+    /// Caches the transitions between two cached states over each byte of the class of a byte.
+    #[inline(always)]
+    fn write_class(
+        &mut self,
+        source: LazyStateId,
+        byte: u8,
+        target: LazyStateId,
+        spans: &ClassSpans,
+    )
+        requires source { source < length self.old.states }
+        requires target { target < length self.old.states }
+        ensures { IsWritten (in_one_class spans.now (Some byte)) self.old source target self.new }
+    {
+        for other in spans.start(byte)..spans.end(byte) {
+            if spans.are_in_one(byte, other as u8) {
+                self.write(source, Some(other as u8), target);
+            }
+        }
+    }
+
+    /// Caches the transitions between two cached states over a unit and, if there are classes, over
+    /// each byte of its class.
+    #[inline(always)]
+    fn write_shared(
+        &mut self,
+        source: LazyStateId,
+        unit: Option<u8>,
+        target: LazyStateId,
+        spans: Option<&ClassSpans>,
+    )
+        requires source { source < length self.old.states }
+        requires target { target < length self.old.states }
+        ensures { IsWritten (shares (option_copied spans.entry) unit) self.old source target
+            self.new }
+    {
+        self.write(source, unit, target);
+        let Some(spans) = spans else {
+            return;
+        };
+        match unit {
+            Some(byte) => self.write_class(source, byte, target, spans),
+            None => {}
+        }
+    }
+
+    /// Caches the transition from `source` over `unit` to `target`, those that share it, and both
+    /// states. Returns the cursor of the target. `found` is the id of the target, if it is cached.
     ///
     /// If an allocation fails, the table is unchanged or empty.
     #[inline(always)]
@@ -277,16 +334,18 @@ impl<A: Allocator + Copy> TransitionTable<A> {
         unit: Option<u8>,
         target: State<A>,
         found: Option<LazyStateId>,
+        spans: Option<&ClassSpans>,
     ) -> Result<Cursor<A>, AllocError>
         requires source { IsCursor self.old.states source }
         requires found { IsIndex self.old.states target found }
-        ensures { IsKept self.old (with_transition (table_of self.old)
-            (cursor_value self.old.states source) unit target) target result self.new }
+        ensures { IsKept self.old (with_transition (shares (option_copied spans.entry) unit)
+            (table_of self.old) (cursor_value self.old.states source) target) target result
+            self.new }
     {
         let source = self.intern(source)?;
         match self.intern_after(source, target, found) {
             Ok(target) => {
-                self.rows[source.row() + column(unit)] = target.entry();
+                self.write_shared(source, unit, target, spans);
                 Ok(Cursor::Cached(target))
             }
             Err(failed) => {
@@ -298,7 +357,8 @@ impl<A: Allocator + Copy> TransitionTable<A> {
     }
 
     /// Caches a computed transition if it fits within `limit` states, after clearing the table if
-    /// it does not fit with the rest. Returns the cursor of its target.
+    /// it does not fit with the rest. With classes, caches it over each byte of the class of its
+    /// unit. Returns the cursor of its target.
     ///
     /// If an allocation fails, the table is unchanged or empty.
     pub fn keep(
@@ -307,20 +367,22 @@ impl<A: Allocator + Copy> TransitionTable<A> {
         unit: Option<u8>,
         following: State<A>,
         limit: usize,
+        spans: Option<&ClassSpans>,
     ) -> Result<Cursor<A>, AllocError>
         requires { IsCursor self.old.states source }
-        ensures { IsKept self.old (keep limit (table_of self.old)
-            (cursor_value self.old.states source) unit following) following result self.new }
+        ensures { IsKept self.old (keep (shares (option_copied spans.entry) unit) limit
+            (table_of self.old) (cursor_value self.old.states source) following) following result
+            self.new }
     {
         // A loop over many bytes leads back to its source over each of them.
         let found = self.find(&following, source.id());
         if self.fits(&source, &following, found, limit) {
-            return self.insert(source, unit, following, found);
+            return self.insert(source, unit, following, found, spans);
         }
         let source = Cursor::Uncached(self.into_state(source)?);
         self.clear();
         if self.fits(&source, &following, None, limit) {
-            return self.insert(source, unit, following, None);
+            return self.insert(source, unit, following, None, spans);
         }
         Ok(Cursor::Uncached(following))
     }

@@ -64,8 +64,8 @@ over-any o = record { last = o.last; after = o.after; failed = tt; grows = o.gro
 pub over-kept : {E : Type 0} {earliest : Bool} {us : List (Option ℕ)} {p : Place} {r : Result (Option HalfMatch) E}
     (v w : LazyValue) → IsOver earliest us p r (cache v) → w.nfa ≡ p.cache.nfa → w.kind ≡ p.cache.kind
     → w.limit ≡ p.cache.limit → w.states ≡ v.states → w.rows ≡ v.rows → w.computed ≡ v.computed
-    → IsOver earliest us p r (cache w)
-over-kept {earliest = earliest} {us} {p} {r} v w o nfa kind limit states rows computed =
+    → w.classes ≡ v.classes → IsOver earliest us p r (cache w)
+over-kept {earliest = earliest} {us} {p} {r} v w o nfa kind limit states rows computed classes =
     let n : v.nfa ≡ w.nfa = o.grows.nfa ∙ sym nfa in
     let k : v.kind ≡ w.kind = o.grows.kind ∙ sym kind in
     let l : v.limit ≡ w.limit = o.grows.limit ∙ sym limit in
@@ -75,6 +75,7 @@ over-kept {earliest = earliest} {us} {p} {r} v w o nfa kind limit states rows co
       limit = l i;
       table = table_in (sym states i) (sym rows i);
       computed = sym computed i;
+      classes = sym classes i;
     } in
     subst (λ (c : Cache). IsOver earliest us p r c) same o
 
@@ -193,7 +194,7 @@ next-cached x is at position u id looked bits tagged earliest told more last fou
             let last_is = found position.unmatched in
             let same = cached_step (cache x) v u id is.table (looked v there) in
             cc (tagged v there, w.value);
-        grows = record { nfa = refl; kind = refl; limit = refl; computed = omega arith };
+        grows = record { nfa = refl; kind = refl; limit = refl; classes = refl; computed = omega arith };
       },
     )
 

@@ -38,7 +38,7 @@ stepped_at old v u id sound target = record {
   resolve = step_resolves old.nfa sound.accepted old.kind v u;
   after = cached_step (cache old) v u id sound.table target;
   failed = tt;
-  grows = record { nfa = refl; kind = refl; limit = refl; computed = omega arith };
+  grows = record { nfa = refl; kind = refl; limit = refl; classes = refl; computed = omega arith };
 }
 
 -- the transition from a cursor is not cached, if none is from its cached state

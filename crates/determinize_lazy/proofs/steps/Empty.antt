@@ -2,8 +2,10 @@
 -- Main statements: empty_is_lazy.
 -- Used by: `Lazy::new`, `Lazy::into_kept`.
 -- Idea: the table of no states is that of each step function, and it keeps no start.
-use Rattle.determinize_lazy.proofs.Common.{ap, arith, length, sym, ℕ, Table, ◌≤◌, ◌∙◌}
+use Rattle.determinize_lazy.proofs.Common.{ap, arith, length, Option, sym, ℕ, Table, ◌≤◌, ◌∙◌}
 use Rattle.std.proofs.lemmas.List.Elements.{All-nil}
+use Rattle.std.specs.Option.{IfSome}
+use Rattle.determinize_below.specs.ByteClasses.{AreClassesOf, Classes}
 use Rattle.determinize_below.specs.Nfa.{IsAccepted}
 use Rattle.determinize_below.specs.Semantics.{Nfa}
 use Rattle.determinize_below.specs.declared.search.MatchKind.{MatchKind}
@@ -14,13 +16,15 @@ use Rattle.determinize_start.specs.StartSlots.{slot_number}
 use Rattle.determinize_table.proofs.Transitions.{empty-is}
 use Rattle.determinize_table.specs.Rows.{IsEmpty, StoredTable}
 
-pub empty_is_lazy : (nfa : Nfa) (kind : MatchKind) (limit computed : ℕ) (stored : StoredTable) → IsAccepted nfa
-    → computed ≤ 18446744073709551615 → IsEmpty stored → IsLazy nfa kind limit computed stored
-empty_is_lazy nfa kind limit computed stored accepted small is = record {
+pub empty_is_lazy : (nfa : Nfa) (kind : MatchKind) (limit computed : ℕ) (classes : Option Classes) (stored : StoredTable)
+    → IsAccepted nfa → computed ≤ 18446744073709551615 → IfSome classes (λ p. AreClassesOf nfa p) → IsEmpty stored
+    → IsLazy nfa kind limit computed classes stored
+empty_is_lazy nfa kind limit computed classes stored accepted small are is = record {
   sound = record {
     accepted = accepted;
     table = rw is.table (empty-is (step nfa kind));
     small = small;
+    classes = are;
   };
   within = omega (arith, ap (λ (t : Table). length t.states) is.table);
   resolve = let none = ap (λ (t : Table). t.states) is.table in rw none (All-nil _);

@@ -7,7 +7,7 @@ use Rattle.determinize_lazy.proofs.Common.{cond, Err, get_or, HalfMatch, IsAccep
 use Rattle.determinize_lazy.proofs.Common.{is_some}
 use Rattle.determinize_lazy.proofs.Common.{length, List, MatchKind, nat_eq, Nfa, None, Ok, Option, Place, refl}
 use Rattle.determinize_lazy.proofs.Common.{Result, Some, start_value, step_of, suc, sym, take, take_all, true}
-use Rattle.determinize_lazy.proofs.Common.{units_read}
+use Rattle.determinize_lazy.proofs.Common.{shared_by, units_read}
 use Rattle.determinize_lazy.proofs.Common.{Value, zero, ℕ, ◌+◌, ◌<◌, ◌∙◌, ◌∷◌, ◌≡◌, ◌≤◌, Bool}
 use Rattle.std.proofs.Common.{add-one, eqb-true}
 use Rattle.std.proofs.Math.Nat.{mul-le-mul_right}
@@ -137,7 +137,7 @@ small-walk (u ∷ us) c v accepted each one resolve =
     let next : IsSmall c.nfa (step_of c v u) = small-step c.nfa accepted c.kind v u resolve in
     small-walk us (after_step c v u) (step_of c v u) accepted
     (by_test (is_cached c.table v u) (λ e. rw e each)
-    (λ e. rw e (All-kept (IsSmall c.nfa) c.limit c.table v u (step_of c v u) each one next)))
+    (λ e. rw e (All-kept (IsSmall c.nfa) (shared_by c v u) c.limit c.table v (step_of c v u) each one next)))
     next (step_resolves c.nfa accepted c.kind v u)
 
 small-cut_off : {old : Cache} {v : Value} {us : List (Option ℕ)} {new : Cache} → IsAccepted old.nfa

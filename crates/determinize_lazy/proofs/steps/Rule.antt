@@ -2,12 +2,14 @@
 -- Main statements: All-kept, lazy-kept, stepped, lazy-sound.
 -- Used by: `compute`, `step`, `kept_start`; the general laws by searches and `determinize_find`, too.
 -- Idea: a step leaves the table that the rule keeps or, if it fails, the one before or none.
-use Rattle.determinize_lazy.proofs.Common.{[], AllResolve, arith, by_cases, by_test, Cache, cache, count_after, empty}
+use Rattle.determinize_lazy.proofs.Common.{[], AllResolve, arith, Bool, by_cases, by_test, Cache, cache, count_after, empty}
 use Rattle.determinize_lazy.proofs.Common.{Err, false, fits, Grows, inr, IsAccepted, is_cached, IsKept, IsLazy}
 use Rattle.determinize_lazy.proofs.Common.{IsSound, IsStepped, IsTable, keep, LazyValue, length, List, list_any}
 use Rattle.determinize_lazy.proofs.Common.{MatchKind, Nfa, Ok, OnErr, on_err_weaker, on_ok_weaker, Option, refl}
 use Rattle.determinize_lazy.proofs.Common.{Result, same, step_of, StoredTable, Table, table_of, Value, with_value, ℕ}
-use Rattle.determinize_lazy.proofs.Common.{◌∙◌, ◌≡◌, ◌≤◌}
+use Rattle.determinize_lazy.proofs.Common.{shared_by, shares, classes_from, sym, true, ◌∙◌, ◌≡◌, ◌≤◌}
+use Rattle.determinize_below.specs.ByteClasses.{Classes}
+use Rattle.determinize_lazy.proofs.steps.Sharing.{shared_steps, shares-self}
 use Rattle.std.proofs.lemmas.List.Elements.{All-nil, All-push}
 use Rattle.std.specs.Prelude.{All as Each}
 use Rattle.determinize_core.specs.Step.{step}
@@ -22,47 +24,55 @@ All-with_value : (P : Value → Type 0) (values : List Value) (v : Value) → Ea
 All-with_value P values v each one =
     by_test (list_any (same v) values) (λ e. rw e each) (λ e. rw e (All-push P values v each one))
 
-pub All-kept : (P : Value → Type 0) (limit : ℕ) (t : Table) (v : Value) (u : Option ℕ) (w : Value) → Each P t.states
-    → P v → P w → Each P (keep limit t v u w).states
-All-kept P limit t v u w each source next =
+pub All-kept : (P : Value → Type 0) (over : Option ℕ → Bool) (limit : ℕ) (t : Table) (v w : Value) → Each P t.states
+    → P v → P w → Each P (keep over limit t v w).states
+All-kept P over limit t v w each source next =
     let both = λ (values : List Value) (e : Each P values).
     All-with_value P (with_value values v) w (All-with_value P values v e source) next in
-    by_test (fits limit t v u w) (λ e. rw e (both t.states each))
-    (λ e. rw e (by_test (fits limit empty v u w) (λ k. rw k (both [] (All-nil P))) (λ k. rw k (All-nil P))))
+    by_test (fits limit t v w) (λ e. rw e (both t.states each))
+    (λ e. rw e (by_test (fits limit empty v w) (λ k. rw k (both [] (All-nil P))) (λ k. rw k (All-nil P))))
 
 -- the rule keeps a table of steps with at most `limit` states
-keep-is : (f : Value → Option ℕ → Value) (limit : ℕ) (t : Table) (v : Value) (u : Option ℕ) (w : Value) → IsTable f t
-    → w ≡ f v u → IsTable f (keep limit t v u w) × (length (keep limit t v u w).states ≤ limit)
-keep-is f limit t v u w is w_is = (
-  by_test (fits limit t v u w) (λ e. rw e (with_transition-is f t v w u is w_is))
-      (λ e. rw e (by_test (fits limit empty v u w)
-      (λ k. rw k (with_transition-is f empty v w u (empty-is f) w_is)) (λ k. rw k (empty-is f)))),
+keep-is : (f : Value → Option ℕ → Value) (over : Option ℕ → Bool) (limit : ℕ) (t : Table) (v w : Value) (u : Option ℕ)
+    → over u ≡ true → IsTable f t → ((y : Option ℕ) → over y ≡ true → w ≡ f v y)
+    → IsTable f (keep over limit t v w) × (length (keep over limit t v w).states ≤ limit)
+keep-is f over limit t v w u in_it is w_is = (
+  by_test (fits limit t v w) (λ e. rw e (with_transition-is f over t v w u in_it is w_is))
+      (λ e. rw e (by_test (fits limit empty v w)
+      (λ k. rw k (with_transition-is f over empty v w u in_it (empty-is f) w_is)) (λ k. rw k (empty-is f)))),
   grind arith,
 )
 
 -- after a transition was computed
-pub lazy-kept : {A E : Type 0} {nfa : Nfa} {kind : MatchKind} {limit count counted : ℕ} {t t' : StoredTable} {w : Value}
-    {r : Result (Cursor A) E} (v : Value) (u : Option ℕ) → IsLazy nfa kind limit count t → w ≡ step nfa kind v u
+pub lazy-kept : {A E : Type 0} {nfa : Nfa} {kind : MatchKind} {limit count counted : ℕ}
+    {classes : Option Classes} {t t' : StoredTable} {w : Value} {r : Result (Cursor A) E} (v : Value) (u : Option ℕ)
+    → IsLazy nfa kind limit count classes t → w ≡ step nfa kind v u
     → AllResolve nfa v.states → counted ≤ 18446744073709551615
-    → IsKept t (keep limit (table_of t) v u w) w r t' → IsLazy nfa kind limit counted t'
-lazy-kept {A} {E} {nfa} {kind} {limit} {t = t} {t' = t'} {w} {r} v u is w_is source small kept =
+    → IsKept t (keep (shares (classes_from nfa v classes) u) limit (table_of t) v w) w r t'
+    → IsLazy nfa kind limit counted classes t'
+lazy-kept {A} {E} {nfa} {kind} {limit} {classes = classes} {t = t} {t' = t'} {w} {r} v u is w_is source small kept =
     let f : Value → Option ℕ → Value = step nfa kind in
     let Resolves : Value → Type 0 = λ x. AllResolve nfa x.states in
     let next : Resolves w = rw w_is (step_resolves nfa is.sound.accepted kind v u) in
-    let (table, within) = keep-is f limit (table_of t) v u w is.sound.table w_is in record {
+    let over : Option ℕ → Bool = shares (classes_from nfa v classes) u in
+    let (table, within) = keep-is f over limit (table_of t) v w u (shares-self _ u) is.sound.table
+    (λ y in_it. w_is ∙ sym (shared_steps is.sound.accepted classes is.sound.classes kind v u y in_it)) in record {
       sound = record {
         accepted = is.sound.accepted;
         table = by r (IsTable f) kept table is.sound.table (empty-is f);
         small = small;
+        classes = is.sound.classes;
       };
       within = by r (λ (x : Table). length x.states ≤ limit) kept within is.within (omega arith);
       resolve = by r (λ (x : Table). Each Resolves x.states) kept
-          (All-kept Resolves limit (table_of t) v u w is.resolve source next) is.resolve (All-nil Resolves);
+          (All-kept Resolves over limit (table_of t) v w is.resolve source next) is.resolve (All-nil Resolves);
       starts = starts-stay nfa t t' is.starts kept.starts;
     }
   where
-    by : (r : Result (Cursor A) E) (P : Table → Type 0) → IsKept t (keep limit (table_of t) v u w) w r t'
-        → P (keep limit (table_of t) v u w) → P (table_of t) → P empty → P (table_of t')
+    kept_table : Table
+    kept_table = keep (shares (classes_from nfa v classes) u) limit (table_of t) v w
+
+    by : (r : Result (Cursor A) E) (P : Table → Type 0) → IsKept t kept_table w r t' → P kept_table → P (table_of t) → P empty → P (table_of t')
     by (Ok x) P kept new old none = rw kept.table new
     by (Err x) P kept new old none = by_cases kept.failed (λ e. rw e none) (λ e. rw e old)
 
@@ -70,20 +80,29 @@ lazy-kept {A} {E} {nfa} {kind} {limit} {t = t} {t' = t'} {w} {r} v u is w_is sou
 pub stepped : {A E : Type 0} (old : LazyValue) {t t' : StoredTable} {v : Value} (u : Option ℕ) {r : Result (Cursor A) E}
     → IsAccepted old.nfa → old.computed ≤ 18446744073709551615 → is_cached (cache old).table v u ≡ false
     → table_of t ≡ (cache old).table
-    → IsKept t (keep old.limit (cache old).table v u (step_of (cache old) v u)) (step_of (cache old) v u) r t'
+    → IsKept t (keep (shared_by (cache old) v u) old.limit (cache old).table v (step_of (cache old) v u))
+    (step_of (cache old) v u) r t'
     → IsStepped old v u r (record old { states = t'.states; rows = t'.rows; computed = count_after old.computed 1 })
 stepped old {v = v} u {r} accepted small absent table_is kept = record {
   at = kept.at;
   resolve = step_resolves old.nfa accepted old.kind v u;
   after = on_ok_weaker r (λ e. rw (absent, ← e) refl) kept.table;
   failed = on_err_weaker r (λ e. record { table = rw table_is at e; counted = inr (rw absent refl) }) kept.failed;
-  grows = record { nfa = refl; kind = refl; limit = refl; computed = grind (arith, small) };
+  grows = record { nfa = refl; kind = refl; limit = refl; classes = refl; computed = grind (arith, small) };
 }
 
 -- what is true of a `Lazy` is true of its cache
-pub lazy-sound : {nfa : Nfa} {kind : MatchKind} {limit count : ℕ} {t : StoredTable} {x : LazyValue}
-    → IsLazy nfa kind limit count t
-    → record { nfa = nfa; kind = kind; limit = limit; states = t.states; rows = t.rows; computed = count } ≡ x
+pub lazy-sound : {nfa : Nfa} {kind : MatchKind} {limit count : ℕ} {classes : Option Classes} {t : StoredTable}
+    {x : LazyValue} → IsLazy nfa kind limit count classes t
+    → record {
+      nfa = nfa;
+      kind = kind;
+      limit = limit;
+      states = t.states;
+      rows = t.rows;
+      computed = count;
+      classes = classes;
+    } ≡ x
     → IsSound (cache x)
 lazy-sound is view_is = rw (← view_is) is.sound
 
@@ -92,6 +111,7 @@ grows-more g h = record {
   nfa = h.nfa ∙ g.nfa;
   kind = h.kind ∙ g.kind;
   limit = h.limit ∙ g.limit;
+  classes = h.classes ∙ g.classes;
   computed = omega (arith, g.computed, h.computed);
 }
 

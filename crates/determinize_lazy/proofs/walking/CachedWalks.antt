@@ -7,7 +7,7 @@ use Rattle.determinize_lazy.proofs.Common.{count_after, drop, future, future_is,
 use Rattle.determinize_lazy.proofs.Common.{is_cached, IsCutOff, IsFailedStep, IsWalking, length, List, MatchKind, Nfa}
 use Rattle.determinize_lazy.proofs.Common.{Option, refl, slice_get, slice_get_within, Some, start_value, step_of, suc}
 use Rattle.determinize_lazy.proofs.Common.{sym, take, take_all, Text, units, Value, zero, ℕ, ◌++◌, ◌+◌, ◌∙◌, ◌∷◌, ◌≡◌}
-use Rattle.determinize_lazy.proofs.Common.{◌≤◌}
+use Rattle.determinize_lazy.proofs.Common.{shared_by, ◌≤◌}
 use Rattle.std.proofs.Common.{add-one}
 use Rattle.std.proofs.lemmas.List.{drop_more}
 use Rattle.determinize_core.specs.Chain.{chain}
@@ -16,10 +16,14 @@ use Rattle.determinize_lazy.specs.Cache.{EachWalkComputesFew}
 use Rattle.determinize_lazy.specs.Walkers.{IsWalkedTo}
 use Rattle.determinize_engine.proofs.Places.{not_none, of_some}
 
--- the steps stay
+-- the steps stay, and which of them are shared
 pub same_steps : (us : List (Option ℕ)) (c : Cache) (v : Value) → step_of (after_walk c v us) ≡ step_of c
 same_steps [] c v = refl
 same_steps (u ∷ us) c v = same_steps us (after_step c v u) (step_of c v u)
+
+pub same_sharing : (us : List (Option ℕ)) (c : Cache) (v : Value) → shared_by (after_walk c v us) ≡ shared_by c
+same_sharing [] c v = refl
+same_sharing (u ∷ us) c v = same_sharing us (after_step c v u) (step_of c v u)
 
 -- the part of a list from an index on
 pub drop-one : {K : Type 0} (xs : List K) (i : ℕ) (x : K) → slice_get xs i ≡ Some x → drop i xs ≡ x ∷ drop (i + 1) xs

@@ -6,35 +6,45 @@ use Rattle.determinize_lazy.proofs.Common.{[], after_step, after_walk, arith, Bo
 use Rattle.determinize_lazy.proofs.Common.{fits, future, future_is, HasRoom, is_cached, IsSound, IsTable, KeepsAll}
 use Rattle.determinize_lazy.proofs.Common.{length, List, list_any, list_any-from_Contains, missing, Option, refl, same}
 use Rattle.determinize_lazy.proofs.Common.{step_of, Table, tail, true, Value, with_step, with_value, with_values}
-use Rattle.determinize_lazy.proofs.Common.{with_walk, ℕ, ◌+◌, ◌∙◌, ◌∷◌, ◌≡◌, ◌≤◌}
+use Rattle.determinize_lazy.proofs.Common.{classes_from, IsAccepted, shared_by, sym, with_walk, ℕ, ◌+◌, ◌∙◌, ◌∷◌, ◌≡◌, ◌≤◌}
 use Rattle.determinize_table.proofs.Transitions.{not_source, with_target-new, with_transition-is}
 use Rattle.determinize_table.proofs.Values.{has_new, length_with}
 use Rattle.determinize_engine.proofs.Places.{same_laws}
-use Rattle.determinize_lazy.proofs.walking.CachedWalks.{same_steps}
+use Rattle.determinize_lazy.proofs.walking.CachedWalks.{same_sharing, same_steps}
+use Rattle.determinize_lazy.proofs.steps.Sharing.{shared_steps, shares-self}
+use Rattle.std.specs.Option.{IfSome}
+use Rattle.determinize_below.specs.ByteClasses.{AreClassesOf}
 
-module _ (f : Value → Option ℕ → Value) where
+module _ (f : Value → Option ℕ → Value) (shared : Value → Option ℕ → Option ℕ → Bool)
+    (self : (v : Value) (u : Option ℕ) → shared v u u ≡ true) where
   -- the transition of a step is cached then, and what was cached still is
-  step-cached : (t : Table) (v : Value) (u : Option ℕ) → is_cached (with_step f t v u) v u ≡ true
-  step-cached t v u = grind (arith, with_target-new t.target v u (f v u))
+  step-cached : (t : Table) (v : Value) (u : Option ℕ) → is_cached (with_step f shared t v u) v u ≡ true
+  step-cached t v u = grind (arith, with_target-new (shared v u) t.target v (f v u) u (self v u))
 
   step-keeps : (t : Table) (v : Value) (u : Option ℕ) (x : Value) (y : Option ℕ) → is_cached t x y ≡ true
-      → is_cached (with_step f t v u) x y ≡ true
+      → is_cached (with_step f shared t v u) x y ≡ true
   step-keeps t v u x y h = grind arith
 
   walk-keeps : (us : List (Option ℕ)) (t : Table) (v x : Value) (y : Option ℕ) → is_cached t x y ≡ true
-      → is_cached (with_walk f t v us) x y ≡ true
+      → is_cached (with_walk f shared t v us) x y ≡ true
   walk-keeps [] t v x y h = h
-  walk-keeps (u ∷ us) t v x y h = walk-keeps us (with_step f t v u) (f v u) x y (step-keeps t v u x y h)
+  walk-keeps (u ∷ us) t v x y h =
+      walk-keeps us (with_step f shared t v u) (f v u) x y (step-keeps t v u x y h)
 
 -- a walk changes nothing if all transitions are cached that it adds to some table
 unchanged : (c : Cache) (us : List (Option ℕ)) (t : Table) (v : Value)
-    → ((x : Value) (y : Option ℕ) → is_cached (with_walk (step_of c) t v us) x y ≡ true → is_cached c.table x y ≡ true)
+    → ((x : Value) (y : Option ℕ) → is_cached (with_walk (step_of c) (shared_by c) t v us) x y ≡ true
+    → is_cached c.table x y ≡ true)
     → after_walk c v us ≡ c
 unchanged c [] t v h = refl
 unchanged c (u ∷ us) t v h =
     let f : Value → Option ℕ → Value = step_of c in
-    let here = h v u (walk-keeps f us (with_step f t v u) (f v u) v u (step-cached f t v u)) in
-    rw here (unchanged c us (with_step f t v u) (f v u) h)
+    let shared : Value → Option ℕ → Option ℕ → Bool = shared_by c in
+    let self : (x : Value) (y : Option ℕ) → shared x y y ≡ true =
+    λ x y. shares-self (classes_from c.nfa x c.classes) y in
+    let here = h v u (walk-keeps f shared self us (with_step f shared t v u) (f v u) v u
+    (step-cached f shared self t v u)) in
+    rw here (unchanged c us (with_step f shared t v u) (f v u) h)
 
 -- with a walk there are no fewer values
 longer_after : (vs values : List Value) → length values ≤ length (with_values values vs)
@@ -49,13 +59,14 @@ twice values v vs = rw (list_any-from_Contains same_laws v (with_value values v)
 
 -- a step for which there is room adds its transition, unless it is cached, and leaves room for the steps after it
 record HasStep (c : Cache) (v : Value) (u : Option ℕ) (us : List (Option ℕ)) : Type 0 where
-  table : (after_step c v u).table ≡ with_step (step_of c) c.table v u
+  table : (after_step c v u).table ≡ with_step (step_of c) (shared_by c) c.table v u
   is : IsTable (step_of c) (after_step c v u).table
   room : HasRoom (after_step c v u) (step_of c v u) us
 
-has_step : (c : Cache) (v : Value) (u : Option ℕ) (us : List (Option ℕ)) → IsTable (step_of c) c.table
-    → HasRoom c v (u ∷ us) → HasStep c v u us
-has_step c v u us is room =
+has_step : (c : Cache) (v : Value) (u : Option ℕ) (us : List (Option ℕ)) → IsAccepted c.nfa
+    → IfSome c.classes (λ p. AreClassesOf c.nfa p) → IsTable (step_of c) c.table → HasRoom c v (u ∷ us)
+    → HasStep c v u us
+has_step c v u us accepted are is room =
     let next : Value = step_of c v u in
     let with_source : List Value = with_value c.table.states v in
     let listed = future_is c.nfa c.kind next us in
@@ -64,24 +75,26 @@ has_step c v u us is room =
     (λ e. let source : list_any (same v) c.table.states ≡ true =
     grind (arith, e, not_source (step_of c) c.table v u is) in
     record { table = rw e refl; is = rw e is; room = rw e (rw source at r) })
-    (λ e. let fit : fits c.limit c.table v u next ≡ true =
+    (λ e. let fit : fits c.limit c.table v next ≡ true =
     grind (arith, longer_after (tail c.nfa c.kind next us) (with_value with_source next), rw listed at r) in
     record {
       table = rw (e, fit) refl;
-      is = rw (e, fit) (with_transition-is (step_of c) c.table v next u is refl);
+      is = rw (e, fit) (with_transition-is (step_of c) (shared_by c v u) c.table v next u (shares-self _ u) is
+          (λ y in_it. sym (shared_steps accepted c.classes are c.kind v u y in_it)));
       room = rw (e, fit, listed) (rw (twice with_source next _) at (rw listed at r));
     })
 
 -- with room for all of its states, a walk adds each of its transitions, and counts each that was missing once
-keeps : (us : List (Option ℕ)) (c : Cache) (v : Value) → IsTable (step_of c) c.table
+keeps : (us : List (Option ℕ)) (c : Cache) (v : Value) → IsAccepted c.nfa
+    → IfSome c.classes (λ p. AreClassesOf c.nfa p) → IsTable (step_of c) c.table
     → c.computed ≤ 18446744073709551615 → HasRoom c v us
-    → ((after_walk c v us).table ≡ with_walk (step_of c) c.table v us)
-    × ((after_walk c v us).computed ≡ count_after c.computed (missing (step_of c) c.table v us))
-keeps [] c v is small room = (refl, grind (arith, small))
-keeps (u ∷ us) c v is small room =
-    let s = has_step c v u us is room in
+    → ((after_walk c v us).table ≡ with_walk (step_of c) (shared_by c) c.table v us)
+    × ((after_walk c v us).computed ≡ count_after c.computed (missing (step_of c) (shared_by c) c.table v us))
+keeps [] c v accepted are is small room = (refl, grind (arith, small))
+keeps (u ∷ us) c v accepted are is small room =
+    let s = has_step c v u us accepted are is room in
     let (fits, more) = count (is_cached c.table v u) c.computed small in
-    let (table, once) = keeps us (after_step c v u) (step_of c v u) s.is fits s.room in
+    let (table, once) = keeps us (after_step c v u) (step_of c v u) accepted are s.is fits s.room in
     (rw (← s.table) table, once ∙ rw s.table (more _))
   where
     count : (b : Bool) (n : ℕ) → n ≤ 18446744073709551615 → let m = cond b n (count_after n 1) in
@@ -92,10 +105,10 @@ keeps (u ∷ us) c v is small room =
 pub keeps_all : {old new : Cache} {v : Value} {us : List (Option ℕ)} → IsSound old → new ≡ after_walk old v us
     → HasRoom old v us → KeepsAll old v us new
 keeps_all {old} {new} {v} {us} sound is room =
-    let (table, once) = keeps us old v sound.table sound.small room in
+    let (table, once) = keeps us old v sound.accepted sound.classes sound.table sound.small room in
     rw is record {
       table = table;
       once = once;
       again = unchanged (after_walk old v us) us old.table v
-          (λ x y h. rw table (rw (same_steps us old v) at h));
+          (λ x y h. rw table (rw (same_steps us old v, same_sharing us old v) at h));
     }

@@ -1,6 +1,8 @@
 -- One step of a walk or a search over a cache.
 use Rattle.std.specs.Prelude.{◌≡◌, ℕ, ◌++◌, ◌<◌, ◌≤◌, ◌⊎◌, IfOk, List, OnErr, OnOk, Option, Result}
 use Rattle.std.specs.Prelude.{drop, length, slice_index_or}
+use Rattle.std.specs.Option.{IfSome}
+use Rattle.determinize_below.specs.ByteClasses.{AreClassesOf}
 use Rattle.determinize_below.specs.Nfa.{AllResolve, IsAccepted}
 use Rattle.determinize_core.specs.Chain.{future}
 use Rattle.determinize_core.specs.Value.{Value, dead}
@@ -16,12 +18,13 @@ pub record IsFailedStep (old : Cache) (v : Value) (u : Option ℕ) (new : Cache)
   pub table : (new.table ≡ empty) ⊎ (new.table ≡ old.table)
   pub counted : (new.computed ≡ old.computed) ⊎ (new.computed ≡ (after_step old v u).computed)
 
--- what is true of every cache: the NFA is valid, the table is one of its steps, and the count has
--- 64 bits
+-- what is true of every cache: the NFA is valid, the table is one of its steps, the count has 64
+-- bits, and the classes are those of the NFA
 pub record IsSound (c : Cache) : Type 0 where
   pub accepted : IsAccepted c.nfa
   pub table : IsTable (step_of c) c.table
   pub small : c.computed ≤ 18446744073709551615
+  pub classes : IfSome c.classes (λ p. AreClassesOf c.nfa p)
 
 -- what a call for a start state returns and leaves: its cursor, and the cache as it was
 pub record IsStarted {A E : Type 0} (old : LazyValue) (v : Value) (result : Result (Cursor A) E)

@@ -2,10 +2,10 @@ use Rattle.determinize_find.proofs.regex.LazyRegex+N+B+A.new.Goals as goal
 
 pub invariant_of-result : goal.invariant_of-result
 invariant_of-result g c = record {
-  kind = c.new.ensures.kind;
-  kind_backward = c.new-2.ensures.kind;
-  reads_forward = rw c.new.ensures.nfa c.requires.forward;
-  prefix = rw c.new.ensures.nfa c.requires.prefix;
-  flag = record { tells = rw c.new.ensures.nfa c.has_prefix_apart.ensures };
-  reverse = rw (c.new.ensures.nfa, c.new-2.ensures.nfa) c.requires.reverse;
+  kind = c.new_by_class.ensures.kind;
+  kind_backward = c.new_by_class-2.ensures.kind;
+  reads_forward = rw c.new_by_class.ensures.nfa c.requires.forward;
+  prefix = rw c.new_by_class.ensures.nfa c.requires.prefix;
+  flag = record { tells = rw c.new_by_class.ensures.nfa c.has_prefix_apart.ensures };
+  reverse = rw (c.new_by_class.ensures.nfa, c.new_by_class-2.ensures.nfa) c.requires.reverse;
 }

@@ -1,4 +1,5 @@
-use Rattle.determinize_lazy.proofs.Common.{arith, cache, count_after, cursor_value, Err, inl, inr, refl, rules, ◌≡◌}
+use Rattle.determinize_lazy.proofs.Common.{arith, cache, classes_from, count_after, cursor_value, Err, inl, inr, refl, rules, ◌≡◌}
+use Rattle.std.specs.Option.{option_copied}
 use Rattle.determinize_core.specs.Step.{step}
 use Rattle.determinize_core.proofs.step.Resolving.{step_resolves}
 use Rattle.determinize_lazy.proofs.steps.Cursors.{absent-at}
@@ -9,9 +10,12 @@ pub invariant_of-self-2 : goal.invariant_of-self-2
 invariant_of-self-2 g c =
     let following : c.in_ok-following.following ≡ step c.self.inside.stepper.nfa c.self.inside.stepper.kind
     (cursor_value c.self.inside.table.states c.args.cursor) c.args.unit = search rules in
+    let shared : option_copied c.classes_from-spans.result ≡ classes_from c.self.inside.stepper.nfa
+    (cursor_value c.self.inside.table.states c.args.cursor) c.self.inside.spans = search rules in
     rw c.in_ok-following.ensures.unchanged
     (lazy-kept _ c.args.unit c.self.invariant following
-    (rw (← c.self.view_is) at c.requires.resolve) (search rules) c.keep.ensures)
+    (rw (← c.self.view_is) at c.requires.resolve) (search rules)
+    (rw shared at c.keep.ensures))
 
 pub returns-in_err-following : goal.returns-in_err-following
 returns-in_err-following g c =
@@ -21,16 +25,18 @@ returns-in_err-following g c =
       resolve = step_resolves _ c.self.invariant.sound.accepted _ _ c.args.unit;
       after = tt;
       failed = record { table = inr refl; counted = inl refl };
-      grows = record { nfa = refl; kind = refl; limit = refl; computed = omega arith };
+      grows = record { nfa = refl; kind = refl; limit = refl; classes = refl; computed = omega arith };
     }
 
 pub returns : goal.returns
 returns g c =
     let following : c.in_ok-following.following ≡ step c.self.inside.stepper.nfa c.self.inside.stepper.kind
     (cursor_value c.self.inside.table.states c.args.cursor) c.args.unit = search rules in
+    let shared : option_copied c.classes_from-spans.result ≡ classes_from c.self.inside.stepper.nfa
+    (cursor_value c.self.inside.table.states c.args.cursor) c.self.inside.spans = search rules in
     let counted : c.saturating_add-self-inside.result ≡ count_after c.self.inside.computed 1 = search rules in
     let absent = rw (← c.self.view_is) at (absent-at (cache c.args.self.now) c.args.cursor c.args.unit
     (lazy-sound c.self.invariant c.self.view_is).table c.requires.cursor c.requires.uncached) in
     rw (c.in_ok-following.ensures.unchanged, ← c.self.view_is, counted)
     (stepped _ c.args.unit c.self.invariant.sound.accepted c.self.invariant.sound.small absent refl
-    (rw following at c.keep.ensures))
+    (rw (following, shared) at c.keep.ensures))

@@ -38,4 +38,4 @@ returns g c =
     over-kept c.search_rest-found.new.self _ (over g d)
     (ap (λ (x : LazyValue). x.nfa) c.self.view_is) (ap (λ (x : LazyValue). x.kind) c.self.view_is)
     (ap (λ (x : LazyValue). x.limit) c.self.view_is) c.into_kept.ensures.states c.into_kept.ensures.rows
-    c.into_kept.ensures.computed
+    c.into_kept.ensures.computed c.into_kept.ensures.classes

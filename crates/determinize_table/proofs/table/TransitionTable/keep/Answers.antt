@@ -18,10 +18,10 @@ pub insert-requires-then-fits-2-clause-found : goal.insert-requires-then-fits-2-
 insert-requires-then-fits-2-clause-found g c = none_in c.clear.ensures c.args.following
 
 pub returns-then-fits-2 : goal.returns-then-fits-2
-returns-then-fits-2 g c = kept-alone c.clear.ensures c.args.limit _ c.args.following _ c.args.unit
+returns-then-fits-2 g c = kept-alone c.clear.ensures c.args.limit _ _ c.args.following _
     (sym c.fits.ensures ∙ c.if-fits.false) c.in_ok-into_state.ensures
     (sym c.fits-2.ensures ∙ c.if-fits-2.true) c.insert-then-fits-2.ensures
 
 pub returns : goal.returns
-returns g c = kept-none c.clear.ensures c.args.limit _ c.args.following _ c.args.unit
+returns g c = kept-none c.clear.ensures c.args.limit _ _ c.args.following _
     (sym c.fits.ensures ∙ c.if-fits.false) c.in_ok-into_state.ensures (sym c.fits-2.ensures ∙ c.if-fits-2.false)
