@@ -1,4 +1,5 @@
 pub mod Choices
+pub mod Counted
 pub mod InTurn
 pub mod Left
 pub mod Marks

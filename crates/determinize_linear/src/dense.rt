@@ -20,9 +20,11 @@ ghost use Rattle.determinize_dense.specs.Dfa.{IsDfaOf};
 ghost use Rattle.determinize_dense.specs.Reading.{IsDead};
 ghost use Rattle.determinize_dense.specs.Table.{start_row};
 ghost use Rattle.determinize_engine.specs.Searches.{has_start};
+ghost use Rattle.determinize_find.specs.LeftmostIn.{is_anchored};
 ghost use Rattle.determinize_find.specs.Matches.{AreMatches};
 ghost use Rattle.determinize_linear.specs.Private.Found.{IsFoundAt};
 ghost use Rattle.determinize_linear.specs.Private.Following.{IsWalkable, following, steps_left, unmarked};
+ghost use Rattle.determinize_linear.specs.Private.Paid.{end_of};
 ghost use Rattle.determinize_linear.specs.Private.RowMarks.{bit_of, is_set};
 ghost use Rattle.determinize_linear.specs.Private.Walks.{HasStepped, HasWalked, IsWalked};
 ghost use Rattle.determinize_linear.specs.Tries.{most_steps};
@@ -160,6 +162,9 @@ fn walk_bytes<N: Allocator, M: Allocator + Copy, A: Allocator, C: Counter>(
     ensures within { walk.new.at ≤ length text.now.bytes }
     ensures ends { walk.new.at < length text.now.bytes
         → following walk.old.dfa.table text.now walk.new.at walk.new.row ≡ None }
+    ensures more { walk.old.at < length text.now.bytes → walk.old.at < walk.new.at }
+    ensures counted { IsTrue C.counts
+        → C.total counter.old + walk.new.at ≤ C.total counter.new + walk.old.at }
 {
     if walk.at == text.len() {
         return;
@@ -190,6 +195,8 @@ pub(crate) fn walk_from<N: Allocator, M: Allocator + Copy, A: Allocator, C: Coun
     ensures found { IsFoundAt dfa.now text.now from result }
     ensures walked { HasWalked dfa.now text.now from marks.old marks.new result
         (IsTrue C.counts) (C.total counter.old) (C.total counter.new) }
+    ensures counted { IsTrue C.counts
+        → C.total counter.old + end_of from result + 1 ≤ C.total counter.new + from }
 {
     let mut walk = Walk::new(dfa, text, from);
     walk_bytes(&mut walk, text, marks, counter);
@@ -258,6 +265,9 @@ fn find_all_with<N: Allocator, M: Allocator + Copy, A: Allocator + Copy, C: Coun
     ensures all { IfOk result (λ found. AreMatches dfa.now.nfa input.now None found.items) }
     ensures linear { IsTrue C.counts → C.total counter.new ≤ C.total counter.old
         + most_steps dfa.now.table (input.now.end - input.now.start) }
+    ensures counted { IsTrue C.counts → is_anchored dfa.now.nfa input.now.anchored ≡ false
+        → IfOk result (λ _. C.total counter.old + (input.now.end + 1 - input.now.start)
+        ≤ C.total counter.new) }
 {
     if input.start() > input.end() {
         return Ok(Vec::new(alloc));
@@ -271,9 +281,10 @@ fn find_all_with<N: Allocator, M: Allocator + Copy, A: Allocator + Copy, C: Coun
 /// Returns all matches of an input, in their order: the same as [`crate::find_all`] of the NFA.
 ///
 /// The DFA must be for `MatchKind::LeftmostFirst`, and its NFA must read forward; it needs no
-/// prefix. The bytes next to the range are seen by assertions. The number of steps is linear in the
-/// length of the range, as [`find_all_counted`] says. The memory is, too: a bit for each row of the
-/// DFA at each index of the range, and at most eight bytes for each entry of its table.
+/// prefix. If the two starts of the NFA are one state, the input is anchored. The bytes next to the
+/// range are seen by assertions. The number of steps is linear in the length of the range, as
+/// [`find_all_counted`] says. The memory is, too: a bit for each row of the DFA at each index of
+/// the range, and at most eight bytes for each entry of its table.
 pub fn find_all<N: Allocator, M: Allocator + Copy, A: Allocator + Copy>(
     alloc: A,
     dfa: &Dfa<'_, N, M>,
@@ -289,7 +300,8 @@ pub fn find_all<N: Allocator, M: Allocator + Copy, A: Allocator + Copy>(
 
 /// Returns the same as [`find_all`], and counts the steps from one row to the next. On error too,
 /// they are at most one for each row of the DFA, and four more, for each byte of the range and two
-/// more.
+/// more. If the input is not anchored, they are on success at least one for each index from the
+/// start of the range to its end.
 pub fn find_all_counted<N: Allocator, M: Allocator + Copy, A: Allocator + Copy, L: Ledger>(
     alloc: A,
     dfa: &Dfa<'_, N, M>,
@@ -302,6 +314,8 @@ pub fn find_all_counted<N: Allocator, M: Allocator + Copy, A: Allocator + Copy, 
     ensures all { IfOk result (λ found. AreMatches dfa.now.nfa input.now None found.items) }
     ensures linear { steps.new ≤ steps.old
         + most_steps dfa.now.table (input.now.end - input.now.start) }
+    ensures counted { is_anchored dfa.now.nfa input.now.anchored ≡ false → IfOk result
+        (λ _. steps.old + (input.now.end + 1 - input.now.start) ≤ steps.new) }
 {
     find_all_with(alloc, dfa, input, steps)
 }

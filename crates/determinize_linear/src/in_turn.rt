@@ -49,8 +49,8 @@ pub(crate) fn push_moved<A: Allocator>(
 
 /// Returns all matches of an input, by searches of the text of its range.
 ///
-/// An empty match is found again where it ends, and then skipped. So the search continues one byte
-/// further. An empty match where the one before ended is skipped, too, if that one was not empty.
+/// An empty match would be found again where it ends. So the search continues one byte further. An
+/// empty match where the one before ended is skipped, too, if that one was not empty.
 #[inline(always)]
 pub(crate) fn find_all_by<S: Matcher, N: Allocator, A: Allocator, C: Counter>(
     alloc: A,
@@ -72,6 +72,9 @@ pub(crate) fn find_all_by<S: Matcher, N: Allocator, A: Allocator, C: Counter>(
     ensures linear { IsTrue C.counts → C.total counter.new ≤ C.total counter.old
         + S.left search.old nfa.now text.now 0
         + (S.most nfa.now + S.extra) * (input.now.end - input.now.start + 1) }
+    ensures counted { IsTrue C.counts → inputs.is_anchored nfa.now input.now.anchored ≡ false
+        → IfOk result (λ _. C.total counter.old + (input.now.end - input.now.start) + 1
+        ≤ C.total counter.new) }
 {
     let is_anchored = is_anchored(nfa, input);
     let base = input.start();

@@ -11,6 +11,7 @@ ghost use Rattle.std.specs.Prelude.{◌≡◌, ◌≤◌, ◌-◌, ◌+◌, IfOk
 ghost use Rattle.std.specs.Option.{IfNone, IfSome};
 ghost use Rattle.determinize_below.specs.Nfa.{IsAccepted};
 ghost use Rattle.determinize_engine.specs.Searches.{has_start};
+ghost use Rattle.determinize_find.specs.LeftmostIn.{is_anchored};
 ghost use Rattle.determinize_find.specs.Matches.{AreMatches};
 ghost use Rattle.determinize_find.specs.Private.BestAt.{IsBestAt, from_index};
 ghost use Rattle.determinize_linear.specs.Private.Paid.{IsPaid, end_of};
@@ -60,6 +61,8 @@ fn search_from<N: Allocator, A: Allocator, C: Counter>(
         ≤ C.total counter.old + 1 + left nfa.now text.now from visited.old)) }
     ensures bounded { IsTrue C.counts → C.total counter.new
         ≤ C.total counter.old + 1 + left nfa.now text.now from visited.old }
+    ensures counted { IsTrue C.counts → IfOk result
+        (λ found. C.total counter.old + end_of from found + 1 ≤ C.total counter.new + from) }
 {
     stack.clear();
     stack.push((from, nfa.start_anchored()))?;
@@ -116,6 +119,9 @@ fn find_all_with<N: Allocator, A: Allocator + Copy, C: Counter>(
     ensures all { IfOk result (λ found. AreMatches nfa.now input.now None found.items) }
     ensures linear { IsTrue C.counts → C.total counter.new ≤ C.total counter.old
         + most_tries nfa.now (input.now.end - input.now.start) }
+    ensures counted { IsTrue C.counts → is_anchored nfa.now input.now.anchored ≡ false
+        → IfOk result (λ _. C.total counter.old + (input.now.end + 1 - input.now.start)
+        ≤ C.total counter.new) }
 {
     if input.start() > input.end() {
         return Ok(Vec::new(alloc));
@@ -130,10 +136,10 @@ fn find_all_with<N: Allocator, A: Allocator + Copy, C: Counter>(
 
 /// Returns all matches of an input, in their order, as `plain::find_all` of `determinize_find`.
 ///
-/// The NFA must read forward; it needs no prefix. The bytes next to the range are seen by
-/// assertions. The number of tries is linear in the length of the range, as [`find_all_counted`]
-/// says. The memory is, too: a list for each index of the range, with a byte for each state of the
-/// NFA.
+/// The NFA must read forward; it needs no prefix. If its two starts are one state, the input is
+/// anchored. The bytes next to the range are seen by assertions. The number of tries is linear in
+/// the length of the range, as [`find_all_counted`] says. The memory is, too: a list for each index
+/// of the range, with a byte for each state of the NFA.
 pub fn find_all<N: Allocator, A: Allocator + Copy>(
     alloc: A,
     nfa: &NFA<N>,
@@ -148,7 +154,9 @@ pub fn find_all<N: Allocator, A: Allocator + Copy>(
 
 /// Returns the same as [`find_all`], and counts the tries: the pairs of a position and a state that
 /// the search takes from its stack. On error too, they are at most three for each state and each
-/// epsilon transition of the NFA, and three more, for each byte of the range and two more.
+/// epsilon transition of the NFA, and three more, for each byte of the range and two more. If the
+/// input is not anchored, they are on success at least one for each index from the start of the
+/// range to its end.
 pub fn find_all_counted<N: Allocator, A: Allocator + Copy, L: Ledger>(
     alloc: A,
     nfa: &NFA<N>,
@@ -160,6 +168,8 @@ pub fn find_all_counted<N: Allocator, A: Allocator + Copy, L: Ledger>(
     ensures all { IfOk result (λ found. AreMatches nfa.now input.now None found.items) }
     ensures linear { tries.new ≤ tries.old
         + most_tries nfa.now (input.now.end - input.now.start) }
+    ensures counted { is_anchored nfa.now input.now.anchored ≡ false → IfOk result
+        (λ _. tries.old + (input.now.end + 1 - input.now.start) ≤ tries.new) }
 {
     find_all_with(alloc, nfa, input, tries)
 }

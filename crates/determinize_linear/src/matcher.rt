@@ -55,5 +55,7 @@ pub(crate) trait Matcher {
             → C.total counter.new + left self.new nfa.now text.now k
             ≤ C.total counter.old + extra + left self.old nfa.now text.now from)) }
         ensures bounded { IsTrue C.counts → C.total counter.new
-            ≤ C.total counter.old + extra + left self.old nfa.now text.now from };
+            ≤ C.total counter.old + extra + left self.old nfa.now text.now from }
+        ensures counted { IsTrue C.counts → IfOk result
+            (λ found. C.total counter.old + end_of from found + 1 ≤ C.total counter.new + from) };
 }

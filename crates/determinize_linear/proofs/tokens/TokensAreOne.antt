@@ -2,7 +2,7 @@
 -- Main statements: each_tokens_are_one.
 -- Used by: `tokens_law`.
 -- Idea: two longest matches end at one position, where a walk lists the patterns in one order.
-use Rattle.std.proofs.Common.{◌≡◌, ◌+◌, ◌-◌, ◌≤◌, ◌∙◌, ◌∷◌, ℕ, List, [], arith, false, refl, subst, sym}
+use Rattle.std.proofs.Common.{◌≡◌, ◌-◌, ◌≤◌, ◌∙◌, ◌∷◌, ℕ, List, [], arith, false, refl, subst, sym}
 use Rattle.determinize_below.specs.Search.{Asked}
 use Rattle.determinize_below.specs.Semantics.{Accepts, Nfa}
 use Rattle.determinize_below.specs.declared.search.Match.{Match}
@@ -11,7 +11,7 @@ use Rattle.determinize_core.proofs.walk.AcceptedPatterns.{each_answer_is_one}
 use Rattle.determinize_engine.specs.Searches.{text_of}
 use Rattle.determinize_find.specs.Matches.{from}
 use Rattle.determinize_linear.specs.Laws.{EachTokensAreOne}
-use Rattle.determinize_linear.specs.Tokens.{AreTokens, HasNoToken, IsToken}
+use Rattle.determinize_linear.specs.Tokens.{HasNoToken, IsToken}
 
 module _ (nfa : Nfa) (asked : Asked) where
   -- a run that accepts the pattern of a token and ends where it does

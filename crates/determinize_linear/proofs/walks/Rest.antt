@@ -2,7 +2,7 @@
 -- Main statements: rest_along, rest_listed.
 -- Used by: Preferred, Longest.
 -- Idea: the units from a position on are those of the rest of the text, where offsets are less.
-use Rattle.std.proofs.Common.{◌≡◌, ◌≤◌, ◌+◌, ◌++◌, ◌∙◌, ℕ, List, Option, Some, [], ◌∷◌, ap, arith, length}
+use Rattle.std.proofs.Common.{◌≡◌, ◌≤◌, ◌+◌, ◌++◌, ◌∙◌, ℕ, List, Some, [], ◌∷◌, ap, arith, length}
 use Rattle.std.proofs.Common.{map, refl, subst, suc, sym, true}
 use Rattle.std.specs.Prelude.{All, drop, option_map}
 use Rattle.std.proofs.lemmas.List.{drop-append-le, drop-map, length-map}

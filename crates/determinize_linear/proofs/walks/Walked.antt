@@ -1,6 +1,6 @@
 -- A walk from a position, with its marks and the number of steps.
 -- Main statements: walked_start, walked_more, walked_listing, walked_mark, none_follows, none_past, walked_all, has_walked,
--- has_bit_here, cost_some, cost_none, cost_most, steps_enough.
+-- has_bit_here, ends_before, cost_some, cost_none, cost_most, steps_enough.
 -- Used by: `walk_bytes`, `walk_from`, `search_from` and `find_all_with`.
 -- Idea: a step finds a match at its position, or it marks a pair, or it is the first or the last one.
 use Rattle.std.proofs.Common.{◌≡◌, ◌<◌, ◌≤◌, ◌*◌, ◌+◌, ◌∙◌, ◌⊎◌, ℕ, Bool, List, None, Option, Some, [], ◌∷◌, arith, false}
@@ -204,6 +204,12 @@ module _ (text : Text) (first : WalkValue) (old : RowMarks)
         };
         cost = λ k. omega (arith, is.cost k, few);
       }
+
+-- a walk that took a step is behind the end of its match
+pub ends_before : (from at : ℕ) (found : Option HalfMatch) → from < at → from ≤ end_of from found
+    → from + matched from found ≤ at → end_of from found + 1 ≤ at
+ends_before from at None a b c = omega arith
+ends_before from at (Some f) a b c = omega (arith, b, c)
 
 -- what a walk cost
 module _ (dfa : DfaValue) (text : Text) (from : ℕ) (old m : RowMarks) (found : Option HalfMatch) (Counts : Type 0)

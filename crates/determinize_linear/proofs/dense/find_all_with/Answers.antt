@@ -1,4 +1,5 @@
 use Rattle.std.proofs.Common.{◌≡◌, ◌*◌, ◌+◌, ◌-◌, ◌≤◌, ◌∙◌, ap, arith, length}
+use Rattle.std.proofs.lemmas.Result.{IfOk-weaker}
 use Rattle.determinize_below.specs.Semantics.{Text}
 use Rattle.determinize_find.proofs.matches.OneList.{length-range}
 use Rattle.determinize_linear.specs.Private.Following.{unmarked}
@@ -24,3 +25,8 @@ returns-clause-linear g c = λ k.
       count,
       steps_enough (length c.args.dfa.now.table.patterns) (c.args.input.now.end - c.args.input.now.start),
     )
+
+pub returns-clause-counted : goal.returns-clause-counted
+returns-clause-counted g c = λ k free.
+    IfOk-weaker c.find_all_by.result _ _ (λ found h. omega (arith, h, c.if-start-end.false))
+    (c.find_all_by.ensures.counted k (rw c.nfa.ensures.value free))

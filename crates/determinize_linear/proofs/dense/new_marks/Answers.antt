@@ -5,7 +5,7 @@ use Rattle.determinize_below.specs.Private.Sparse.{has_bit}
 use Rattle.determinize_below.specs.Semantics.{Text}
 use Rattle.determinize_dense.specs.Least.{HasRows}
 use Rattle.determinize_dense.specs.Table.{DfaValue}
-use Rattle.determinize_linear.specs.Private.Following.{IsWalkable, unmarked}
+use Rattle.determinize_linear.specs.Private.Following.{IsWalkable}
 use Rattle.determinize_linear.specs.Private.RowMarks.{RowMarks, bit_of, is_set}
 use Rattle.determinize_linear.proofs.walks.Unset.{unset_most}
 use Rattle.determinize_linear.proofs.dense.new_marks.Goals as goal

@@ -20,6 +20,8 @@ loop-walk-init g c =
           (unit-here c.args.text.now c.args.walk.now.at c.byte.result (rw here at c.byte.ensures)) c.len.ensures.units within
           c.count.ensures;
       high = omega (arith, c.step-2.ensures.at, c.len.ensures.value, c.if-walk-len.false, at, within);
+      more = omega (arith, c.step-2.ensures.at);
+      counted = λ k. omega (arith, c.step-2.ensures.at, c.count.ensures k);
     }
 
 pub may_follow-requires : goal.may_follow-requires
@@ -48,6 +50,13 @@ loop-walk-preserved-then-not-step g c =
           c.len.ensures.units c.loop-walk.invariant.high c.count-in-loop-walk.ensures c.if-not-step.true c.set.new.self
           (rw (← c.walk-in-loop-walk.view_is) (rw c.offset-offset.ensures at c.set.ensures)) more.1;
       high = omega (arith, c.step-in-loop-walk.ensures.at, more.0);
+      more = omega (arith, c.step-in-loop-walk.ensures.at, c.loop-walk.invariant.more);
+      counted = λ k. omega (
+        arith,
+        c.step-in-loop-walk.ensures.at,
+        c.count-in-loop-walk.ensures k,
+        c.loop-walk.invariant.counted k,
+      );
     }
 
 pub loop-walk-preserved : goal.loop-walk-preserved
@@ -63,6 +72,13 @@ loop-walk-preserved g c =
           (unit-here c.args.text.now c.loop-walk.walk.at c.byte-in-loop-walk.result (rw here at c.byte-in-loop-walk.ensures))
           c.len.ensures.units c.loop-walk.invariant.high c.count-in-loop-walk.ensures c.if-not-step.false;
       high = omega (arith, c.step-in-loop-walk.ensures.at, more.0);
+      more = omega (arith, c.step-in-loop-walk.ensures.at, c.loop-walk.invariant.more);
+      counted = λ k. omega (
+        arith,
+        c.step-in-loop-walk.ensures.at,
+        c.count-in-loop-walk.ensures k,
+        c.loop-walk.invariant.counted k,
+      );
     }
 
 pub returns-clause-walked : goal.returns-clause-walked

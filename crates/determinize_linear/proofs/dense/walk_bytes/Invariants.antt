@@ -1,4 +1,4 @@
-use Rattle.std.proofs.Common.{◌+◌, ◌-◌, ◌≤◌, IsTrue, length}
+use Rattle.std.proofs.Common.{◌+◌, ◌-◌, ◌<◌, ◌≤◌, IsTrue, length}
 use Rattle.determinize_linear.specs.Private.Walks.{IsWalked}
 use Rattle.determinize_linear.proofs.dense.walk_bytes.Given as goal
 
@@ -7,6 +7,9 @@ invariant-loop-walk g l = record {
   walked : IsWalked l.text l.fn.walk l.fn.marks l.marks l.walk 1
       (IsTrue g.C.Counter.counts) (g.C.Counter.total l.fn.counter) (g.C.Counter.total l.counter);
   high : l.walk.at ≤ length l.text.bytes;
+  more : l.fn.walk.at < l.walk.at;
+  counted : IsTrue g.C.Counter.counts
+      → g.C.Counter.total l.fn.counter + l.walk.at ≤ g.C.Counter.total l.counter + l.fn.walk.at;
 }
 
 abbrev pub decreases-loop-walk : goal.decreases-loop-walk

@@ -1,11 +1,11 @@
-use Rattle.std.proofs.Common.{◌≡◌, ◌∙◌, IsTrue, None, Option, Some, ap, arith, length, sym}
+use Rattle.std.proofs.Common.{◌≡◌, ◌<◌, ◌∙◌, IsTrue, None, Option, Some, ap, arith, length, sym}
 use Rattle.determinize_below.specs.declared.search.HalfMatch.{HalfMatch}
 use Rattle.determinize_engine.proofs.Texts.{unit-last}
 use Rattle.determinize_linear.specs.Private.Following.{IsWalkable, following}
 use Rattle.determinize_linear.specs.Private.Found.{IsFoundAt}
 use Rattle.determinize_linear.specs.Private.Walks.{IsWalked, WalkValue}
 use Rattle.determinize_linear.proofs.walks.Longest.{found_of_walk}
-use Rattle.determinize_linear.proofs.walks.Walked.{has_walked, none_past, walked_all, walked_more}
+use Rattle.determinize_linear.proofs.walks.Walked.{ends_before, has_walked, none_past, walked_all, walked_more}
 use Rattle.determinize_linear.proofs.dense.walk_from.Given.{Over}
 use Rattle.determinize_linear.proofs.dense.walk_from.Goals.{After-len, After-step}
 use Rattle.determinize_linear.proofs.dense.walk_from.Goals as goal
@@ -56,6 +56,20 @@ none g c =
     (IsTrue g.C.Counter.counts) (g.C.Counter.total c.args.counter.now) c.walk_bytes.new.marks c.step.new.self 2 _
     (last g c) (omega (arith, at, c.if-walk-len.false, c.len.ensures.value, c.step.ensures.at))
 
+pub returns-then-walk-len-clause-counted : goal.returns-then-walk-len-clause-counted
+returns-then-walk-len-clause-counted g c = λ k.
+    let at : c.walk.inside.at ≡ c.walk_bytes.new.walk.at = ap (λ (w : WalkValue). w.at) c.walk.view_is in
+    let start : c.new-walk.result.at ≡ c.args.from = ap (λ (w : WalkValue). w.at) c.new-walk.ensures.value in
+    let walked = c.walk_bytes.ensures.walked in
+    let more = c.walk_bytes.ensures.more (omega (arith, at, c.if-walk-len.true, c.len.ensures.value, walked.passed)) in
+    rw c.found.ensures (omega (
+      arith,
+      start,
+      c.walk_bytes.ensures.counted k,
+      ends_before c.args.from c.walk_bytes.new.walk.at c.walk_bytes.new.walk.found (rw start at more)
+          (rw start at walked.followed.order) (rw start at walked.passed),
+    ))
+
 pub returns-clause-found : goal.returns-clause-found
 returns-clause-found g c =
     let s = (goal.at.returns-clause-found g c).After-step in
@@ -72,3 +86,20 @@ returns-clause-walked g c =
     (has_walked c.args.text.now c.new-walk.result c.args.marks.now (can g l)
     (IsTrue g.C.Counter.counts) (g.C.Counter.total c.args.counter.now) c.walk_bytes.new.marks c.step.new.self 2 _
     (last g s) (none g s) (omega arith)))
+
+pub returns-clause-counted : goal.returns-clause-counted
+returns-clause-counted g c = λ k.
+    let s = (goal.at.returns-clause-counted g c).After-step in
+    let at : c.walk.inside.at ≡ c.walk_bytes.new.walk.at = ap (λ (w : WalkValue). w.at) c.walk.view_is in
+    let start : c.new-walk.result.at ≡ c.args.from = ap (λ (w : WalkValue). w.at) c.new-walk.ensures.value in
+    let more : c.args.from < c.step.new.self.at
+    = omega (arith, at, c.if-walk-len.false, c.len.ensures.value, c.step.ensures.at, c.requires.within) in
+    rw c.found-2.ensures (omega (
+      arith,
+      start,
+      c.step.ensures.at,
+      c.count.ensures k,
+      c.walk_bytes.ensures.counted k,
+      ends_before c.args.from c.step.new.self.at c.step.new.self.found more
+          (rw start at (last g s).followed.order) (rw start at (last g s).passed),
+    ))

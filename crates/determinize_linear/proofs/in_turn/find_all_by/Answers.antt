@@ -1,5 +1,6 @@
 use Rattle.std.proofs.Common.{rules, ◌≡◌, ◌≤◌, ◌-◌, ◌+◌, ◌∙◌, None, Some, ap, arith}
 use Rattle.std.proofs.Common.{length, refl, sym}
+use Rattle.std.proofs.lemmas.Bool.{true≢false}
 use Rattle.determinize_below.specs.Semantics.{Text}
 use Rattle.determinize_find.specs.Private.BestAt.{IsBestAt, IsBestIn, from_index}
 use Rattle.determinize_find.proofs.matches.OneList.{length-range}
@@ -37,6 +38,7 @@ loop-at-preserved-then-next-at g c =
             (c.args.input.now.end - c.args.input.now.start + 1 - c.loop-at.at)
             (omega (arith, count, at, within, c.if-next-at.true)),
       );
+      counted = λ k. omega (arith, rw is at (c.in_ok-next.ensures.counted k), c.loop-at.invariant.counted k);
     }
 
 pub loop-at-preserved-in-Some-2 : goal.loop-at-preserved-in-Some-2
@@ -82,6 +84,7 @@ loop-at-preserved-in-Some-2 g c =
             (c.args.input.now.end - c.args.input.now.start + 1 - (c.loop-at.at + 1))
             (c.args.input.now.end - c.args.input.now.start + 1 - c.loop-at.at) (omega (arith, count, at)),
       );
+      counted = λ k. omega (arith, end, rw is at (c.in_ok-next.ensures.counted k), c.loop-at.invariant.counted k);
     }
 
 pub loop-at-preserved : goal.loop-at-preserved
@@ -106,6 +109,7 @@ loop-at-preserved g c =
             (c.args.input.now.end - c.args.input.now.start + 1 - (c.loop-at.at + 1))
             (c.args.input.now.end - c.args.input.now.start + 1 - c.loop-at.at) (omega (arith, count, at)),
       );
+      counted = λ k. omega (arith, rw is at (c.in_ok-next.ensures.counted k), c.loop-at.invariant.counted k);
     }
 
 pub returns-then-is_anchored-clause-all : goal.returns-then-is_anchored-clause-all
@@ -128,3 +132,13 @@ returns-clause-all g c =
 
 pub returns-clause-linear : goal.returns-clause-linear
 returns-clause-linear g c = λ k. omega (arith, c.loop-at.invariant.paid k)
+
+pub returns-then-is_anchored-clause-counted : goal.returns-then-is_anchored-clause-counted
+returns-then-is_anchored-clause-counted g c = λ k free.
+    absurd (true≢false (sym (sym c.is_anchored-is_anchored.ensures ∙ c.if-is_anchored.true) ∙ free))
+
+pub returns-clause-counted : goal.returns-clause-counted
+returns-clause-counted g c = λ k free.
+    let count : length c.args.text.now.bytes ≡ c.args.input.now.end - c.args.input.now.start
+    = ap (λ (t : Text). length t.bytes) c.requires.text ∙ length-range c.args.input.now c.requires.haystack in
+    omega (arith, count, c.len.ensures.value, c.loop-at-test.false, c.loop-at.invariant.counted k)

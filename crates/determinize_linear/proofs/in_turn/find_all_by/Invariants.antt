@@ -13,6 +13,7 @@ invariant-loop-at g l = record {
       ≤ g.C.Counter.total l.initial.counter
       + (g.S.Matcher.left l.initial.search l.nfa l.text 0
       + (g.S.Matcher.most l.nfa + g.S.Matcher.extra) * (l.input.end - l.input.start + 1));
+  counted : IsTrue g.C.Counter.counts → g.C.Counter.total l.initial.counter + l.at ≤ g.C.Counter.total l.counter;
 }
 
 abbrev pub decreases-loop-at : goal.decreases-loop-at

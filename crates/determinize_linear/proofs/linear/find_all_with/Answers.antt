@@ -1,5 +1,6 @@
 use Rattle.std.proofs.Common.{rules, ◌≡◌, ◌+◌, ◌-◌, ◌≤◌, ◌∙◌, Bool, List, ap, arith, false, length, replicate, subst}
 use Rattle.std.proofs.Common.{sym}
+use Rattle.std.proofs.lemmas.Result.{IfOk-weaker}
 use Rattle.determinize_below.specs.Semantics.{Text}
 use Rattle.determinize_core.specs.Tries.{edges_in_all}
 use Rattle.determinize_find.proofs.matches.OneList.{length-range}
@@ -33,3 +34,8 @@ returns-clause-linear g c = λ k.
           (c.args.input.now.end - c.args.input.now.start) (length c.of_input-text.result.bytes) _ count
           (left_most c.args.nfa.now c.of_input-text.result 0 c.in_ok-new.field-0),
     )
+
+pub returns-clause-counted : goal.returns-clause-counted
+returns-clause-counted g c = λ k free.
+    IfOk-weaker c.find_all_by.result _ _ (λ found h. omega (arith, h, c.if-start-end.false))
+    (c.find_all_by.ensures.counted k free)

@@ -12,6 +12,8 @@ use Rattle.determinize_linear.specs.Private.Left.{left, most_choices}
 use Rattle.determinize_linear.specs.Private.Paid.{IsPaid}
 use Rattle.determinize_linear.specs.Private.Marks.{is_marked, with_mark, without_marks}
 use Rattle.determinize_linear.specs.Private.Spent.{HasPlaces, IsSpent}
+use Rattle.determinize_linear.proofs.search.Counted.{counted_entered, counted_here, counted_none, counted_skipped}
+use Rattle.determinize_linear.proofs.search.Counted.{counted_start}
 use Rattle.determinize_linear.proofs.search.Left.{left_marked, paid_match}
 use Rattle.determinize_linear.proofs.search.Marks.{places_with, places_without, with_mark-marked}
 use Rattle.determinize_linear.proofs.search.Matches.{best_match, best_nothing}
@@ -34,6 +36,8 @@ loop-at-init g c =
           c.requires.within start c.requires.spent);
       places = c.requires.places;
       paid = λ k. omega (arith, ap (λ (l : List (ℕ × ℕ)). length l) items);
+      counted = λ k. rw items
+          (counted_start (g.C.Counter.total c.args.counter.now) c.args.from c.args.nfa.now.start_anchored);
     }
 
 pub returns-in-Match-clause-best : goal.returns-in-Match-clause-best
@@ -92,6 +96,20 @@ returns-in-Match-clause-paid g c = λ k.
     c.clear-in-Match.new.self (g.C.Counter.total c.loop-at.counter) (length c.loop-at.stack.items)
     (g.C.Counter.total c.args.counter.now) (g.C.Counter.total c.count.new.self) c.clear-in-Match.ensures t.row
     t.way.falls.0 (omega arith) (c.count.ensures k) (c.loop-at.invariant.paid k))
+
+pub returns-in-Match-clause-counted : goal.returns-in-Match-clause-counted
+returns-in-Match-clause-counted g c = λ k.
+    let t : IsTop c.args.nfa.now c.args.text.now c.args.from c.loop-at.visited (reverse c.loop-at.stack.items)
+    (c.in-Some.at, c.in-Some.id) (reverse c.pop.new.self.items)
+    = on_top c.args.nfa.now c.args.text.now c.args.from c.loop-at.visited c.loop-at.stack.items c.pop.new.self.items
+    (c.in-Some.at, c.in-Some.id) c.in-Some.ensures.items c.loop-at.invariant.way c.loop-at.invariant.places in
+    omega (
+      arith,
+      c.count.ensures k,
+      ap (λ (h : HalfMatch). h.offset) c.new.ensures,
+      counted_here _ _ _ (c.in-Some.at, c.in-Some.id) (reverse c.pop.new.self.items)
+          (rw t.top at (c.loop-at.invariant.counted k)),
+    )
 
 pub loop-at-smaller-in-Continue-branch-2 : goal.loop-at-smaller-in-Continue-branch-2
 loop-at-smaller-in-Continue-branch-2 g c =
@@ -161,6 +179,8 @@ loop-at-preserved-in-Continue-branch-2 g c =
                 t.way.falls.0 t.way.falls.1 t.way.falls.2 t.row t.mark new,
             ap (λ (rows : List (List Bool)). left c.args.nfa.now c.args.text.now c.args.from rows) more,
           );
+      counted = λ k. rw (c.count.ensures k, after) (counted_entered _ _ _ (c.in-Some.at, c.in-Some.id)
+          (reverse c.pop.new.self.items) (rw t.top at (c.loop-at.invariant.counted k)) c.args.nfa.now c.args.text.now);
     }
 
 pub loop-at-smaller : goal.loop-at-smaller
@@ -205,6 +225,8 @@ loop-at-preserved g c =
             popped,
             ap (λ (rows : List (List Bool)). left c.args.nfa.now c.args.text.now c.args.from rows) more,
           );
+      counted = λ k. rw (c.count.ensures k) (counted_skipped _ _ _ (c.in-Some.at, c.in-Some.id)
+          (reverse c.pop.new.self.items) (rw t.top at (c.loop-at.invariant.counted k)));
     }
 
 pub returns-clause-best : goal.returns-clause-best
@@ -223,3 +245,8 @@ returns-clause-spent g c =
     = subst (λ (l : List (ℕ × ℕ)). IsUnderWay c.args.nfa.now c.args.text.now c.args.from c.loop-at.visited l) none
     c.loop-at.invariant.way in
     (ended c.args.nfa.now c.requires.accepted c.args.text.now c.args.from c.loop-at.visited way).1
+
+pub returns-clause-counted : goal.returns-clause-counted
+returns-clause-counted g c = λ k.
+    let none : reverse c.loop-at.stack.items ≡ [] = search rules in
+    counted_none _ _ c.args.from (rw none at (c.loop-at.invariant.counted k))

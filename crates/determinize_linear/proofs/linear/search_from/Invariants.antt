@@ -4,6 +4,7 @@ use Rattle.ordered_reach.proofs.runs.ByPosition.{pair_eq}
 use Rattle.determinize_linear.specs.Private.Left.{left}
 use Rattle.determinize_linear.specs.Private.Marks.{is_marked}
 use Rattle.determinize_linear.specs.Private.Spent.{HasPlaces}
+use Rattle.determinize_linear.proofs.search.Counted.{IsCounted}
 use Rattle.determinize_linear.proofs.search.Pending.{run_steps}
 use Rattle.determinize_linear.proofs.search.Skipping.{tries}
 use Rattle.determinize_linear.proofs.search.UnderWay.{IsUnderWay}
@@ -16,6 +17,8 @@ invariant-loop-at g l = record {
   paid : IsTrue g.C.Counter.counts → g.C.Counter.total l.counter + length l.stack.items
       + left l.nfa l.text l.from l.visited
       ≤ g.C.Counter.total l.initial.counter + 1 + left l.nfa l.text l.from l.initial.visited;
+  counted : IsTrue g.C.Counter.counts → IsCounted (g.C.Counter.total l.initial.counter)
+      (g.C.Counter.total l.counter) l.from (reverse l.stack.items);
 }
 
 abbrev pub decreases-loop-at : goal.decreases-loop-at
