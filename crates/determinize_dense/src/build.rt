@@ -438,7 +438,8 @@ impl<'n, N: Allocator, A: Allocator + Copy> Builder<'n, N, A> {
 
     /// Adds the entries of a row.
     ///
-    /// - `usual` has the row that is mostly the base, and its NFA states. `ids` is scratch.
+    /// - `usual` has the row that is mostly the base, and as `further` all NFA states of that row.
+    ///   `ids` is scratch.
     fn add_row(
         &mut self,
         row: usize,

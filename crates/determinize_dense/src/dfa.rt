@@ -33,9 +33,9 @@ const LIST: usize = size_of::<Vec<PatternID>>();
 /// start and over any units; as minimized, one row for all states that match alike.
 ///
 /// First is the row of the dead state, then come the rows that list patterns, then those that a
-/// search scans out of, and then the others. So after the first 64 bytes a search compares once for
-/// each byte. The first four rows that are scanned out of have a table of 256 bytes each, by which
-/// a scan reads eight bytes at once: a kilobyte in each `Dfa`, however few rows it has.
+/// search scans out of, and then the others. So after the first 64 bytes a search mostly compares
+/// once for each byte. The first four rows that are scanned out of have a table of 256 bytes each,
+/// by which a scan reads eight bytes at once: a kilobyte in each `Dfa`, however few rows it has.
 #[derive(Drop)]
 pub struct Dfa<'n, N: Allocator = Global, A: Allocator = Global> {
     pub(crate) nfa: &'n NFA<N>,

@@ -101,8 +101,8 @@ impl<'n, N: Allocator, A: Allocator + Copy> Rows<'n, N, A> {
         least
     }
 
-    /// Shortens the distance of each row to one more than the least of its entries, the last row
-    /// first. Returns whether any distance became shorter.
+    /// Shortens the distance of each row to one more than the least distance of its entries, the
+    /// last row first. Returns whether any distance became shorter.
     fn shorten(&self, distances: &mut [usize]) -> bool
         requires { AreDistancesSoFar self.now.table distances.old }
         ensures so_far { AreDistancesSoFar self.now.table distances.new }

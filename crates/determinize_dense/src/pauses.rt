@@ -5,10 +5,10 @@ ghost use Rattle.std.specs.Prelude.{◌≤◌};
 /// The number of bytes that a search reads before it scans.
 pub(crate) const FIRST: usize = 64;
 
-/// The number of bytes of a block, and of the blocks without a match after which a search scans
-/// again.
+/// The number of bytes of a block.
 pub(crate) const BLOCK: usize = 64;
 
+/// The number of blocks without a match after which a search scans again.
 pub(crate) const BLOCKS: usize = 8;
 
 /// A scan that reads fewer bytes costs more time than it saves.

@@ -103,8 +103,8 @@ impl<'n, N: Allocator, A: Allocator + Copy> Dfa<'n, N, A> {
         read
     }
 
-    /// Returns the number of bytes that are read when a search leaves a row, or fewer: as many
-    /// times eight more than before as do not leave the row by its table.
+    /// Returns the number of bytes that are read when a search leaves a row, or fewer. It reads
+    /// eight bytes at a time, for as long as none of the eight leaves the row by its table.
     ///
     /// - `row` is the offset of the row, and `read` the number of bytes read before.
     #[inline(always)]

@@ -20,6 +20,9 @@ use std::marker::Model;
 ///
 /// It has the offset of its row and not the number. So a step takes no product, and no test of
 /// whether the row is one of the DFA, as `Dfa::next_state` does.
+///
+/// Matches are delayed by one unit, as for `Dfa::match_patterns`: after the last byte of a text
+/// take one more step, over the byte ahead or EOI.
 #[derive(Drop)]
 pub struct Walker<'d, 'n, N: Allocator = Global, A: Allocator = Global> {
     dfa: &'d Dfa<'n, N, A>,

@@ -92,7 +92,7 @@ impl<'h> Text<'h> {
         }
     }
 
-    /// Returns the byte behind the first.
+    /// Returns the byte before the first.
     #[inline(always)]
     pub fn behind(&self) -> Option<u8>
         ensures { result ≡ self.now.behind }

@@ -43,8 +43,8 @@ impl<'n, E: Engine, N: Allocator> Model for Plain<'n, E, N> {
 
 impl<'n, E: Engine, N: Allocator> Plain<'n, E, N> {
     /// Returns a search by an engine for this NFA under `MatchKind::LeftmostFirst`. The NFA must
-    /// read forward, and needs no prefix. Does not allocate, and no search does if the engine does
-    /// not.
+    /// read forward, and needs no prefix. If its two starts are one state, each input is anchored.
+    /// Does not allocate, and no search does if the engine does not.
     pub fn new(nfa: &'n NFA<N>, engine: E) -> Plain<'n, E, N>
         requires nfa { nfa.now ≡ (E.engine engine).nfa }
         requires kind { (E.engine engine).kind ≡ kinds.LeftmostFirst }

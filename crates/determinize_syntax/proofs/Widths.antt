@@ -1,5 +1,5 @@
 -- Characters beyond ASCII as bytes.
--- Main statements: width_of, front_is, wide_parts.
+-- Main statements: width_of, front_is, long_enough.
 -- Used by: the proofs of `take_wide`.
 -- Idea: the first byte of a character decides how many it has.
 use Rattle.determinize_syntax.proofs.Common.{◌++◌, ◌+◌, ◌<◌, ◌∙◌, ◌∷◌, ◌≡◌, ◌≤◌, ◌⊎◌, Bytes, [], ap, arith, by_test}

@@ -1,6 +1,6 @@
 -- An NFA has the usual prefix exactly where its parts are in place.
 -- Main statements: state_is, skip_within, not_any, Decides-alone, Decides-apart.
--- Used by: `has_prefix` and `has_prefix_apart`; `state_is` also by FoundStates and Steps.
+-- Used by: `has_prefix` and `has_prefix_apart`; `state_is` also by FoundStates and Counts.
 -- Idea: each part of `HasPrefix` is an equation of states, which the code decides by comparing their targets and bytes.
 use Rattle.determinize_nfa.proofs.Common.{BinaryUnion, Bool, ByteRange, Decides, Fail, HasPrefix, HasPrefixApart}
 use Rattle.determinize_nfa.proofs.Common.{IsAccepted, Nfa, Node, Some, Transition, ap, arith, each_passes, eq-eqb}
