@@ -46,12 +46,8 @@ fn set_flags<A: Allocator>(
 }
 
 /// Builds the next state in an empty builder. On error the stack is not cleared.
-///
-/// All parts of a transition are inlined into this function, and it is not inlined itself, so it is
-/// as fast for each caller. It changes the builder in place: moving it just after a write to it
-/// stalls until the write is done.
-#[inline(never)]
-fn transition<N: Allocator, A: Allocator, C: Counter>(
+#[inline(always)]
+fn step_over<N: Allocator, A: Allocator, C: Counter>(
     nfa: &NFA<N>,
     match_kind: MatchKind,
     sparses: &mut SparseSets<A>,
@@ -94,6 +90,39 @@ fn transition<N: Allocator, A: Allocator, C: Counter>(
     Ok(())
 }
 
+/// Builds the next state over a byte, or over EOI for `None`. On error the stack is not cleared.
+///
+/// All parts of a transition are inlined into this function, and it is not inlined itself, so it is
+/// as fast for each caller. It changes the builder in place: moving it just after a write to it
+/// stalls until the write is done. An optional byte is passed in registers, a unit in memory.
+#[inline(never)]
+fn transition<N: Allocator, A: Allocator, C: Counter>(
+    nfa: &NFA<N>,
+    match_kind: MatchKind,
+    sparses: &mut SparseSets<A>,
+    stack: &mut Vec<StateID, A>,
+    state: &State<A>,
+    byte: Option<u8>,
+    builder: &mut StateBuilderNFA<A>,
+    counter: &mut C,
+) -> Result<(), AllocError>
+    requires scratch { IsScratch nfa.now sparses.old.set1 sparses.old.set2 stack.old.items }
+    requires resolve { AllResolve nfa.now state.now.states }
+    requires empty { builder.old ≡ dead }
+    ensures ok { OnOk result (builder.new ≡ step nfa.now match_kind state.now byte) }
+    ensures resolve { OnOk result (AllResolve nfa.now builder.new.states) }
+    ensures scratch { IsScratch nfa.now sparses.new.set1 sparses.new.set2 [] }
+    ensures counted { IsTrue C.counts → OnOk result (C.total counter.new
+        ≡ C.total counter.old + tries nfa.now match_kind state.now byte) }
+    ensures bounded { IsTrue C.counts → C.total counter.new
+        ≤ C.total counter.old + 2 * (length nfa.now.states + edges_in_all nfa.now) }
+{
+    let unit = Unit::from(byte);
+    step_over(
+        nfa, match_kind, sparses, stack, state, unit, builder, counter,
+    )
+}
+
 /// Returns the next state in a builder, as [`next`] does.
 #[inline(always)]
 #[tactic(auto, using(crate::proofs::step::StepLaws::one_pattern))]
@@ -120,14 +149,17 @@ fn build_counted<N: Allocator, A: Allocator, C: Counter>(
     ensures bounded { IsTrue C.counts → C.total counter.new
         ≤ C.total counter.old + 2 * (length nfa.now.states + edges_in_all nfa.now) }
 {
-    let mut builder = empty_builder.into_matches()?.into_nfa();
+    let mut builder = match empty_builder.into_matches() {
+        Ok(builder) => builder.into_nfa(),
+        Err(error) => return Err(error),
+    };
     let result = transition(
         nfa,
         match_kind,
         sparses,
         stack,
         state,
-        unit,
+        unit.as_u8(),
         &mut builder,
         counter,
     );

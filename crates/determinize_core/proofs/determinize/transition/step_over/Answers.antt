@@ -3,9 +3,9 @@ use Rattle.determinize_state.specs.Recording.{settled}
 use Rattle.determinize_start.specs.LookTables.{LookBehindValue}
 use Rattle.determinize_core.proofs.step.Resolving.{step_resolves, targets_within}
 use Rattle.determinize_core.proofs.step.StepParts.{is_nonempty-length, IsRead, step_tries, stepped, tries_are}
-use Rattle.determinize_core.proofs.determinize.transition.transition.Given.{Over}
-use Rattle.determinize_core.proofs.determinize.transition.transition.Goals.{After-set_flags}
-use Rattle.determinize_core.proofs.determinize.transition.transition.Goals as goal
+use Rattle.determinize_core.proofs.determinize.transition.step_over.Given.{Over}
+use Rattle.determinize_core.proofs.determinize.transition.step_over.Goals.{After-set_flags}
+use Rattle.determinize_core.proofs.determinize.transition.step_over.Goals as goal
 
 pub returns-in_err-read_working_list-clause-bounded : goal.returns-in_err-read_working_list-clause-bounded
 unfolding tries
