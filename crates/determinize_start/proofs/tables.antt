@@ -3,3 +3,4 @@ pub mod NoAssertions
 pub mod OpenedSet
 pub mod StepTables
 pub mod TrueTables
+pub mod WordBytes

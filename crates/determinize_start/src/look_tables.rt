@@ -108,6 +108,41 @@ const WORD_SETS: [u32; 4] = [
     NO_BOUNDARY,
 ];
 
+/// Whether each byte is a word byte. Each transition asks that twice, and here it is one load. The
+/// test of a bit in `determinize_below::alphabet::is_word_byte` takes seven instructions more.
+const WORD_BYTES: [bool; 256] = [
+    false, false, false, false, false, false, false, false, false, false, false, false, false,
+    false, false, false, false, false, false, false, false, false, false, false, false, false,
+    false, false, false, false, false, false, false, false, false, false, false, false, false,
+    false, false, false, false, false, false, false, false, false, true, true, true, true, true,
+    true, true, true, true, true, false, false, false, false, false, false, false, true, true,
+    true, true, true, true, true, true, true, true, true, true, true, true, true, true, true, true,
+    true, true, true, true, true, true, true, true, false, false, false, false, true, false, true,
+    true, true, true, true, true, true, true, true, true, true, true, true, true, true, true, true,
+    true, true, true, true, true, true, true, true, true, false, false, false, false, false, false,
+    false, false, false, false, false, false, false, false, false, false, false, false, false,
+    false, false, false, false, false, false, false, false, false, false, false, false, false,
+    false, false, false, false, false, false, false, false, false, false, false, false, false,
+    false, false, false, false, false, false, false, false, false, false, false, false, false,
+    false, false, false, false, false, false, false, false, false, false, false, false, false,
+    false, false, false, false, false, false, false, false, false, false, false, false, false,
+    false, false, false, false, false, false, false, false, false, false, false, false, false,
+    false, false, false, false, false, false, false, false, false, false, false, false, false,
+    false, false, false, false, false, false, false, false, false, false, false, false, false,
+    false, false, false, false, false, false, false, false, false, false,
+];
+
+/// Returns whether the unit is a word byte, which is false for EOI.
+#[inline(always)]
+fn is_word_unit(unit: Unit) -> bool
+    ensures { result ≡ is_word (byte_of unit) }
+{
+    match unit.as_u8() {
+        Some(byte) => WORD_BYTES[byte as usize],
+        None => false,
+    }
+}
+
 /// Returns the word assertions that hold between two bytes, given whether each is a word byte,
 /// except `WordStartHalfAscii` and `WordStartHalfUnicode`, which the look-behind satisfies.
 fn word_set(from_word: bool, word: bool) -> LookSet
@@ -123,7 +158,7 @@ pub fn words_opened(from_word: bool, unit: Unit) -> LookSet
     ensures { (look : Assertion)
         → has result look ≡ tables.word_opened from_word (is_word (byte_of unit)) look }
 {
-    word_set(from_word, unit.is_word_byte())
+    word_set(from_word, is_word_unit(unit))
 }
 
 /// The facts of an NFA on which look-behind depends.
@@ -245,10 +280,14 @@ impl LookTables {
         }
         let line = self.any.contains_anchor_line();
         let crlf = self.any.contains_anchor_crlf();
+        let behind = self.words(is_word_unit(unit));
+        // Likewise without line assertions, since the CRLF assertions are among them.
+        if !line {
+            return behind;
+        }
         LookBehind {
             half_crlf: crlf && unit.is_byte(self.crlf_first()),
-            ..self
-                .words(unit.is_word_byte())
+            ..behind
                 .with(line && unit.is_byte(self.terminator), Look::StartLF)
                 .with(crlf && unit.is_byte(self.crlf_second()), Look::StartCRLF)
         }
