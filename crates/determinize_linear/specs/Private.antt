@@ -5,4 +5,5 @@ pub mod Marks
 pub mod Paid
 pub mod RowMarks
 pub mod Spent
+pub mod Starts
 pub mod Walks

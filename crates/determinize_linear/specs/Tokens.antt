@@ -1,5 +1,5 @@
 -- The tokens of an input.
-use Rattle.std.specs.Prelude.{◌≡◌, ◌-◌, ◌<◌, ℕ, List, Some, [], ◌∷◌, false}
+use Rattle.std.specs.Prelude.{◌≡◌, ◌-◌, ◌+◌, ◌<◌, ℕ, List, Some, [], ◌∷◌, false, length, min}
 use Rattle.determinize_below.specs.Search.{Asked}
 use Rattle.determinize_below.specs.Semantics.{Accepts, Nfa}
 use Rattle.determinize_below.specs.declared.search.Match.{Match}
@@ -25,3 +25,13 @@ HasNoToken nfa asked = (cs : List ℕ) (i pattern : ℕ)
 abbrev pub AreTokens : Nfa → Asked → List Match → Type 0
 AreTokens nfa asked [] = HasNoToken nfa asked
 AreTokens nfa asked (m ∷ ms) = IsToken nfa asked m × AreTokens nfa (from asked m.end) ms
+
+-- where the last token ends; where the range starts, if there is none
+abbrev pub end_of_last : ℕ → List Match → ℕ
+end_of_last start [] = start
+end_of_last start (m ∷ ms) = end_of_last m.end ms
+
+-- one step for each token and for each byte that they cover, and one where the list ends before the
+-- range does
+abbrev pub least_steps : Asked → List Match → ℕ
+least_steps asked ms = length ms + (min (end_of_last asked.start ms + 1) asked.end - asked.start)

@@ -15,6 +15,7 @@ use determinize_engine::text::Text;
 use std::alloc::{AllocError, Allocator};
 
 /// Returns the byte of a text at a position, or `None` at its end.
+#[inline(always)]
 fn byte_at(text: &Text<'_>, at: usize) -> Option<u8>
     ensures { result ≡ slice_get text.now.bytes at }
 {
@@ -26,6 +27,7 @@ fn byte_at(text: &Text<'_>, at: usize) -> Option<u8>
 }
 
 /// Returns the byte before a position.
+#[inline(always)]
 pub(crate) fn byte_before(text: &Text<'_>, at: usize) -> Option<u8>
     ensures value { result ≡ before_at text.now at }
     ensures unit { IsUnit result }

@@ -2,15 +2,16 @@
 //! DFA.
 //!
 //! The last match that the rows of an anchored walk list is the most preferred one that begins
-//! where the walk does. The walk may have read far behind it. So each pair of a position and a row
-//! that it was at is marked, if the next row listed no match. A later walk begins where that match
-//! ends or behind it. So a marked pair that it comes to was marked behind the match, from where no
-//! further match was listed, and the walk ends there: all walks go on alike from a pair.
+//! where the walk does. The walk may have read far on after it. So each pair of a position and a
+//! row that it was at is marked, if the next row listed no match. A later walk begins where that
+//! match ends or further on. So a marked pair that it comes to was marked after the match, from
+//! where no further match was listed, and the walk ends there: all walks go on alike from a pair.
+//! It ends in the dead row, too, whose pairs are marked from the start.
 //!
 //! No later walk is at the position where a walk begins, except to begin there. So its first step
 //! marks nothing, and neither does the last one of a walk that reads the whole text.
 
-ghost use Rattle.std.specs.Prelude.{◌≡◌, ℕ, ◌*◌, ◌<◌, ◌≤◌, ◌-◌, ◌+◌, ◌^◌, ◌⊎◌, All, IfOk, IsTrue, None, Some, false, length, true};
+ghost use Rattle.std.specs.Prelude.{◌≡◌, ℕ, ◌*◌, ◌<◌, ◌≤◌, ◌-◌, ◌+◌, ◌^◌, All, IfOk, IsTrue, None, Some, false, length, true};
 ghost use Rattle.determinize_below.specs.Nfa.{IsAccepted};
 ghost use Rattle.determinize_below.specs.Semantics.{before_at};
 ghost use Rattle.determinize_below.specs.Truth.{IsUnit};
@@ -26,16 +27,16 @@ ghost use Rattle.determinize_linear.specs.Private.Found.{IsFoundAt};
 ghost use Rattle.determinize_linear.specs.Private.Following.{IsWalkable, following, steps_left, unmarked};
 ghost use Rattle.determinize_linear.specs.Private.Paid.{end_of};
 ghost use Rattle.determinize_linear.specs.Private.RowMarks.{bit_of, is_set};
+ghost use Rattle.determinize_linear.specs.Private.Starts.{BeginAlike};
 ghost use Rattle.determinize_linear.specs.Private.Walks.{HasStepped, HasWalked, IsWalked};
 ghost use Rattle.determinize_linear.specs.Tries.{most_steps};
 
-use crate::choices::byte_before;
 use crate::in_turn::find_all_by;
 use crate::matcher::Matcher;
 use crate::row_marks::RowMarks;
+use crate::starts::{begin_alike, start_at};
 use crate::tries::{Counter, Tries};
-use determinize_below::{Anchored, HalfMatch, Input, Match, NFA};
-use determinize_core::start::Config;
+use determinize_below::{HalfMatch, Input, Match, NFA};
 use determinize_dense::{Dfa, RowId, Walker};
 use determinize_engine::text::Text;
 use std::alloc::{AllocError, Allocator};
@@ -72,7 +73,13 @@ impl<'d, 'n, N: Allocator, M: Allocator> Model for Walk<'d, 'n, N, M> {
 impl<'d, 'n, N: Allocator, M: Allocator + Copy> Walk<'d, 'n, N, M> {
     /// Returns an anchored walk that begins at a position of a text.
     #[inline(always)]
-    fn new(dfa: &'d Dfa<'n, N, M>, text: &Text<'_>, from: usize) -> Walk<'d, 'n, N, M>
+    fn new(
+        dfa: &'d Dfa<'n, N, M>,
+        text: &Text<'_>,
+        from: usize,
+        begin_alike: bool,
+    ) -> Walk<'d, 'n, N, M>
+        requires { begin_alike ≡ true → BeginAlike dfa.now text.now }
         ensures value { result ≡ record {
           dfa = dfa.now;
           row = start_row dfa.now.nfa dfa.now.table true (before_at text.now from);
@@ -84,9 +91,7 @@ impl<'d, 'n, N: Allocator, M: Allocator + Copy> Walk<'d, 'n, N, M> {
         ensures accepted { IsAccepted dfa.now.nfa }
         ensures behind { IsUnit (before_at text.now from) }
     {
-        let start = Config::new()
-            .anchored(Anchored::Yes)
-            .look_behind(byte_before(text, from));
+        let start = start_at(text, from, begin_alike);
         Walk {
             walker: dfa.walker(&start),
             at: from,
@@ -111,7 +116,7 @@ impl<'d, 'n, N: Allocator, M: Allocator + Copy> Walk<'d, 'n, N, M> {
         lists
     }
 
-    /// Returns whether a byte follows, and behind it a match may be listed.
+    /// Returns whether a byte follows, and after it a match may be listed.
     #[inline(always)]
     fn may_follow<A: Allocator>(&self, text: &Text<'_>, marks: &RowMarks<A>) -> bool
         requires { self.now.at < length text.now.bytes
@@ -119,13 +124,10 @@ impl<'d, 'n, N: Allocator, M: Allocator + Copy> Walk<'d, 'n, N, M> {
             < 64 * length marks.now.words }
         ensures more { result ≡ true → (self.now.at < length text.now.bytes)
             × (is_set self.now.dfa.table marks.now self.now.at self.now.row ≡ false) }
-        ensures less { result ≡ false → self.now.at < length text.now.bytes → (self.now.row ≡ 0)
-            ⊎ (is_set self.now.dfa.table marks.now self.now.at self.now.row ≡ true) }
-        ensures units { All IsUnit (units text.now) }
+        ensures less { result ≡ false → self.now.at < length text.now.bytes
+            → is_set self.now.dfa.table marks.now self.now.at self.now.row ≡ true }
     {
-        self.at < text.len()
-            && !self.walker.is_dead()
-            && !marks.is_set(self.at, self.walker.offset())
+        self.at < text.len() && !marks.is_set(self.at, self.walker.offset())
     }
 
     /// Returns the last match that the rows have listed.
@@ -144,7 +146,7 @@ impl<'d, 'n, N: Allocator, M: Allocator + Copy> Walk<'d, 'n, N, M> {
     }
 }
 
-/// Walks over the bytes of a text, up to its end or to where no match is listed behind.
+/// Walks over the bytes of a text, up to its end or to where no further match is listed.
 #[inline(always)]
 fn walk_bytes<N: Allocator, M: Allocator + Copy, A: Allocator, C: Counter>(
     walk: &mut Walk<'_, '_, N, M>,
@@ -155,7 +157,6 @@ fn walk_bytes<N: Allocator, M: Allocator + Copy, A: Allocator, C: Counter>(
     requires walkable { IsWalkable walk.old.dfa marks.old walk.old.dfa.nfa text.now walk.old.at }
     requires within { walk.old.at ≤ length text.now.bytes }
     requires below { walk.old.row < length walk.old.dfa.table.patterns }
-    requires dead { IsDead walk.old.dfa.table 0 }
     requires start { walk.old.found ≡ None }
     ensures walked { IsWalked text.now walk.old marks.old marks.new walk.new 1
         (IsTrue C.counts) (C.total counter.old) (C.total counter.new) }
@@ -182,14 +183,18 @@ fn walk_bytes<N: Allocator, M: Allocator + Copy, A: Allocator, C: Counter>(
 
 /// Returns the pattern and the end of the match that begins at a position of a text, if any: under
 /// `LeftmostFirst` of the most preferred one, and under `All` of the longest one.
+///
+/// - `begin_alike` says whether walks from all positions of the text begin in one row.
 #[inline(always)]
 pub(crate) fn walk_from<N: Allocator, M: Allocator + Copy, A: Allocator, C: Counter>(
     dfa: &Dfa<'_, N, M>,
     text: &Text<'_>,
     from: usize,
+    begin_alike: bool,
     marks: &mut RowMarks<A>,
     counter: &mut C,
 ) -> Option<HalfMatch>
+    requires alike { begin_alike ≡ true → BeginAlike dfa.now text.now }
     requires within { from ≤ length text.now.bytes }
     requires walkable { IsWalkable dfa.now marks.old dfa.now.nfa text.now from }
     ensures found { IsFoundAt dfa.now text.now from result }
@@ -198,7 +203,7 @@ pub(crate) fn walk_from<N: Allocator, M: Allocator + Copy, A: Allocator, C: Coun
     ensures counted { IsTrue C.counts
         → C.total counter.old + end_of from result + 1 ≤ C.total counter.new + from }
 {
-    let mut walk = Walk::new(dfa, text, from);
+    let mut walk = Walk::new(dfa, text, from, begin_alike);
     walk_bytes(&mut walk, text, marks, counter);
     if walk.at < text.len() {
         return walk.found(dfa);
@@ -208,12 +213,13 @@ pub(crate) fn walk_from<N: Allocator, M: Allocator + Copy, A: Allocator, C: Coun
     walk.found(dfa)
 }
 
-/// Returns marks for walks over a text, none of them set.
+/// Returns marks for walks over a text, of which those of the dead row are set.
 pub(crate) fn new_marks<N: Allocator, M: Allocator + Copy, A: Allocator>(
     alloc: A,
     dfa: &Dfa<'_, N, M>,
     text: &Text<'_>,
 ) -> Result<RowMarks<A>, AllocError>
+    requires { IsDead dfa.now.table 0 }
     ensures walkable { IfOk result
         (λ marks. (k : ℕ) → IsWalkable dfa.now marks dfa.now.nfa text.now k) }
     ensures few { IfOk result (λ marks. unmarked dfa.now.table text.now marks
@@ -228,10 +234,13 @@ pub(crate) fn new_marks<N: Allocator, M: Allocator + Copy, A: Allocator>(
 struct Walks<'d, 'n, N: Allocator, M: Allocator, A: Allocator> {
     dfa: &'d Dfa<'n, N, M>,
     marks: RowMarks<A>,
+    /// Whether all of them begin in one row.
+    begin_alike: bool,
 }
 
 impl<'d, 'n, M: Allocator + Copy, D: Allocator, A: Allocator> Matcher for Walks<'d, 'n, D, M, A> {
     ghost is_ready = { λ w nfa text k. (w.dfa.now.kind ≡ kinds.LeftmostFirst)
+        × (w.begin_alike ≡ true → BeginAlike w.dfa.now text)
         × IsWalkable w.dfa.now w.marks nfa text k };
 
     ghost left = { λ w nfa text k. steps_left w.dfa.now.table text w.marks k };
@@ -248,7 +257,8 @@ impl<'d, 'n, M: Allocator + Copy, D: Allocator, A: Allocator> Matcher for Walks<
         from: usize,
         counter: &mut C,
     ) -> Result<Option<HalfMatch>, AllocError> {
-        Ok(walk_from(self.dfa, text, from, &mut self.marks, counter))
+        let (dfa, begin_alike) = (self.dfa, self.begin_alike);
+        Ok(walk_from(dfa, text, from, begin_alike, &mut self.marks, counter))
     }
 }
 
@@ -273,8 +283,13 @@ fn find_all_with<N: Allocator, M: Allocator + Copy, A: Allocator + Copy, C: Coun
         return Ok(Vec::new(alloc));
     }
     let text = Text::of_input(input, false);
+    let begin_alike = begin_alike(dfa, &text);
     let marks = new_marks(alloc, dfa, &text)?;
-    let mut walks = Walks { dfa, marks };
+    let mut walks = Walks {
+        dfa,
+        marks,
+        begin_alike,
+    };
     find_all_by(alloc, &mut walks, dfa.nfa(), input, &text, counter)
 }
 

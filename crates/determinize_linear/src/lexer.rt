@@ -1,17 +1,18 @@
 //! The tokens of an input by longest match, in a number of steps linear in its length, for a given
 //! DFA.
 //!
-//! A walk from where a token begins may read far behind its end. The walk from there on is at the
+//! A walk from where a token begins may read far on after its end. The walk from there on is at the
 //! same bytes again, and ends where it comes to a pair of a position and a row that was marked, as
-//! those of [`crate::dense`] do: behind the end of the token no match was listed.
+//! those of [`crate::dense`] do: after the end of the token no match was listed.
 
 ghost use Rattle.std.specs.Prelude.{◌≡◌, ◌≤◌, ◌-◌, ◌+◌, IfOk, IsTrue, false, length};
 ghost use Rattle.determinize_below.specs.declared.search.MatchKind.TheVariants as kinds;
-ghost use Rattle.determinize_linear.specs.Tokens.{AreTokens};
+ghost use Rattle.determinize_linear.specs.Tokens.{AreTokens, least_steps};
 ghost use Rattle.determinize_linear.specs.Tries.{most_steps};
 
 use crate::dense::{new_marks, walk_from};
 use crate::in_turn::push_moved;
+use crate::starts::begin_alike;
 use crate::tries::{Counter, Tries};
 use determinize_below::{Input, Match};
 use determinize_dense::Dfa;
@@ -31,6 +32,8 @@ fn tokens_with<N: Allocator, M: Allocator + Copy, A: Allocator + Copy, C: Counte
     ensures tokens { IfOk result (λ found. AreTokens dfa.now.nfa input.now found.items) }
     ensures linear { IsTrue C.counts → C.total counter.new ≤ C.total counter.old
         + most_steps dfa.now.table (input.now.end - input.now.start) }
+    ensures counted { IsTrue C.counts → IfOk result
+        (λ found. C.total counter.old + least_steps input.now found.items ≤ C.total counter.new) }
 {
     let base = input.start();
     let mut found = Vec::new(alloc);
@@ -38,10 +41,11 @@ fn tokens_with<N: Allocator, M: Allocator + Copy, A: Allocator + Copy, C: Counte
         return Ok(found);
     }
     let text = Text::of_input(input, false);
+    let begin_alike = begin_alike(dfa, &text);
     let mut marks = new_marks(alloc, dfa, &text)?;
     let mut at = 0;
     while at < text.len() {
-        match walk_from(dfa, &text, at, &mut marks, counter) {
+        match walk_from(dfa, &text, at, begin_alike, &mut marks, counter) {
             Some(next) if next.offset > at => {
                 push_moved(&mut found, base, at, &next)?;
                 at = next.offset;
@@ -74,7 +78,8 @@ pub fn tokens<N: Allocator, M: Allocator + Copy, A: Allocator + Copy>(
 
 /// Returns the same as [`tokens`], and counts the steps from one row to the next. On error too,
 /// they are at most one for each row of the DFA, and four more, for each byte of the range and two
-/// more.
+/// more. On success they are at least one for each token and one for each byte that they cover, and
+/// one more if the list ends before the range does.
 pub fn tokens_counted<N: Allocator, M: Allocator + Copy, A: Allocator + Copy, L: Ledger>(
     alloc: A,
     dfa: &Dfa<'_, N, M>,
@@ -86,6 +91,8 @@ pub fn tokens_counted<N: Allocator, M: Allocator + Copy, A: Allocator + Copy, L:
     ensures tokens { IfOk result (λ found. AreTokens dfa.now.nfa input.now found.items) }
     ensures linear { steps.new ≤ steps.old
         + most_steps dfa.now.table (input.now.end - input.now.start) }
+    ensures counted { IfOk result
+        (λ found. steps.old + least_steps input.now found.items ≤ steps.new) }
 {
     tokens_with(alloc, dfa, input, steps)
 }

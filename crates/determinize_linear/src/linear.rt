@@ -3,7 +3,7 @@
 //! The search from a position goes depth first, the preferred choices first, so the first pair at a
 //! `Match` state is the end of the most preferred match. A search that ends without one has been at
 //! pairs from which no run accepts, wherever it began, so later searches skip them. After a
-//! match this still holds of all pairs behind it, since a run stays at its position or moves by
+//! match this still holds of all pairs after it, since a run stays at its position or moves by
 //! one: only the marks of the position where the match ends are removed. Matches begin and end in
 //! order, so no search is at an earlier position again.
 

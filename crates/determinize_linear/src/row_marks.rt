@@ -1,10 +1,11 @@
-//! Marks of the pairs of a position and a row from which the next step of a walk listed no match.
+//! Marks of the pairs of a position and a row from which the next step of a walk listed no match,
+//! and of those with row 0, the row of the dead state.
 //!
 //! A walk knows its row by the offset in the table of the DFA, which is the number of the row times
 //! the number of columns. So the words of a row begin at its offset times the number of words for
 //! each entry of the table.
 
-ghost use Rattle.std.specs.Prelude.{◌≡◌, ℕ, ◌*◌, ◌+◌, ◌/◌, ◌<◌, ◌≤◌, ◌||◌, IfOk, false, length, nat_eq};
+ghost use Rattle.std.specs.Prelude.{◌≡◌, ℕ, ◌*◌, ◌+◌, ◌/◌, ◌<◌, ◌≤◌, ◌||◌, IfOk, length, nat_eq, nat_lt};
 ghost use Rattle.determinize_below.specs.Private.Sparse.{has_bit};
 ghost use Rattle.determinize_linear.specs.Private.RowMarks.{HasMark, bit_of};
 
@@ -53,9 +54,19 @@ fn set_bit(words: &mut [u64], first: usize, index: usize)
     words[first + index / 64] |= 1 << (index % 64);
 }
 
+/// Sets all bits of the first words.
+fn set_first(words: &mut [u64], count: usize)
+    requires { count ≤ length words.old }
+    ensures length { length words.new ≡ length words.old }
+    ensures bits { (i : ℕ)
+        → has_bit words.new i ≡ (nat_lt i (64 * count) || has_bit words.old i) }
+{
+    words[..count].fill(u64::MAX);
+}
+
 impl<A: Allocator> RowMarks<A> {
-    /// Returns a table without marks for this number of positions, and for the rows of a table with
-    /// this number of columns.
+    /// Returns a table for this number of positions, and for the rows of a table with this number
+    /// of columns. The pairs of row 0 are marked, and no others.
     #[tactic(auto, using(crate::proofs::walks::Unset::one_bit))]
     pub(crate) fn new(
         alloc: A,
@@ -63,15 +74,18 @@ impl<A: Allocator> RowMarks<A> {
         rows: usize,
         columns: usize,
     ) -> Result<RowMarks<A>, AllocError>
-        requires { 0 < columns }
+        requires rows { 0 < rows }
+        requires columns { 0 < columns }
         ensures room { IfOk result (λ m. positions ≤ 64 * (columns * m.span)) }
         ensures words { IfOk result (λ m. length m.words ≡ rows * (columns * m.span)) }
-        ensures none { IfOk result (λ m. (i : ℕ) → has_bit m.words i ≡ false) }
+        ensures first { IfOk result
+            (λ m. (i : ℕ) → has_bit m.words i ≡ nat_lt i (64 * (columns * m.span))) }
     {
         let span = positions.div_ceil(64).div_ceil(columns);
-        let count = span.checked_mul(columns).ok_or(AllocError)?;
-        let count = count.checked_mul(rows).ok_or(AllocError)?;
-        let words = vec![in alloc; 0u64; count]?;
+        let width = span.checked_mul(columns).ok_or(AllocError)?;
+        let count = width.checked_mul(rows).ok_or(AllocError)?;
+        let mut words = vec![in alloc; 0u64; count]?;
+        set_first(&mut words, width);
         Ok(RowMarks { span, words })
     }
 

@@ -108,7 +108,7 @@ module _ (nfa : Nfa) (asked : Asked) where
     skipped : (ms : List Match) → AreFirst nfa asked None at (Some at) ms → AreFirst nfa asked None (at + 1) None ms
     skipped ms first = λ rest h. first rest (all_further rest h)
 
-  -- behind a match that is skipped
+  -- after a match that is skipped
   after_skip : (at : ℕ) (ms : List Match) → asked.start ≤ at → AreFirst nfa asked None (at + 1) None ms
       → HasTurned (at + 1) false ms
   after_skip at ms inside first = record {

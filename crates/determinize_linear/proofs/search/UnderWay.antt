@@ -167,7 +167,7 @@ module _ (nfa : Nfa) (accepted : IsAccepted nfa) (text : Text) (k : ℕ) (rows :
             (λ e. absurd (true≢false (sym n ∙ h.none p e)))
             (λ e. e)
 
-    -- and behind it no pending pair follows a visited one
+    -- and after it no pending pair follows a visited one
     pub spent_after : p.0 < length rows → IsSpent nfa text p.0 (without_marks rows p.0)
     spent_after a = record {
       none = λ x v. h.none x (was x v).0;

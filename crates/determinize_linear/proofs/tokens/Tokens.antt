@@ -1,10 +1,12 @@
 -- The tokens of an input, by the longest matches in its text.
--- Main statements: no_token, position_within, begins, more_tokens, all_tokens, is_token, none_longer.
+-- Main statements: no_token, position_within, begins, more_tokens, all_tokens, is_token, none_longer, end_of_last-push,
+-- steps_before, steps_of_all.
 -- Used by: `tokens_with`.
 -- Idea: the longest match from a position is that of the rest of the text, which is the text of the rest of the input.
 use Rattle.std.proofs.Common.{◌≡◌, ◌<◌, ◌≤◌, ◌+◌, ◌-◌, ◌++◌, ◌∙◌, ◌∷◌, ℕ, List, None, Option, Some, [], ap, append-nil}
 use Rattle.std.proofs.Common.{append_assoc, arith, false, length, refl, subst, sym}
 use Rattle.std.specs.Option.{IfSome}
+use Rattle.std.proofs.Math.Nat.{min-le_left, min-le_right}
 use Rattle.determinize_below.specs.Search.{Asked}
 use Rattle.determinize_below.specs.Semantics.{Accepts, Nfa, Text}
 use Rattle.determinize_below.specs.declared.search.HalfMatch.{HalfMatch}
@@ -18,7 +20,7 @@ use Rattle.determinize_find.proofs.matches.OneList.{length-range}
 use Rattle.determinize_nfa.specs.Runs.{since}
 use Rattle.determinize_linear.specs.Private.Found.{IsLongestAt, earlier}
 use Rattle.determinize_linear.specs.Private.Paid.{in_haystack}
-use Rattle.determinize_linear.specs.Tokens.{AreTokens, HasNoToken, IsToken}
+use Rattle.determinize_linear.specs.Tokens.{AreTokens, HasNoToken, IsToken, end_of_last, least_steps}
 
 -- in no bytes there is none
 pub no_token : (nfa : Nfa) (asked : Asked) → asked.end ≤ length asked.haystack → asked.end ≤ asked.start
@@ -79,3 +81,16 @@ module _ (nfa : Nfa) (asked : Asked) where
       longest.1 cs i pattern (subst (λ w. Accepts nfa w nfa.start_anchored cs i pattern) (sym rest_is) acc),
       empty,
     )
+
+-- a token more is the last
+pub end_of_last-push : (start : ℕ) (ms : List Match) (m : Match) → end_of_last start (ms ++ m ∷ []) ≡ m.end
+end_of_last-push start [] m = refl
+end_of_last-push start (n ∷ ns) m = end_of_last-push n.end ns m
+
+-- the fewest steps, where the list ends at an index, and where this is the end of the range
+module _ (asked : Asked) (ms : List Match) (at : ℕ) where
+  pub steps_before : end_of_last asked.start ms ≡ asked.start + at → least_steps asked ms ≤ length ms + at + 1
+  steps_before last = omega (arith, min-le_left (end_of_last asked.start ms + 1) asked.end, last)
+
+  pub steps_of_all : asked.end ≤ asked.start + at → least_steps asked ms ≤ length ms + at
+  steps_of_all past = omega (arith, min-le_right (end_of_last asked.start ms + 1) asked.end, past)

@@ -1,7 +1,7 @@
 -- A walk from a position, one step after another.
 -- Main statements: followed_start, followed_step, followed_mark, followed_all, followed_end, following-done,
 -- following-dead, following-none, following-marked.
--- Used by: Walked.
+-- Used by: Walked, and `new_marks`.
 -- Idea: what follows the marked pairs is what follows the pair where the walk is, until a match is listed.
 use Rattle.std.proofs.Common.{◌≡◌, ◌<◌, ◌≤◌, ◌*◌, ◌+◌, ◌&&◌, ◌∙◌, ◌⊎◌, ℕ, List, None, Option, Some, [], ◌∷◌, ap, arith, inl}
 use Rattle.std.proofs.Common.{inr, length, nat_eq, refl, slice_get, suc, sym, true}

@@ -1,12 +1,17 @@
 -- Marks of pairs of a position and a row, and how many are not set.
--- Main statements: bit_within, is_set-with, unset-with, unset_most, the ruleset one_bit.
--- Used by: Followed, Walked, `find_all_with`, and the marks.
+-- Main statements: bit_within, is_set-with, unset-with, unset_most, first_set, first_row, the ruleset one_bit.
+-- Used by: Followed, Walked, `new_marks`, and the marks.
 -- Idea: a row has a bit for each of the positions, so two pairs with one bit are equal.
 use Rattle.std.proofs.Common.{◌≡◌, ◌<◌, ◌≤◌, ◌*◌, ◌+◌, ◌∙◌, ◌/◌, ◌%◌, ◌||◌, ◌&&◌, ℕ, Bool, List, ap, arith, false}
-use Rattle.std.proofs.Common.{◌^◌, bit_or, length, nat_eq, refl, slice_index_or, slice_set, suc, sym, zero}
+use Rattle.std.proofs.Common.{◌++◌, ◌-◌, ◌^◌, bit_or, drop, length, nat_eq, nat_lt, refl, replicate, slice_index_or, slice_set}
+use Rattle.std.proofs.Common.{suc, sym, true, zero}
 use Rattle.std.proofs.lemmas.Bool.{cases_lt, eqb-true}
 use Rattle.std.proofs.lemmas.Bool.Decides.{nat_tests}
+use Rattle.std.proofs.lemmas.List.{get_or-drop, get_or-replicate, length-replicate}
 use Rattle.std.proofs.lemmas.Nat.{div-mul-add, mod-mul-add, mul-add-lt}
+use Rattle.std.proofs.lemmas.Nat.Bits.{bit_at_ones}
+use Rattle.std.proofs.Math.ListN.{get_or-append}
+use Rattle.std.proofs.Math.Seq.{get_or-append_right}
 use Rattle.ordered_reach.proofs.Cases.{by_cases, by_test}
 use Rattle.determinize_below.specs.Private.Sparse.{has_bit}
 use Rattle.determinize_below.proofs.sets.Bits.{has_bit-read, has_bit-set, has_bit-zeros}
@@ -27,7 +32,7 @@ pub bit_set : (words : List ℕ) (first index other : ℕ) → first + index / 6
 bit_set words first index other h =
     rw (word_of first index, in_word first index) at (has_bit-set words (64 * first + index) other (omega arith))
 
--- the bits of a row are behind those of the rows before it
+-- the bits of a row come after those of the rows before it
 behind : (row columns span at : ℕ) → 64 * (row * columns * span) + at ≡ row * (64 * (columns * span)) + at
 behind row columns span at = omega arith
 
@@ -127,6 +132,39 @@ row_most is row (suc n) = grind (arith, row_most is row n)
 pub unset_most : (is : ℕ → ℕ → Bool) (n rows : ℕ) → count_unset is n rows ≤ n * rows
 unset_most is n zero = omega arith
 unset_most is n (suc rows) = omega (arith, row_most is rows n, unset_most is n rows)
+
+-- the bits of the first words, where all of them are set
+pub first_set : (words : List ℕ) (n i : ℕ) → n ≤ length words
+    → has_bit (replicate n (2 ^ 64 - 1) ++ drop n words) i ≡ (nat_lt i (64 * n) || has_bit words i)
+unfolding has_bit
+first_set words n i l = by_cases (cases_lt (i / 64) n)
+    (λ k. grind (
+      arith,
+      nat_tests,
+      k,
+      get_or-append (replicate n (2 ^ 64 - 1)) (drop n words) 0 (i / 64),
+      get_or-replicate {A = ℕ},
+      length-replicate {A = ℕ},
+      bit_at_ones 64 (i % 64) (omega arith),
+    ))
+    (λ k. grind (
+      arith,
+      nat_tests,
+      k,
+      get_or-append_right (replicate n (2 ^ 64 - 1)) (drop n words) (i / 64) 0,
+      get_or-drop n words (i / 64 - n) 0,
+      length-replicate {A = ℕ},
+    ))
+
+-- if they are those of the first row, no other row has a mark
+pub first_row : (d : Table) (m : RowMarks)
+    → ((i : ℕ) → has_bit m.words i ≡ nat_lt i (64 * ((d.class_count + 1) * m.span)))
+    → (at row : ℕ) → is_set d m at row ≡ true → row ≡ 0
+first_row d m first at zero e = refl
+first_row d m first at (suc row) e =
+    let l : bit_of m at (suc row * (d.class_count + 1)) < 64 * ((d.class_count + 1) * m.span)
+    = grind (arith, nat_tests, sym (first (bit_of m at (suc row * (d.class_count + 1)))) ∙ e) in
+    absurd (omega (arith, l, behind (suc row) (d.class_count + 1) m.span at))
 
 -- the rules for a read and a write of one bit, and for new words
 pub ruleset one_bit = (has_bit-read, has_bit-set, has_bit-zeros, word_of, in_word)

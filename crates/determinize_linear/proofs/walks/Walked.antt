@@ -3,8 +3,8 @@
 -- has_bit_here, ends_before, cost_some, cost_none, cost_most, steps_enough.
 -- Used by: `walk_bytes`, `walk_from`, `search_from` and `find_all_with`.
 -- Idea: a step finds a match at its position, or it marks a pair, or it is the first or the last one.
-use Rattle.std.proofs.Common.{◌≡◌, ◌<◌, ◌≤◌, ◌*◌, ◌+◌, ◌∙◌, ◌⊎◌, ℕ, Bool, List, None, Option, Some, [], ◌∷◌, arith, false}
-use Rattle.std.proofs.Common.{inl, inr, length, refl, slice_get, subst, suc, sym, true, zero}
+use Rattle.std.proofs.Common.{◌≡◌, ◌<◌, ◌≤◌, ◌*◌, ◌+◌, ◌∙◌, ℕ, Bool, List, None, Option, Some, [], ◌∷◌, arith, false}
+use Rattle.std.proofs.Common.{length, refl, slice_get, subst, suc, sym, true, zero}
 use Rattle.std.proofs.lemmas.Bool.{true≢false}
 use Rattle.std.specs.Option.{IfNone, IfSome, option_or}
 use Rattle.std.specs.Prelude.{All}
@@ -14,7 +14,6 @@ use Rattle.determinize_below.specs.Truth.{IsUnit}
 use Rattle.determinize_below.specs.declared.search.HalfMatch.{HalfMatch}
 use Rattle.determinize_core.specs.Chain.{units}
 use Rattle.determinize_core.specs.LastMatch.{ended_at}
-use Rattle.determinize_dense.specs.Reading.{IsDead}
 use Rattle.determinize_dense.specs.Table.{DfaValue, Table, patterns_at, row_over}
 use Rattle.determinize_engine.proofs.Texts.{all_read}
 use Rattle.determinize_state.specs.Value.{is_nonempty}
@@ -23,8 +22,7 @@ use Rattle.determinize_linear.specs.Private.Paid.{IsPaid, end_of}
 use Rattle.determinize_linear.specs.Private.RowMarks.{HasBits, HasMark, RowMarks, bit_of, is_set}
 use Rattle.determinize_linear.specs.Private.Walks.{HasStepped, HasWalked, IsWalked, WalkValue, matched}
 use Rattle.determinize_linear.proofs.walks.Followed.{followed_all, followed_end, followed_mark, followed_start}
-use Rattle.determinize_linear.proofs.walks.Followed.{followed_step, following-dead, following-done, following-marked}
-use Rattle.determinize_linear.proofs.walks.Followed.{following-none}
+use Rattle.determinize_linear.proofs.walks.Followed.{followed_step, following-done, following-marked, following-none}
 use Rattle.determinize_linear.proofs.walks.Unset.{bit_within, unset-with}
 
 pub unit_at : (us : List (Option ℕ)) (i : ℕ) (u : Option ℕ) → All IsUnit us → slice_get us i ≡ Some u → IsUnit u
@@ -172,18 +170,12 @@ module _ (text : Text) (first : WalkValue) (old : RowMarks)
           }
 
     -- where no match follows
-    pub none_follows : All IsUnit (units text) → IsDead first.dfa.table 0
-        → (now.at < length text.bytes → (now.row ≡ 0) ⊎ (is_set now.dfa.table m now.at now.row ≡ true))
+    pub none_follows : (now.at < length text.bytes → is_set now.dfa.table m now.at now.row ≡ true)
         → now.at < length text.bytes → following first.dfa.table text now.at now.row ≡ None
-    none_follows are dead ends l = stop (ends l)
-      where
-        stop : (now.row ≡ 0) ⊎ (is_set now.dfa.table m now.at now.row ≡ true)
-            → following first.dfa.table text now.at now.row ≡ None
-        stop (inl z) = rw z (following-dead first.dfa.table text now.at 0 are dead)
-        stop (inr e) = following-marked first.dfa.table text m first.at now.at now.row now.found _ is.followed
-            (omega arith) is.below (rw is.dfa at e)
+    none_follows ends l = following-marked first.dfa.table text m first.at now.at now.row now.found _ is.followed
+        (omega arith) is.below (rw is.dfa at (ends l))
 
-    -- and behind the end of the text none does
+    -- and past the end of the text none does
     pub none_past : length text.bytes < now.at → following first.dfa.table text now.at now.row ≡ None
     none_past l = following-done first.dfa.table text now.at now.row (all_read text l refl)
 
@@ -205,7 +197,7 @@ module _ (text : Text) (first : WalkValue) (old : RowMarks)
         cost = λ k. omega (arith, is.cost k, few);
       }
 
--- a walk that took a step is behind the end of its match
+-- a walk that took a step is further on than the end of its match
 pub ends_before : (from at : ℕ) (found : Option HalfMatch) → from < at → from ≤ end_of from found
     → from + matched from found ≤ at → end_of from found + 1 ≤ at
 ends_before from at None a b c = omega arith

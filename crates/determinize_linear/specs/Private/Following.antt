@@ -1,4 +1,4 @@
--- What the rows of a DFA list behind a position of a text, and marks of pairs behind which it is
+-- What the rows of a DFA list after a position of a text, and marks of pairs after which it is
 -- nothing.
 use Rattle.std.specs.Prelude.{◌≡◌, ◌+◌, ◌-◌, ◌<◌, ◌≤◌, ℕ, None, Option, drop, length, true}
 use Rattle.determinize_below.specs.Semantics.{Nfa, Text}
@@ -10,11 +10,11 @@ use Rattle.determinize_dense.specs.Reading.{lists_along}
 use Rattle.determinize_dense.specs.Table.{DfaValue, Table}
 use Rattle.determinize_linear.specs.Private.RowMarks.{HasBits, RowMarks, count_unset, is_set}
 
--- the last match that is listed behind a position, where a walk is in a row
+-- the last match that is listed after a position, where a walk is in a row
 abbrev pub following : Table → Text → ℕ → ℕ → Option HalfMatch
 following d text at row = last_listed at (lists_along d row (drop at (units text)))
 
--- from a position on, none is listed behind a marked pair
+-- from a position on, none is listed after a marked pair
 abbrev pub NoneFollows : Table → Text → ℕ → RowMarks → Type 0
 NoneFollows d text k m = (at row : ℕ) → k ≤ at → at ≤ length text.bytes → row < length d.patterns
     → is_set d m at row ≡ true → following d text at row ≡ None

@@ -27,7 +27,7 @@ pub record HasStepped (old : WalkValue) (u : Option ℕ) (new : WalkValue) (is_m
   pub lists : is_match ≡ is_nonempty (patterns_at old.dfa.table new.row)
 
 -- a walk from a position that is in a row at another, with its marks and the match so far: what
--- follows a marked pair behind that match is nothing, or what follows the pair where it is
+-- follows a marked pair after that match is nothing, or what follows the pair where it is
 pub record IsFollowed (d : Table) (text : Text) (m : RowMarks) (from at row : ℕ)
     (found all : Option HalfMatch) : Type 0 where
   pub so_far : option_or (following d text at row) found ≡ all

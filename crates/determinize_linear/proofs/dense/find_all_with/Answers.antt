@@ -7,7 +7,11 @@ use Rattle.determinize_linear.proofs.walks.Walked.{steps_enough}
 use Rattle.determinize_linear.proofs.dense.find_all_with.Goals as goal
 
 pub find_all_by-requires-clause-ready : goal.find_all_by-requires-clause-ready
-find_all_by-requires-clause-ready g c = λ k. (c.requires.kind, rw c.nfa.ensures.value (c.in_ok-marks.ensures.walkable k))
+find_all_by-requires-clause-ready g c = λ k. (
+  c.requires.kind,
+  c.begin_alike-begin_alike.ensures.alike,
+  rw c.nfa.ensures.value (c.in_ok-marks.ensures.walkable k),
+)
 
 pub returns-clause-linear : goal.returns-clause-linear
 returns-clause-linear g c = λ k.

@@ -87,5 +87,4 @@ returns-clause-walked g c = c.loop-walk.invariant.walked
 pub returns-clause-ends : goal.returns-clause-ends
 returns-clause-ends g c = none_follows c.args.text.now c.args.walk.now c.args.marks.now c.requires.walkable
     (IsTrue g.C.Counter.counts) (g.C.Counter.total c.args.counter.now) c.loop-walk.marks c.loop-walk.walk 1 _
-    c.loop-walk.invariant.walked c.may_follow.ensures.units c.requires.dead
-    (c.may_follow.ensures.less c.loop-walk-test.false)
+    c.loop-walk.invariant.walked (c.may_follow.ensures.less c.loop-walk-test.false)

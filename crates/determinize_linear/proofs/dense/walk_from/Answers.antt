@@ -14,7 +14,7 @@ can : (g : Over) (c : After-len g) → IsWalkable c.new-walk.result.dfa c.args.m
     c.args.text.now c.new-walk.result.at
 can g c = rw c.new-walk.ensures.value c.requires.walkable
 
--- the last match that is listed behind the start of the walk is the one to find
+-- the last match that is listed after the start of the walk is the one to find
 last_found : (g : Over) (c : After-len g) (found : Option HalfMatch)
     → found ≡ following c.new-walk.result.dfa.table c.args.text.now c.new-walk.result.at c.new-walk.result.row
     → IsFoundAt c.args.dfa.now c.args.text.now c.args.from found

@@ -1,4 +1,6 @@
 use Rattle.std.proofs.Common.{◌≡◌, ◌+◌, ◌-◌, ◌≤◌, ◌++◌, ◌∷◌, ◌∙◌, [], ap, arith, length}
+use Rattle.std.proofs.Math.Nat.{min-le_right}
+use Rattle.std.proofs.lemmas.List.{length-append}
 use Rattle.std.specs.Option.{IfSome}
 use Rattle.determinize_below.specs.Semantics.{Text}
 use Rattle.determinize_below.specs.declared.search.HalfMatch.{HalfMatch}
@@ -6,7 +8,7 @@ use Rattle.determinize_find.specs.Matches.{from}
 use Rattle.determinize_find.proofs.matches.OneList.{length-range}
 use Rattle.determinize_linear.specs.Private.Paid.{in_haystack}
 use Rattle.determinize_linear.proofs.tokens.Tokens.{all_tokens, begins, is_token, more_tokens, no_token, none_longer}
-use Rattle.determinize_linear.proofs.tokens.Tokens.{position_within}
+use Rattle.determinize_linear.proofs.tokens.Tokens.{end_of_last-push, position_within, steps_before, steps_of_all}
 use Rattle.determinize_linear.proofs.lexer.tokens_with.Goals.{in_default-via-in-Some+else-next-at}
 use Rattle.determinize_linear.proofs.lexer.tokens_with.Goals.{in_default-via-in_default}
 use Rattle.determinize_linear.proofs.lexer.tokens_with.Goals as goal
@@ -25,6 +27,8 @@ loop-at-init g c = record {
   high = omega arith;
   walkable = λ k l. c.in_ok-marks.ensures.walkable k;
   paid = λ k. omega (arith, c.in_ok-marks.ensures.few);
+  last = rw c.new-found.ensures.items (omega arith);
+  counted = λ k. rw c.new-found.ensures.items (omega arith);
 }
 
 pub loop-at-preserved : goal.loop-at-preserved
@@ -46,6 +50,14 @@ loop-at-preserved g c =
       high = c.in-Some.ensures.walked.within;
       walkable = c.in-Some.ensures.walked.walkable;
       paid = λ k. omega (arith, c.in-Some.ensures.walked.cost k, c.loop-at.invariant.paid k, c.if-next-at.true);
+      last = rw items (end_of_last-push c.args.input.now.start c.loop-at.found.items
+          (in_haystack c.args.input.now.start c.loop-at.at c.in-Some.next));
+      counted = λ k. rw items (omega (
+        arith,
+        length-append c.loop-at.found.items (in_haystack c.args.input.now.start c.loop-at.at c.in-Some.next ∷ []),
+        c.in-Some.ensures.counted k,
+        c.loop-at.invariant.counted k,
+      ));
     }
 
 pub returns-in_default-clause-tokens : goal.returns-in_default-clause-tokens
@@ -75,3 +87,32 @@ returns-clause-tokens g c =
     c.loop-at.invariant.first
     (no_token c.args.dfa.now.nfa (from c.args.input.now (c.args.input.now.start + c.loop-at.at)) within
     (omega (arith, count, c.len.ensures.value, c.loop-at-test.false)))
+
+pub returns-then-base-end-clause-counted : goal.returns-then-base-end-clause-counted
+returns-then-base-end-clause-counted g c = λ k.
+    let past : c.args.input.now.end ≤ c.args.input.now.start
+    = omega (arith, c.end.ensures.value, c.start-base.ensures.value, c.if-base-end.true) in
+    rw c.new-found.ensures.items (omega (arith, min-le_right (c.args.input.now.start + 1) c.args.input.now.end, past))
+
+pub returns-in_default-clause-counted : goal.returns-in_default-clause-counted
+returns-in_default-clause-counted g c = λ k. omega (
+  arith,
+  steps_before c.args.input.now c.loop-at.found.items c.loop-at.at c.loop-at.invariant.last,
+  c.loop-at.invariant.counted k,
+  c.walk_from.ensures.counted k,
+  c.walk_from.ensures.walked.order,
+)
+
+pub returns-clause-counted : goal.returns-clause-counted
+returns-clause-counted g c = λ k.
+    let within : c.args.input.now.end ≤ length c.args.input.now.haystack
+    = omega (arith, c.end.ensures.value, c.end.ensures.in_haystack) in
+    let count : length c.of_input-text.result.bytes ≡ c.args.input.now.end - c.args.input.now.start
+    = ap (λ (t : Text). length t.bytes) c.of_input-text.ensures ∙ length-range c.args.input.now within in
+    let past : c.args.input.now.end ≤ c.args.input.now.start + c.loop-at.at
+    = omega (arith, count, c.len.ensures.value, c.loop-at-test.false) in
+    omega (
+      arith,
+      steps_of_all c.args.input.now c.loop-at.found.items c.loop-at.at past,
+      c.loop-at.invariant.counted k,
+    )

@@ -9,12 +9,15 @@ use Rattle.determinize_linear.proofs.dense.WalksMatcher.search_from.Goals as goa
 pub walk_from-requires-clause-walkable : goal.walk_from-requires-clause-walkable
 walk_from-requires-clause-walkable g c =
     subst (λ (n : Nfa). IsWalkable c.args.self.now.dfa.now c.args.self.now.marks n c.args.text.now c.args.from)
-    (sym c.requires.ready.1.same) c.requires.ready.1
+    (sym c.requires.ready.2.same) c.requires.ready.2
+
+pub walk_from-requires-clause-alike : goal.walk_from-requires-clause-alike
+walk_from-requires-clause-alike g c = c.requires.ready.1
 
 pub returns-clause-best : goal.returns-clause-best
 returns-clause-best g c =
     subst (λ (n : Nfa). IsBestAt n c.args.text.now c.args.from
-    (option_map (from_index c.args.from) c.walk_from.result)) c.requires.ready.1.same (c.walk_from.ensures.found.preferred c.requires.ready.0)
+    (option_map (from_index c.args.from) c.walk_from.result)) c.requires.ready.2.same (c.walk_from.ensures.found.preferred c.requires.ready.0)
 
 pub returns-clause-within : goal.returns-clause-within
 returns-clause-within g c = c.walk_from.ensures.walked.within
@@ -22,8 +25,9 @@ returns-clause-within g c = c.walk_from.ensures.walked.within
 pub returns-clause-ready : goal.returns-clause-ready
 returns-clause-ready g c = λ k l. (
   c.requires.ready.0,
+  c.requires.ready.1,
   subst (λ (n : Nfa). IsWalkable c.args.self.now.dfa.now c.walk_from.new.marks n c.args.text.now k)
-      c.requires.ready.1.same (c.walk_from.ensures.walked.walkable k l),
+      c.requires.ready.2.same (c.walk_from.ensures.walked.walkable k l),
 )
 
 pub returns-clause-paid : goal.returns-clause-paid
