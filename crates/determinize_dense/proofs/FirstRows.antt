@@ -1,6 +1,6 @@
 -- The first row that lists the same patterns, by a map from lists to rows.
 -- Main statements: first-known, firsts-known, first-new, firsts-new.
--- Used by: `first_alike`.
+-- Used by: `first_rows`.
 -- Idea: the map has for each list the first of the rows so far that lists it.
 use Rattle.determinize_dense.proofs.Common.{AreFirsts, arith, bytes_eq, IsFirstAlike, List, None, Option, patterns_at}
 use Rattle.determinize_dense.proofs.Common.{Some, Table, ℕ, ◌+◌, ◌≡◌}

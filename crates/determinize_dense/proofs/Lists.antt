@@ -1,9 +1,12 @@
 -- Lists that are mapped, one element more at a time.
--- Main statements: items-at, mapped-push, lists-push, map-copied.
--- Used by: the loops over lists of patterns, `memory_usage`, `offsets_of`, `numbers_of`, `to_rows`.
+-- Main statements: items-at, mapped-push, lists-push, unwrapped, map-copied.
+-- Used by: the loops over lists of patterns, `memory_usage`, `offsets_of`, `numbers_of`, `lists_of`, `to_rows`.
 -- Idea: `map_more` of std, with the equations that a loop has.
 use Rattle.determinize_dense.proofs.Common.{AllZip, get_or, get_or-map, length, List, lists_of, map, map_more, map_push}
-use Rattle.determinize_dense.proofs.Common.{refl, take, Value, [], ℕ, ◌++◌, ◌+◌, ◌<◌, ◌∷◌, ◌≡◌}
+use Rattle.determinize_core.proofs.Common.{option_map}
+use Rattle.determinize_state.specs.Value.{listed}
+use Rattle.std.specs.Option.{unwrap_or}
+use Rattle.determinize_dense.proofs.Common.{arith, Option, refl, take, Value, [], ℕ, ◌++◌, ◌+◌, ◌<◌, ◌∷◌, ◌≡◌}
 
 -- the list of an element at an index
 pub items-at : {L : Type 0} (f : L → List ℕ) (lists : List L) {x : L} {i : ℕ} → i < length lists → x ≡ get_or lists i x
@@ -22,6 +25,11 @@ pub lists-push : {L : Type 0} (f : L → List ℕ) (lists : List L) {more : List
     → get_or values i v ≡ v → map f more ≡ lists_of (take (i + 1) values)
 lists-push f lists values {i = i} {v = v} so_far more_is same inside at =
     rw (more_is, map_push, so_far, same, map_more (λ (x : Value). x.patterns) values i v inside, at)
+
+-- the list of an option, or one that is empty
+pub unwrapped : {L : Type 0} (f : L → List ℕ) (some : Option L) (none : L) (ps : List ℕ) → option_map f some ≡ listed ps
+    → f none ≡ [] → f (unwrap_or some none) ≡ ps
+unwrapped f some none ps is empty = grind arith
 
 -- copies of lists
 pub map-copied : {L : Type 0} (f : L → List ℕ) (R : L → L → Type 0) → ((x y : L) → R x y → f y ≡ f x) → (xs ys : List L)

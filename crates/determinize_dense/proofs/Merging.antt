@@ -1,6 +1,6 @@
 -- The table of the blocks of a grouping of rows.
 -- Main statements: merged-dfa, merged-is, merged-least, merged-push.
--- Used by: Ordering, `merged`, `minimized` and `merged_rows`.
+-- Used by: Ordering, `merged`, `minimize` and `merged_rows`.
 -- Idea: the row of a block over a unit is the block of the row of its member, and so along units.
 use Rattle.determinize_dense.proofs.Common.{All, All-head, All-nil, All-tail, AreMergedEntries, AreMergedLists}
 use Rattle.determinize_dense.proofs.Common.{AreMergedRows, AreMergedStarts, arith, Blocks, Bool, column_of, DfaValue}

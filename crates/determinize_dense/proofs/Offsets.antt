@@ -1,6 +1,6 @@
 -- Offsets of rows, and entries.
 -- Main statements: rows_at-offsets, same-offset, row-of, stored-offsets, inverse-is, entry-at, over-stored.
--- Used by: Searching, Writing, `match_of`, `next_row`, `finished`, `walker`, `entry` and `row_over`.
+-- Used by: Searching, Writing, `match_of`, `next_row`, `arranged`, `walker`, `entry` and `row_over`.
 -- Idea: an offset is a number times the columns, so it is divided by them, and ordered as the numbers are.
 use Rattle.determinize_dense.proofs.Common.{All, All-from_get_or, All-weaker, arith, column_of, DfaValue, div-add-mod'}
 use Rattle.determinize_dense.proofs.Common.{div-lt_iff_lt-mul, div-mul-add, drop, get_or-drop, get_or-map, IsDfa}

@@ -1,5 +1,5 @@
 -- Rows in the order of their ranks, one row more at a time, and the table of these rows.
--- Main statements: ordering-skip, ordering-push, ordering-by_rank, grouping-by_rank, arranged-least, arranged-ordered.
+-- Main statements: ordering-skip, ordering-push, ordering-by_rank, grouping-by_rank, in-order, arranged-ordered.
 -- Used by: `by_rank` and `arranged`.
 -- Idea: a rank and a number within it are a turn, blocks are numbered in the order of turns, and each has one row.
 use Rattle.determinize_dense.proofs.Common.{AreBlocks, AreTogether, arith, Blocks, DfaValue, get_or-set_at}
@@ -11,7 +11,7 @@ use Rattle.std.proofs.Common.{All}
 use Rattle.determinize_dense.proofs.Pigeonhole.{pigeonhole}
 use Rattle.determinize_dense.proofs.Splitting.{few_blocks, pushed}
 use Rattle.determinize_dense.proofs.Merging.{merged-least}
-use Rattle.determinize_dense.specs.Private.Order.{AreRanks}
+use Rattle.determinize_dense.specs.Private.Order.{AreRanks, IsInOrder}
 
 module _ {ranks numbers members : List ℕ} (rank row : ℕ)
     (is : IsOrdering ranks (rank * length ranks + row) numbers members) (h : row < length ranks) where
@@ -71,13 +71,22 @@ module _ (v : DfaValue) {ranks : List ℕ} {p : Blocks} (are : AreRanks v.table 
   grouping-by_rank = grind (arith, same_row)
 
   module _ {w : DfaValue} (m : IsMerged v p w) where
-    pub arranged-least : IsLeast v.nfa v.table → IsLeast w.nfa w.table
+    arranged-least : IsLeast v.nfa v.table → IsLeast w.nfa w.table
     arranged-least least = let same = same_row in merged-least v w p (record {
       blocks = is.blocks;
       count = is.count ∙ are.count;
       patterns = grind (arith, same);
       apart = grind (arith, least.apart);
     }) m
+
+    pub in-order : IsInOrder v w
+    in-order = record {
+      nfa = m.nfa;
+      kind = m.kind;
+      means = m.means;
+      rows = m.count ∙ is.rows ∙ are.count;
+      least = arranged-least;
+    }
 
     -- only block 0 has row 0
     later : (b : ℕ) → 0 < b → b < length p.members → 0 < slice_index p.members b

@@ -11,15 +11,14 @@
 //!   base is the unanchored start, to which a search returns at each position, or else the dead
 //!   state, which has no NFA states.
 
-ghost use Rattle.std.specs.Prelude.{◌≡◌, ◌<◌, ◌≤◌, ◌+◌, ◌++◌, ◌*◌, ◌∷◌, [], Err, Some, IfOk, IfSome, IsTrue, OnOk, length, map, min, not, slice_get};
+ghost use Rattle.std.specs.Prelude.{◌≡◌, ◌<◌, ◌+◌, ◌++◌, ◌*◌, [], Err, Some, IfOk, IfSome, IsTrue, OnOk, length, map, min, not, slice_get};
 ghost use Rattle.determinize_below.specs.Unit.{byte_of};
 ghost use Rattle.determinize_start.specs.declared.start.TheConstants.StartSlot.{COUNT};
 ghost use Rattle.determinize_below.specs.Nfa.{AllResolve};
 ghost use Rattle.determinize_core.specs.Private.Reading.{gives_nothing};
-ghost use Rattle.determinize_core.specs.Value.{Value as StateValue, dead};
-ghost use Rattle.determinize_dense.specs.Dfa.{HasMoreStates, HasStates, IsReachedValue, start_in};
-ghost use Rattle.determinize_dense.specs.Private.Building.{AreStarts, HasChanges, HasIds, IsBase, IsStart, IsNextRow, Stays};
-ghost use Rattle.determinize_dense.specs.Private.Building.{columns_of, unit_at};
+ghost use Rattle.determinize_core.specs.Value.{Value as StateValue};
+ghost use Rattle.determinize_dense.specs.Dfa.{HasMoreStates, IsReachedValue, start_in};
+ghost use Rattle.determinize_dense.specs.Private.Building.{AreStarts, Building, HasChanges, HasIds, IsBase, IsBuilding, IsBuilt, IsStart, IsNextRow, Stays, columns_of, unit_at};
 ghost use Rattle.determinize_dense.specs.declared.error.DfaError.TheVariants.{TooManyStates};
 ghost use Rattle.ordered_reach.specs.Runs.{without};
 
@@ -40,6 +39,7 @@ use std::marker::Model;
 const SHARING: usize = 8;
 
 /// A DFA that is being built.
+#[derive(Drop)]
 pub(crate) struct Builder<'n, N: Allocator, A: Allocator> {
     stepper: Stepper<'n, N, A>,
     classes: ByteClasses,
@@ -48,22 +48,7 @@ pub(crate) struct Builder<'n, N: Allocator, A: Allocator> {
     next: Vec<u32, A>,
 }
 
-// Takes the fields apart in one call, so that a function that owns a builder drops it in one step.
-impl<'n, N: Allocator, A: Allocator> Drop for Builder<'n, N, A> {
-    fn drop(self) {
-        let Builder {
-            stepper: _,
-            classes: _,
-            limit: _,
-            states: _,
-            next: _,
-        } = self;
-    }
-}
-
 impl<'n, N: Allocator, A: Allocator> Model for Builder<'n, N, A> {
-    ghost use Rattle.determinize_dense.specs.Private.Building.{Building, IsBuilding};
-
     ghost Value = { Building };
 
     ghost view = { λ b. record {
@@ -83,14 +68,6 @@ impl<'n, N: Allocator, A: Allocator> Model for Builder<'n, N, A> {
       values = b.states;
       next = b.next.items;
     } };
-}
-
-/// Returns the number of the row of the state at an index.
-fn row_of(index: usize) -> u32
-    requires { index < MAX_STATES }
-    ensures { result ≡ index }
-{
-    index as u32
 }
 
 /// Returns the state of the NFA from which an anchored or an unanchored search starts.
@@ -142,29 +119,7 @@ fn push_ids<A: Allocator>(state: &State<A>, ids: &mut Vec<StateID, A>) -> Result
     Ok(())
 }
 
-/// Returns a table with the dead state only.
-fn dead_only<A: Allocator + Copy>(alloc: A) -> Result<StateTable<A>, AllocError>
-    ensures { IfOk result (λ states. states ≡ dead ∷ []) }
-{
-    let mut states = StateTable::new(alloc);
-    states.intern(State::dead(alloc)?)?;
-    Ok(states)
-}
-
-/// Returns the patterns of a state, in a list that is not allocated if there are none.
-fn patterns_of<A: Allocator + Copy>(
-    alloc: A,
-    state: &State<A>,
-) -> Result<Vec<PatternID, A>, AllocError>
-    ensures { IfOk result (λ list. list.items ≡ state.now.patterns) }
-{
-    match state.match_pattern_ids()? {
-        Some(list) => Ok(list),
-        None => Ok(Vec::new(alloc)),
-    }
-}
-
-/// Returns a list with the patterns of each state.
+/// Returns a list with the patterns of each state: one that is not allocated if there are none.
 fn lists_of<A: Allocator + Copy>(
     alloc: A,
     states: &[State<A>],
@@ -174,7 +129,7 @@ fn lists_of<A: Allocator + Copy>(
 {
     let mut lists = Vec::with_capacity(alloc, states.len())?;
     for state in states {
-        lists.push(patterns_of(alloc, state)?)?;
+        lists.push(state.match_pattern_ids()?.unwrap_or(Vec::new(alloc)))?;
     }
     Ok(lists)
 }
@@ -206,7 +161,8 @@ impl<'n, N: Allocator, A: Allocator + Copy> Builder<'n, N, A> {
         if limit == 0 {
             return Err(DfaError::TooManyStates);
         }
-        let states = dead_only(alloc)?;
+        let mut states = StateTable::new(alloc);
+        states.intern(State::dead(alloc)?)?;
         let classes = nfa.byte_classes();
         let next = Vec::with_capacity(alloc, classes.alphabet_len())?;
         Ok(Builder {
@@ -235,13 +191,13 @@ impl<'n, N: Allocator, A: Allocator + Copy> Builder<'n, N, A> {
             return Ok(likely);
         }
         if let Some(index) = self.states.find(state) {
-            return Ok(row_of(index));
+            return Ok(index as u32);
         }
         if self.states.len() == self.limit {
             return Err(DfaError::TooManyStates);
         }
         let found = state.clone()?;
-        Ok(row_of(self.states.intern(found)?))
+        Ok(self.states.intern(found)? as u32)
     }
 
     /// Returns the row of the start of a slot, or 0 if no start is of its kind.
@@ -494,11 +450,7 @@ impl<'n, N: Allocator, A: Allocator + Copy> Builder<'n, N, A> {
     /// Returns the rows of all states that a search can reach.
     pub(crate) fn rows(&mut self, alloc: A) -> Result<Rows<'n, N, A>, DfaError>
         requires { self.old.next ≡ [] }
-        ensures nfa { IfOk result (λ rows. rows.nfa ≡ self.old.nfa) }
-        ensures kind { IfOk result (λ rows. rows.kind ≡ self.old.kind) }
-        ensures states { IfOk result
-            (λ rows. HasStates self.old.nfa self.old.kind (length rows.table.patterns)) }
-        ensures few { IfOk result (λ rows. length rows.table.patterns ≤ self.old.limit) }
+        ensures built { IfOk result (λ rows. IsBuilt self.old rows) }
         ensures many { result ≡ Err TooManyStates
             → HasMoreStates self.old.nfa self.old.kind self.old.limit }
     {
@@ -508,26 +460,6 @@ impl<'n, N: Allocator, A: Allocator + Copy> Builder<'n, N, A> {
             kind: Start::Text,
         };
         self.fill(alloc, starts[usual.as_usize()] as usize)?;
-        Ok(self.finish(alloc, starts)?)
-    }
-
-    /// Returns the rows, once all entries are computed.
-    ///
-    /// - `starts` are the rows of the starts.
-    fn finish(
-        &self,
-        alloc: A,
-        starts: [u32; StartSlot::COUNT],
-    ) -> Result<Rows<'n, N, A>, AllocError>
-        requires whole { length self.now.next
-            ≡ length self.now.values * columns_of self.now.classes }
-        requires starts { AreStarts self.now.nfa self.now.values COUNT starts }
-        ensures nfa { IfOk result (λ rows. rows.nfa ≡ self.now.nfa) }
-        ensures kind { IfOk result (λ rows. rows.kind ≡ self.now.kind) }
-        ensures states { IfOk result
-            (λ rows. HasStates self.now.nfa self.now.kind (length rows.table.patterns)) }
-        ensures few { IfOk result (λ rows. length rows.table.patterns ≤ self.now.limit) }
-    {
         Ok(Rows {
             nfa: self.stepper.nfa(),
             match_kind: self.stepper.match_kind(),

@@ -1,13 +1,14 @@
 //! A whole DFA: its table, how its entries are read, and what can be asked of it besides searches.
 
-ghost use Rattle.std.specs.Prelude.{◌≡◌, ◌+◌, ◌*◌, ◌<◌, ◌≤◌, Err, IfOk, IsErr, length, min};
+ghost use Rattle.std.specs.Prelude.{◌≡◌, ◌+◌, ◌*◌, ◌<◌, ◌≤◌, Err, IfOk, IsErr, length, map, min};
 ghost use Rattle.determinize_below.specs.ByteClasses.{AreClassesOf};
 ghost use Rattle.determinize_below.specs.Nfa.{IsAccepted};
 ghost use Rattle.determinize_below.specs.Truth.{IsUnit};
 ghost use Rattle.determinize_dense.specs.Dfa.{HasMoreStates, HasStates, IsDfaOf};
 ghost use Rattle.determinize_dense.specs.Least.{HasRows, IsLeast};
-ghost use Rattle.determinize_dense.specs.Private.Rows.{IsDfa, IsNext, IsOffset, offset_of, rows_at};
-ghost use Rattle.determinize_dense.specs.Table.{bytes_of, column_of, patterns_at, start_row};
+ghost use Rattle.determinize_dense.specs.Private.Order.{IsArranged};
+ghost use Rattle.determinize_dense.specs.Private.Rows.{IsDfa, IsNext, IsOffset, dfa_value, offset_of, rows_at};
+ghost use Rattle.determinize_dense.specs.Table.{DfaValue, bytes_of, column_of, patterns_at, start_row};
 ghost use Rattle.determinize_dense.specs.declared.error.DfaError.TheVariants.{TooManyStates};
 
 use crate::build::Builder;
@@ -63,11 +64,6 @@ pub struct Dfa<'n, N: Allocator = Global, A: Allocator = Global> {
 }
 
 impl<'n, N: Allocator, A: Allocator> Model for Dfa<'n, N, A> {
-    ghost use Rattle.std.specs.Prelude.{◌+◌, length, map};
-    ghost use Rattle.determinize_dense.specs.Table.{DfaValue};
-    ghost use Rattle.determinize_dense.specs.Private.Order.{IsArranged};
-    ghost use Rattle.determinize_dense.specs.Private.Rows.{dfa_value, rows_at};
-
     ghost Value = { DfaValue };
 
     ghost view = { λ d. dfa_value d.nfa.now d.match_kind d.classes
@@ -150,9 +146,10 @@ impl<'n, N: Allocator, A: Allocator + Copy> Dfa<'n, N, A> {
             (λ dfa. length dfa.table.patterns ≤ length self.now.table.patterns) }
     {
         let rows = self.to_rows(alloc)?;
-        let fewest = rows.minimized(alloc)?;
-        // The copy of the rows is not kept while the fewest are copied in order.
-        drop(rows);
+        let parts = rows.partition(alloc)?;
+        let fewest = rows.merged(alloc, &parts)?;
+        // These are not kept while the fewest rows are copied in order.
+        drop((rows, parts));
         fewest.arranged(alloc)
     }
 

@@ -1,6 +1,7 @@
 //! Why a DFA was not built.
 
 ghost use Rattle.std.specs.Prelude.{◌≡◌};
+ghost use Rattle.determinize_dense.specs.declared.error.DfaError.TheVariants.{OutOfMemory};
 
 use std::alloc::{AllocError, AllocFailed};
 use std::error::Error;
@@ -16,8 +17,6 @@ pub enum DfaError {
 }
 
 impl From<AllocError> for DfaError {
-    ghost use Rattle.determinize_dense.specs.declared.error.DfaError.TheVariants.{OutOfMemory};
-
     ghost from_gives = { λ _ e. e ≡ OutOfMemory };
 
     fn from(_refused: AllocError) -> DfaError {
@@ -26,8 +25,6 @@ impl From<AllocError> for DfaError {
 }
 
 impl<T: Drop> From<AllocFailed<T>> for DfaError {
-    ghost use Rattle.determinize_dense.specs.declared.error.DfaError.TheVariants.{OutOfMemory};
-
     ghost from_gives = { λ _ e. e ≡ OutOfMemory };
 
     fn from(_refused: AllocFailed<T>) -> DfaError {

@@ -5,11 +5,11 @@
 //! serves any number of searches. The matches are those of `determinize_lazy::Lazy`.
 //!
 //! - `dfa`: the type, and its table. `build`: its construction, with `error`. `rows`: the rows
-//!   until they are in order. `search`: searches, with `scans` and `pauses`. `reading`: steps by
-//!   hand, and `walker` faster ones. `overlapping`: all patterns at each position. `bytes`: a DFA
-//!   as bytes. `minimize`: the fewest rows, by `partition`. `order`: the order of rows. `laws`:
-//!   what a DFA lists where a text ends, that no table which lists the same along all units has
-//!   fewer rows, and that the number of states is one.
+//!   until they are in order. `search`: searches, with `scans`. `reading`: steps by hand, and
+//!   `walker` faster ones. `overlapping`: all patterns at each position. `bytes`: a DFA as bytes.
+//!   `minimize`: the fewest rows, by `partition`. `laws`: what a DFA lists where a text ends, that
+//!   no table which lists the same along all units has fewer rows, and that the number of states is
+//!   one.
 #![tactic(auto)]
 
 mod build;
@@ -18,10 +18,8 @@ pub mod dfa;
 pub mod error;
 pub mod laws;
 mod minimize;
-mod order;
 pub mod overlapping;
 mod partition;
-mod pauses;
 pub mod reading;
 mod rows;
 mod scans;

@@ -6,11 +6,8 @@
 //! blocks of its entries in the column. When a cycle of passes over all columns splits no block,
 //! each block becomes one row.
 
-ghost use Rattle.std.specs.Prelude.{◌≡◌, ℕ, ◌<◌, ◌≤◌, ◌+◌, IfOk, IsTrue, OnOk, bytes_eq, false, length, map, slice_index, sum_by};
-ghost use Rattle.std.specs.HashMap.{get_by};
-ghost use Rattle.determinize_dense.specs.Least.{IsLeast};
-ghost use Rattle.determinize_dense.specs.Private.Minimizing.{AreDistances, AreFirstAlike, AreFirsts, AreMergedLists, AreMergedRows, AreMergedStarts, AreDistancesSoFar, AreTargets, entry, IsFirstAlike, IsGrouping, IsMerged, IsPartition, IsDistanceSoFar, IsRefined, IsShort, IsSplitBy, IsStable};
-ghost use Rattle.determinize_dense.specs.Private.Rows.{IsFilled};
+ghost use Rattle.std.specs.Prelude.{◌≡◌, ℕ, ◌<◌, ◌≤◌, ◌+◌, IfOk, IsTrue, false, length, slice_index, sum_by};
+ghost use Rattle.determinize_dense.specs.Private.Minimizing.{AreDistances, AreFirstAlike, AreMergedRows, AreDistancesSoFar, entry, IsGrouping, IsMerged, IsPartition, IsDistanceSoFar, IsRefined, IsShort, IsSplitBy, IsStable};
 
 use crate::partition::Partition;
 use crate::rows::Rows;
@@ -24,50 +21,20 @@ use std::hash::{BuildHasherDefault, FoldHasher};
 type Firsts<'l, A> = HashMap<&'l [PatternID], usize, BuildHasherDefault<FoldHasher>, A>;
 
 impl<'n, N: Allocator, A: Allocator + Copy> Rows<'n, N, A> {
-    /// Returns the fewest rows that list the same patterns along all units.
-    pub(crate) fn minimized(&self, alloc: A) -> Result<Rows<'n, N, A>, AllocError>
-        ensures nfa { IfOk result (λ rows. rows.nfa ≡ self.now.nfa) }
-        ensures kind { IfOk result (λ rows. rows.kind ≡ self.now.kind) }
-        ensures least { IfOk result (λ rows. IsLeast rows.nfa rows.table) }
-        ensures fewer { IfOk result
-            (λ rows. length rows.table.patterns ≤ length self.now.table.patterns) }
-    {
-        let parts = self.partition(alloc)?;
-        self.merged(alloc, &parts)
-    }
-
-    /// Returns the first row that lists the same patterns as a row.
-    ///
-    /// - `firsts` is the first row of each list that an earlier row has, and then also that of the
-    ///   list of this row.
-    fn first_alike<'l>(
-        &'l self,
-        firsts: &mut Firsts<'l, A>,
-        row: usize,
-    ) -> Result<usize, AllocError>
-        requires row { row < length self.now.table.patterns }
-        requires firsts { AreFirsts self.now.table row
-            (λ list. get_by (λ key. bytes_eq list key.now) firsts.old) }
-        ensures first { IfOk result (λ first. IsFirstAlike self.now.table row first) }
-        ensures firsts { OnOk result (AreFirsts self.now.table (row + 1)
-            (λ list. get_by (λ key. bytes_eq list key.now) firsts.new)) }
-    {
-        let list = self.patterns(row);
-        if let Some(first) = firsts.get(list) {
-            return Ok(*first);
-        }
-        firsts.insert(list, row)?;
-        Ok(row)
-    }
-
     /// Returns for each row the first row that lists the same patterns.
     fn first_rows(&self, alloc: A) -> Result<Vec<usize, A>, AllocError>
         ensures { IfOk result (λ values. AreFirstAlike self.now.table values.items) }
     {
         let mut values = Vec::with_capacity(alloc, self.len())?;
-        let mut firsts = HashMap::new(alloc);
+        let mut firsts: Firsts<'_, A> = HashMap::new(alloc);
         for row in 0..self.len() {
-            values.push(self.first_alike(&mut firsts, row)?)?;
+            let list = self.patterns(row);
+            if let Some(first) = firsts.get(list) {
+                values.push(*first)?;
+            } else {
+                firsts.insert(list, row)?;
+                values.push(row)?;
+            }
         }
         Ok(values)
     }
@@ -92,7 +59,6 @@ impl<'n, N: Allocator, A: Allocator + Copy> Rows<'n, N, A> {
             → result ≤ slice_index distances.now (entry self.now.table row c) }
         ensures there { (c : ℕ) × (c < self.now.table.class_count + 1)
             × (result ≡ slice_index distances.now (entry self.now.table row c)) }
-        ensures filled { IsFilled self.now.table }
     {
         let mut least = distances[self.entry(row, 0)];
         for column in 1..self.classes.alphabet_len() {
@@ -127,35 +93,14 @@ impl<'n, N: Allocator, A: Allocator + Copy> Rows<'n, N, A> {
     /// Returns for each row the least number of units to a row that lists patterns, or the number
     /// of rows if no such row follows.
     fn distances(&self, alloc: A) -> Result<Vec<usize, A>, AllocError>
-        ensures distances { IfOk result (λ values. AreDistances self.now.table values.items) }
-        ensures filled { IsFilled self.now.table }
+        ensures { IfOk result (λ values. AreDistances self.now.table values.items) }
     {
-        let mut distances = Vec::with_capacity(alloc, self.patterns.len())?;
+        let mut distances = Vec::with_capacity(alloc, self.len())?;
         for row in 0..self.len() {
             distances.push(self.first_distance(row))?;
         }
         while self.shorten(distances.as_mut_slice()) {}
         Ok(distances)
-    }
-
-    /// Returns the block of the entry of each row in a column.
-    fn targets(
-        &self,
-        alloc: A,
-        parts: &Partition<A>,
-        column: usize,
-    ) -> Result<Vec<usize, A>, AllocError>
-        requires parts { length parts.now.numbers ≡ length self.now.table.patterns }
-        requires column { column < self.now.table.class_count + 1 }
-        ensures targets { IfOk result
-            (λ values. AreTargets self.now.table parts.now column values.items) }
-        ensures filled { IsFilled self.now.table }
-    {
-        let mut values = Vec::with_capacity(alloc, self.patterns.len())?;
-        for row in 0..self.patterns.len() {
-            values.push(parts.block(self.entry(row, column)))?;
-        }
-        Ok(values)
     }
 
     /// Splits the blocks by their entries in a column.
@@ -169,8 +114,11 @@ impl<'n, N: Allocator, A: Allocator + Copy> Rows<'n, N, A> {
         requires column { column < self.now.table.class_count + 1 }
         ensures { IfOk result (λ p. IsSplitBy self.now.table column parts.now p) }
     {
-        let values = self.targets(alloc, parts, column)?;
-        parts.split(alloc, values.as_slice())
+        let mut targets = Vec::with_capacity(alloc, self.len())?;
+        for row in 0..self.len() {
+            targets.push(parts.block(self.entry(row, column)))?;
+        }
+        parts.split(alloc, targets.as_slice())
     }
 
     /// Splits the blocks by their entries in each column.
@@ -187,7 +135,7 @@ impl<'n, N: Allocator, A: Allocator + Copy> Rows<'n, N, A> {
     }
 
     /// Returns the blocks of rows that list the same patterns along all units.
-    fn partition(&self, alloc: A) -> Result<Partition<A>, AllocError>
+    pub(crate) fn partition(&self, alloc: A) -> Result<Partition<A>, AllocError>
         ensures partition { IfOk result (λ p. IsPartition self.now.table p) }
         ensures stable { IfOk result (λ p. IsStable self.now.table p) }
     {
@@ -205,7 +153,7 @@ impl<'n, N: Allocator, A: Allocator + Copy> Rows<'n, N, A> {
         }
     }
 
-    /// Returns a row for each block.
+    /// Returns a row for each block: its entries and starts are blocks.
     pub(crate) fn merged(
         &self,
         alloc: A,
@@ -214,13 +162,23 @@ impl<'n, N: Allocator, A: Allocator + Copy> Rows<'n, N, A> {
         requires { IsGrouping self.now.table parts.now }
         ensures { IfOk result (λ rows. IsMerged self.now parts.now rows) }
     {
+        let mut starts = self.starts;
+        let mut number = 0;
+        while number < StartSlot::COUNT {
+            starts[number] = parts.block(self.starts[number] as usize) as u32;
+            number += 1;
+        }
+        let mut patterns = Vec::with_capacity(alloc, parts.len())?;
+        for row in parts.members() {
+            patterns.push(self.patterns[*row].clone()?)?;
+        }
         Ok(Rows {
             nfa: self.nfa,
             match_kind: self.match_kind,
             classes: self.classes.clone()?,
             next: self.merged_rows(alloc, parts)?,
-            starts: self.merged_starts(parts),
-            patterns: self.merged_lists(alloc, parts)?,
+            starts,
+            patterns,
         })
     }
 
@@ -237,36 +195,5 @@ impl<'n, N: Allocator, A: Allocator + Copy> Rows<'n, N, A> {
             }
         }
         Ok(next)
-    }
-
-    /// Returns the blocks of the starts.
-    fn merged_starts(&self, parts: &Partition<A>) -> [u32; StartSlot::COUNT]
-        requires { IsGrouping self.now.table parts.now }
-        ensures { AreMergedStarts self.now.table parts.now result }
-    {
-        let mut starts = self.starts;
-        let mut number = 0;
-        while number < StartSlot::COUNT {
-            starts[number] = parts.block(self.starts[number] as usize) as u32;
-            number += 1;
-        }
-        starts
-    }
-
-    /// Returns the patterns of the blocks.
-    fn merged_lists(
-        &self,
-        alloc: A,
-        parts: &Partition<A>,
-    ) -> Result<Vec<Vec<PatternID, A>, A>, AllocError>
-        requires { IsGrouping self.now.table parts.now }
-        ensures { IfOk result (λ lists. AreMergedLists self.now.table parts.now
-            (map (λ list. list.items) lists.items)) }
-    {
-        let mut lists = Vec::with_capacity(alloc, parts.len())?;
-        for row in parts.members() {
-            lists.push(self.patterns[*row].clone()?)?;
-        }
-        Ok(lists)
     }
 }

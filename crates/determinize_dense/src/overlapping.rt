@@ -1,10 +1,11 @@
 //! All patterns that match at each position of a text, in one pass.
 
-ghost use Rattle.std.specs.Prelude.{◌≡◌, true};
+ghost use Rattle.std.specs.Prelude.{◌≡◌, ℕ, List, drop, true};
 ghost use Rattle.std.specs.Iterator.{YieldsFirstRef, item_count};
 ghost use Rattle.determinize_below.specs.Semantics.{between};
+ghost use Rattle.determinize_core.specs.Chain.{units};
 ghost use Rattle.determinize_engine.specs.Searches.{has_start, start_for};
-ghost use Rattle.determinize_dense.specs.Reading.{ListsAlong};
+ghost use Rattle.determinize_dense.specs.Reading.{ListsAlong, lists_along};
 
 use crate::dfa::Dfa;
 use crate::reading::RowId;
@@ -25,10 +26,6 @@ pub struct Overlapping<'d, 'n, 'h, N: Allocator = Global, A: Allocator = Global>
 }
 
 impl<'d, 'n, 'h, N: Allocator, A: Allocator> Model for Overlapping<'d, 'n, 'h, N, A> {
-    ghost use Rattle.std.specs.Prelude.{List, ℕ, drop};
-    ghost use Rattle.determinize_core.specs.Chain.{units};
-    ghost use Rattle.determinize_dense.specs.Reading.{lists_along};
-
     ghost Value = { List (List ℕ) };
 
     ghost view = { λ o. lists_along o.dfa.now.table o.row (drop o.read (units o.text)) };

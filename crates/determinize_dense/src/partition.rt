@@ -1,8 +1,8 @@
 //! Partitions of the rows of a table into blocks, which are split by values of the rows.
 
-ghost use Rattle.std.specs.Prelude.{◌≡◌, ◌∷◌, ◌<◌, ◌≤◌, ℕ, All, [], IfOk, OnOk, length, replicate, slice_index};
+ghost use Rattle.std.specs.Prelude.{◌≡◌, ◌<◌, ◌≤◌, All, IfOk, length, replicate, slice_index};
 ghost use Rattle.std.specs.HashMap.{get};
-ghost use Rattle.determinize_dense.specs.Private.Partition.{IsByRank, IsLastUpto, IsNumbered, IsSplit, same_pair};
+ghost use Rattle.determinize_dense.specs.Private.Partition.{AreBlocks, Blocks, IsByRank, IsLastUpto, IsNumbered, IsSplit, same_pair};
 
 use std::alloc::{AllocError, Allocator, Global};
 use std::collections::HashMap;
@@ -17,8 +17,6 @@ pub(crate) struct Partition<A: Allocator = Global> {
 }
 
 impl<A: Allocator> Model for Partition<A> {
-    ghost use Rattle.determinize_dense.specs.Private.Partition.{Blocks, AreBlocks};
-
     ghost Value = { Blocks };
 
     ghost view = { λ p. record { numbers = p.blocks.items; members = p.members.items } };

@@ -3,7 +3,7 @@
 //! A [`RowId`] is the number of a row. Every call takes any id: one that is no row of the DFA, as
 //! one of a larger DFA may be, lists no patterns, and the dead row follows it.
 
-ghost use Rattle.std.specs.Prelude.{◌≡◌, ◌<◌, ◌≤◌, length, map, nat_eq, slice_get, true, None};
+ghost use Rattle.std.specs.Prelude.{◌≡◌, ◌≤◌, ◌-◌, ℕ, List, None, Some, decimal, length, nat_eq, slice_get, true};
 ghost use Rattle.std.specs.List.{range_with_len};
 ghost use Rattle.std.specs.Iterator.{YieldsFirst, item_count};
 ghost use Rattle.std.specs.Option.{IfSome};
@@ -11,8 +11,7 @@ ghost use Rattle.determinize_below.specs.Nfa.{IsAccepted};
 ghost use Rattle.determinize_engine.specs.Searches.{has_start};
 ghost use Rattle.determinize_state.specs.Value.{is_nonempty};
 ghost use Rattle.determinize_start.specs.StartKinds.{byte_before};
-ghost use Rattle.determinize_dense.specs.Dfa as dfas;
-ghost use Rattle.determinize_dense.specs.Dfa.{IsDfaOf};
+ghost use Rattle.determinize_dense.specs.Dfa.{IsDfaOf, is_anchored};
 ghost use Rattle.determinize_dense.specs.Private.Rows.{IsDfa, IsRowAt};
 ghost use Rattle.determinize_dense.specs.Reading.{IsDead};
 ghost use Rattle.determinize_dense.specs.Table.{patterns_at, row_over, start_row};
@@ -30,8 +29,6 @@ use std::marker::Model;
 pub struct RowId(usize);
 
 impl Model for RowId {
-    ghost use Rattle.std.specs.Prelude.{ℕ};
-
     ghost Value = { ℕ };
 
     ghost view = { λ r. r.0 };
@@ -74,8 +71,6 @@ impl fmt::Debug for RowId {
 
 /// Writes the number of the row in decimal.
 impl fmt::Display for RowId {
-    ghost use Rattle.std.specs.Prelude.{Some, decimal};
-
     ghost output = { λ n. Some (decimal n) };
 
     fn fmt<W: fmt::Write>(&self, f: &mut fmt::Formatter<W>) -> fmt::Result {
@@ -104,9 +99,6 @@ impl RowIds {
 }
 
 impl Model for RowIds {
-    ghost use Rattle.std.specs.Prelude.{List, ℕ, ◌-◌};
-    ghost use Rattle.std.specs.List.{range_with_len};
-
     ghost Value = { List ℕ };
 
     ghost view = { λ r. range_with_len r.next (r.end - r.next) };
@@ -136,7 +128,7 @@ impl<'n, N: Allocator, A: Allocator + Copy> Dfa<'n, N, A> {
     pub fn start_state(&self, config: &Config) -> RowId
         requires { has_start config.now.anchored ≡ true }
         ensures value { result ≡ start_row self.now.nfa self.now.table
-            (dfas.is_anchored config.now.anchored) config.now.look_behind }
+            (is_anchored config.now.anchored) config.now.look_behind }
         ensures means { IsDfaOf self.now.nfa self.now.kind self.now.table }
         ensures dead { IsDead self.now.table 0 }
         ensures accepted { IsAccepted self.now.nfa }
@@ -151,7 +143,7 @@ impl<'n, N: Allocator, A: Allocator + Copy> Dfa<'n, N, A> {
     pub fn start_state_forward(&self, input: &Input<'_>) -> RowId
         requires { has_start input.now.anchored ≡ true }
         ensures value { result ≡ start_row self.now.nfa self.now.table
-            (dfas.is_anchored input.now.anchored)
+            (is_anchored input.now.anchored)
             (byte_before input.now.haystack input.now.start) }
         ensures means { IsDfaOf self.now.nfa self.now.kind self.now.table }
         ensures dead { IsDead self.now.table 0 }

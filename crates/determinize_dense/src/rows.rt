@@ -1,16 +1,25 @@
 //! The rows of a DFA while it is built, minimized and put in order: a table of numbers of rows.
+//!
+//! The order is row 0, then the rows that list patterns, then those that a search scans out of, and
+//! then the others.
 
-ghost use Rattle.std.specs.Prelude.{◌≡◌, ◌+◌, ◌<◌, length};
-ghost use Rattle.determinize_dense.specs.Dfa.{IsDfaOf};
-ghost use Rattle.determinize_dense.specs.Least.{HasRows};
+ghost use Rattle.std.specs.Prelude.{◌≡◌, ◌+◌, ◌*◌, ◌<◌, ◌≤◌, All, IfOk, length, map};
 ghost use Rattle.determinize_dense.specs.Private.Minimizing.{entry};
-ghost use Rattle.determinize_dense.specs.Table.{patterns_at};
+ghost use Rattle.determinize_dense.specs.Private.Order.{AreRanks, IsInOrder, IsRank};
+ghost use Rattle.determinize_dense.specs.Private.Rows.{IsDfa, dfa_value};
+ghost use Rattle.determinize_dense.specs.Table.{DfaValue, patterns_at};
 
+use crate::dfa::{Dfa, SCALE};
+use crate::partition::Partition;
 use determinize_below::alphabet::ByteClasses;
 use determinize_below::{MatchKind, NFA, PatternID};
 use determinize_core::start::StartSlot;
-use std::alloc::{Allocator, Global};
+use determinize_engine::state_table::MAX_STATES;
+use std::alloc::{AllocError, Allocator, Global};
 use std::marker::Model;
+
+/// The least number of bytes that do not leave a row that is scanned out of.
+const STAYING: usize = 64;
 
 /// The rows of a DFA, in any order, except that row 0 is that of the dead state.
 ///
@@ -27,10 +36,6 @@ pub(crate) struct Rows<'n, N: Allocator = Global, A: Allocator = Global> {
 }
 
 impl<'n, N: Allocator, A: Allocator> Model for Rows<'n, N, A> {
-    ghost use Rattle.std.specs.Prelude.{map};
-    ghost use Rattle.determinize_dense.specs.Table.{DfaValue};
-    ghost use Rattle.determinize_dense.specs.Private.Rows.{IsDfa, dfa_value};
-
     ghost Value = { DfaValue };
 
     ghost view = { λ d. dfa_value d.nfa.now d.match_kind d.classes d.next.items d.starts
@@ -40,12 +45,30 @@ impl<'n, N: Allocator, A: Allocator> Model for Rows<'n, N, A> {
         (map (λ list. list.items) d.patterns.items)) };
 }
 
+/// Returns the offsets of the rows with these numbers.
+///
+/// - `columns` is the length of a row.
+fn offsets_of<A: Allocator + Copy>(
+    alloc: A,
+    rows: &[u32],
+    columns: usize,
+) -> Result<Vec<u32, A>, AllocError>
+    requires rows { All (λ row. row < MAX_STATES) rows.now }
+    requires columns { columns ≤ 257 }
+    ensures { IfOk result (λ offsets. offsets.items ≡ map (λ row. row * columns) rows.now) }
+{
+    let mut offsets = Vec::with_capacity(alloc, rows.len())?;
+    for row in rows {
+        offsets.push((*row as usize * columns) as u32)?;
+    }
+    Ok(offsets)
+}
+
 impl<'n, N: Allocator, A: Allocator + Copy> Rows<'n, N, A> {
     /// Returns the number of rows.
     pub(crate) fn len(&self) -> usize
         ensures value { result ≡ length self.now.table.patterns }
-        ensures means { IsDfaOf self.now.nfa self.now.kind self.now.table }
-        ensures rows { HasRows self.now.nfa self.now.table }
+        ensures sound { IsDfa self.now }
     {
         self.patterns.len()
     }
@@ -66,5 +89,88 @@ impl<'n, N: Allocator, A: Allocator + Copy> Rows<'n, N, A> {
         ensures { result.now ≡ patterns_at self.now.table row }
     {
         self.patterns[row].as_slice()
+    }
+
+    /// Returns the number of bytes of each class.
+    fn class_sizes(&self) -> [u16; 256] {
+        let mut sizes = [0; 256];
+        for byte in 0..=u8::MAX {
+            sizes[usize::from(self.classes.get(byte))] += 1;
+        }
+        sizes
+    }
+
+    /// Returns whether a search scans out of a row: whether at least `STAYING` bytes do not leave
+    /// it. This is a guess at what is fast, and no match depends on it.
+    ///
+    /// - `sizes` has the number of bytes of each class.
+    fn is_scanned(&self, row: usize, sizes: &[u16; 256]) -> bool
+        requires { row < length self.now.table.patterns }
+    {
+        let mut staying = 0;
+        for class in 0..self.classes.representatives().len() {
+            if self.entry(row, class) == row {
+                staying += usize::from(sizes[class]);
+            }
+        }
+        staying >= STAYING
+    }
+
+    /// Returns the rank of a row in the order.
+    ///
+    /// - `sizes` has the number of bytes of each class.
+    fn rank(&self, row: usize, sizes: &[u16; 256]) -> usize
+        requires { row < length self.now.table.patterns }
+        ensures { IsRank self.now.table row result }
+    {
+        if row == 0 {
+            0
+        } else if !self.patterns[row].is_empty() {
+            1
+        } else if self.is_scanned(row, sizes) {
+            2
+        } else {
+            3
+        }
+    }
+
+    /// Returns the rank of each row.
+    fn ranks(&self, alloc: A) -> Result<Vec<usize, A>, AllocError>
+        ensures { IfOk result (λ ranks. AreRanks self.now.table ranks.items) }
+    {
+        let sizes = self.class_sizes();
+        let mut ranks = Vec::with_capacity(alloc, self.len())?;
+        for row in 0..self.len() {
+            ranks.push(self.rank(row, &sizes))?;
+        }
+        Ok(ranks)
+    }
+
+    /// Returns the DFA with these rows, in order.
+    pub(crate) fn arranged(&self, alloc: A) -> Result<Dfa<'n, N, A>, AllocError>
+        ensures { IfOk result (λ dfa. IsInOrder self.now dfa) }
+    {
+        let ranks = self.ranks(alloc)?;
+        let ranks = ranks.as_slice();
+        let order = Partition::by_rank(alloc, ranks)?;
+        let rows = self.merged(alloc, &order)?;
+        let (last_listing, last_scanned) = (order.last_upto(ranks, 1), order.last_upto(ranks, 2));
+        let columns = rows.classes.alphabet_len();
+        let next = offsets_of(alloc, rows.next.as_slice(), columns)?;
+        let first_scanned = last_listing + 1;
+        let leaving = rows.all_leaving(first_scanned, last_scanned);
+        Ok(Dfa {
+            nfa: rows.nfa,
+            match_kind: rows.match_kind,
+            classes: rows.classes,
+            next,
+            starts: rows.starts,
+            patterns: rows.patterns,
+            last_match: last_listing * columns,
+            last_special: last_scanned * columns,
+            first_scanned,
+            leaving,
+            inverse: SCALE / columns + 1,
+        })
     }
 }

@@ -1,16 +1,16 @@
-//! Scans: a search stays in a row while the bytes that it reads do not leave it.
+//! Scans: a search stays in a row while the bytes that it reads do not leave it. Pauses say when it
+//! scans, and when it reads in blocks; no match depends on them.
 //!
 //! The first few rows that are scanned out of have a table of 256 bytes each, by which a scan reads
 //! eight bytes of a text at once.
 
-ghost use Rattle.std.specs.Prelude.{◌≡◌, ◌+◌, ◌<◌, ◌≤◌, ◌^◌, ℕ, IsTrue, length};
+ghost use Rattle.std.specs.Prelude.{◌+◌, ◌<◌, ◌≤◌, ◌^◌, ℕ, IsTrue, length};
 ghost use Rattle.std.specs.Option.{IfSome};
 ghost use Rattle.determinize_dense.specs.Private.Rows.{IsOffset, IsRowAt};
 ghost use Rattle.determinize_dense.specs.Private.Scans.{AreAllStaying, AreZeros, IsStaying};
-ghost use Rattle.determinize_dense.specs.Private.Searching.{StaysOver};
+ghost use Rattle.determinize_dense.specs.Private.Searching.{IsScan};
 
 use crate::dfa::Dfa;
-use crate::pauses::WORTHWHILE;
 use crate::rows::Rows;
 use determinize_engine::state_table::MAX_STATES;
 use determinize_engine::text::Text;
@@ -21,6 +21,60 @@ pub(crate) const TABLES: usize = 4;
 
 /// The number of bytes that a scan reads at once.
 const AT_ONCE: usize = 8;
+
+/// The number of bytes that a search reads before it scans.
+pub(crate) const FIRST: usize = 64;
+
+/// The number of bytes of a block.
+pub(crate) const BLOCK: usize = 64;
+
+/// The number of blocks without a match after which a search scans again.
+pub(crate) const BLOCKS: usize = 8;
+
+/// A scan that reads fewer bytes costs more time than it saves.
+pub(crate) const WORTHWHILE: usize = 8;
+
+/// The fewest and the most bytes of a pause.
+const SHORTEST: usize = 32;
+
+const LONGEST: usize = 1024;
+
+/// The pauses between scans. After each scan of fewer than 8 bytes comes a pause: of 32 bytes, and
+/// twice as long each time, up to 1024. A longer scan sets it back to 32.
+#[derive(Clone, Copy)]
+pub(crate) struct Pauses {
+    /// The number of bytes that are read when the pause is over.
+    pub(crate) end: usize,
+    /// The length of the next pause.
+    next: usize,
+}
+
+impl Pauses {
+    /// Returns the pause before the first scan. It is over where `search_rest` begins.
+    #[inline(always)]
+    pub(crate) fn new() -> Pauses {
+        Pauses {
+            end: FIRST,
+            next: SHORTEST,
+        }
+    }
+
+    /// Records a scan. Returns whether a pause follows it.
+    ///
+    /// - `from` and `to` are the numbers of bytes that are read before and after the scan.
+    #[inline(always)]
+    pub(crate) fn record(&mut self, from: usize, to: usize) -> bool
+        requires { from ≤ to }
+    {
+        if to - from >= WORTHWHILE {
+            self.next = SHORTEST;
+            return false;
+        }
+        self.end = to.saturating_add(self.next);
+        self.next = self.next.saturating_mul(2).min(LONGEST);
+        true
+    }
+}
 
 /// Returns whether a table has a 0 for each of eight bytes of a text, from an index on.
 #[inline(always)]
@@ -92,9 +146,7 @@ impl<'n, N: Allocator, A: Allocator + Copy> Dfa<'n, N, A> {
         requires row { IsOffset self.now.table row }
         requires read { read ≤ until }
         requires until { until ≤ length text.now.bytes }
-        ensures stays { StaysOver self.now.table row text.now read result }
-        ensures more { read ≤ result }
-        ensures within { result ≤ until }
+        ensures { IsScan self.now.table row text.now read until result }
     {
         let mut read = read;
         while read < until && self.over_byte(row, text, read) == row {
@@ -111,9 +163,7 @@ impl<'n, N: Allocator, A: Allocator + Copy> Dfa<'n, N, A> {
     fn scan_by_table(&self, row: usize, text: &Text<'_>, read: usize) -> usize
         requires row { IsOffset self.now.table row }
         requires read { read ≤ length text.now.bytes }
-        ensures stays { StaysOver self.now.table row text.now read result }
-        ensures more { read ≤ result }
-        ensures within { result ≤ length text.now.bytes }
+        ensures { IsScan self.now.table row text.now read (length text.now.bytes) result }
     {
         let Some(table) = self.leaving(row) else {
             return read;
@@ -132,9 +182,7 @@ impl<'n, N: Allocator, A: Allocator + Copy> Dfa<'n, N, A> {
     fn scan_far(&self, row: usize, text: &Text<'_>, read: usize) -> usize
         requires row { IsOffset self.now.table row }
         requires read { read ≤ length text.now.bytes }
-        ensures stays { StaysOver self.now.table row text.now read result }
-        ensures more { read ≤ result }
-        ensures within { result ≤ length text.now.bytes }
+        ensures { IsScan self.now.table row text.now read (length text.now.bytes) result }
     {
         let read = self.scan_by_table(row, text, read);
         self.scan_upto(row, text, read, text.len())
@@ -149,9 +197,7 @@ impl<'n, N: Allocator, A: Allocator + Copy> Dfa<'n, N, A> {
     pub(crate) fn scan(&self, row: usize, text: &Text<'_>, read: usize) -> usize
         requires row { IsOffset self.now.table row }
         requires read { read ≤ length text.now.bytes }
-        ensures stays { StaysOver self.now.table row text.now read result }
-        ensures more { read ≤ result }
-        ensures within { result ≤ length text.now.bytes }
+        ensures { IsScan self.now.table row text.now read (length text.now.bytes) result }
     {
         let few = text.len().min(read.saturating_add(WORTHWHILE));
         let first = self.scan_upto(row, text, read, few);

@@ -3,23 +3,19 @@
 //! Matches are delayed by one unit: a row lists the patterns that match before the unit that led to
 //! it. So a search also reads the unit ahead of its text, and a start state is no match state.
 
-ghost use Rattle.std.specs.Prelude.{[], Bool, Decides, IsTrue, ◌≡◌, ◌<◌, ◌≤◌, ◌⊎◌, ℕ, List, Contains, false, length, true, None};
-ghost use Rattle.determinize_below.specs.Semantics.{Accepts, between};
+ghost use Rattle.std.specs.Prelude.{[], Bool, Decides, IsTrue, ◌≡◌, ◌<◌, ◌≤◌, ◌⊎◌, ℕ, false, length, true, None};
+ghost use Rattle.determinize_below.specs.Semantics.{between};
 ghost use Rattle.determinize_below.specs.Search.{is_done};
-ghost use Rattle.determinize_below.specs.declared.search.MatchKind.TheVariants as kinds;
-ghost use Rattle.determinize_core.specs.Chain.{units};
 ghost use Rattle.determinize_engine.specs.Searches.{HasMatch, IsSearch, IsSearchResult, has_start, start_for, text_of};
-ghost use Rattle.determinize_core.specs.Walk.{ListsAccepted};
 ghost use Rattle.determinize_state.specs.Value.{is_nonempty};
 ghost use Rattle.determinize_dense.specs.Dfa as dfas;
-ghost use Rattle.determinize_dense.specs.Dfa.{value_from};
-ghost use Rattle.determinize_dense.specs.Meaning.{ListsPreferred};
+ghost use Rattle.determinize_dense.specs.Meaning.{ListsAtEnd};
 ghost use Rattle.determinize_dense.specs.Private.Rows.{IsOffset, IsRowAt};
 ghost use Rattle.determinize_dense.specs.Table.{patterns_at};
 ghost use Rattle.determinize_dense.specs.Private.Searching.{FindsFrom, HasCome, IsFound, IsMatch, IsRead};
 
 use crate::dfa::{Dfa, SCALE};
-use crate::pauses::{BLOCK, BLOCKS, FIRST, Pauses};
+use crate::scans::{BLOCK, BLOCKS, FIRST, Pauses};
 use determinize_below::{Anchored, HalfMatch, Input, PatternID};
 use determinize_engine::engine::Engine;
 use determinize_engine::text::{Text, in_haystack};
@@ -79,18 +75,8 @@ impl<'n, N: Allocator, A: Allocator + Copy> Dfa<'n, N, A> {
         look_ahead: Option<u8>,
     ) -> &[PatternID]
         requires { has_start anchored ≡ true }
-        ensures patterns { result.now ≡ (value_from self.now.nfa self.now.kind
-            (dfas.is_anchored anchored) look_behind
-            (units (between look_behind text.now look_ahead))).patterns }
-        ensures all { self.now.kind ≡ kinds.All → ListsAccepted self.now.nfa
-            (between look_behind text.now look_ahead) (start_for self.now.nfa anchored)
-            (length text.now) result.now }
-        ensures preferred { self.now.kind ≡ kinds.LeftmostFirst → ListsPreferred self.now.nfa
-            (between look_behind text.now look_ahead) (start_for self.now.nfa anchored)
-            (length text.now) result.now }
-        ensures accepted { (pattern : ℕ) → Contains result.now pattern → (cs : List ℕ)
-            × Accepts self.now.nfa (between look_behind text.now look_ahead)
-            (start_for self.now.nfa anchored) cs (length text.now) pattern }
+        ensures { ListsAtEnd self.now.nfa self.now.kind (start_for self.now.nfa anchored)
+            (between look_behind text.now look_ahead) result.now }
     {
         let mut row = self.start_row(is_anchored(anchored), look_behind);
         for byte in text {
@@ -147,18 +133,6 @@ impl<'n, N: Allocator, A: Allocator + Copy> Dfa<'n, N, A> {
         ensures offset { IsOffset self.now.table result }
     {
         self.row_over(row, Some(text.byte(index)))
-    }
-
-    /// Returns the offset of the row after a row over the unit ahead of a text.
-    ///
-    /// - `row` is the offset of the row.
-    #[inline(always)]
-    fn over_ahead(&self, row: usize, text: &Text<'_>) -> usize
-        requires row { IsOffset self.now.table row }
-        ensures read { IsRead self.now.table text.now (length text.now.bytes) row result }
-        ensures offset { IsOffset self.now.table result }
-    {
-        self.row_over(row, text.ahead())
     }
 
     /// Reads a text up to an index, without scans. Stops at row 0 and, if `is_earliest`, at the
@@ -329,7 +303,7 @@ impl<'n, N: Allocator, A: Allocator + Copy> Dfa<'n, N, A> {
         requires read { at.read ≡ length text.now.bytes }
         ensures { (earliest : Bool) → FindsFrom self.now earliest text.now at result }
     {
-        let end = self.over_ahead(at.row, text);
+        let end = self.row_over(at.row, text.ahead());
         if end == 0 || end > self.last_match {
             return self.match_of(at.matched, at.offset);
         }

@@ -1,12 +1,12 @@
 //! A walk by a whole DFA under way, one unit after another, as fast as a search reads.
 
-ghost use Rattle.std.specs.Prelude.{◌≡◌, ◌+◌, ◌*◌, nat_eq, true};
+ghost use Rattle.std.specs.Prelude.{◌≡◌, ◌+◌, ◌*◌, ◌/◌, nat_eq, true};
 ghost use Rattle.determinize_below.specs.Nfa.{IsAccepted};
 ghost use Rattle.determinize_engine.specs.Searches.{has_start};
 ghost use Rattle.determinize_state.specs.Value.{is_nonempty};
-ghost use Rattle.determinize_dense.specs.Dfa as dfas;
-ghost use Rattle.determinize_dense.specs.Dfa.{IsDfaOf};
-ghost use Rattle.determinize_dense.specs.Reading.{IsDead};
+ghost use Rattle.determinize_dense.specs.Dfa.{IsDfaOf, is_anchored};
+ghost use Rattle.determinize_dense.specs.Private.Rows.{IsOffset};
+ghost use Rattle.determinize_dense.specs.Reading.{IsDead, Place};
 ghost use Rattle.determinize_dense.specs.Table.{patterns_at, row_over, start_row};
 
 use crate::dfa::Dfa;
@@ -31,10 +31,6 @@ pub struct Walker<'d, 'n, N: Allocator = Global, A: Allocator = Global> {
 }
 
 impl<'d, 'n, N: Allocator, A: Allocator> Model for Walker<'d, 'n, N, A> {
-    ghost use Rattle.std.specs.Prelude.{◌+◌, ◌/◌};
-    ghost use Rattle.determinize_dense.specs.Private.Rows.{IsOffset};
-    ghost use Rattle.determinize_dense.specs.Reading.{Place};
-
     ghost Value = { Place };
 
     ghost view = { λ w. record {
@@ -53,7 +49,7 @@ impl<'n, N: Allocator, A: Allocator + Copy> Dfa<'n, N, A> {
         requires { has_start config.now.anchored ≡ true }
         ensures value { result ≡ record {
           dfa = self.now;
-          row = start_row self.now.nfa self.now.table (dfas.is_anchored config.now.anchored)
+          row = start_row self.now.nfa self.now.table (is_anchored config.now.anchored)
               config.now.look_behind;
         } }
         ensures means { IsDfaOf self.now.nfa self.now.kind self.now.table }

@@ -12,7 +12,8 @@ use Rattle.determinize_engine.specs.declared.state_table.TheConstants.{MAX_STATE
 use Rattle.determinize_core.specs.Alike.{AreChanges}
 use Rattle.determinize_core.specs.Step.{start_value, step}
 use Rattle.determinize_core.specs.Value.{Value, dead}
-use Rattle.determinize_dense.specs.Dfa.{IsReachedValue, start_in}
+use Rattle.determinize_dense.specs.Dfa.{HasStates, IsReachedValue, start_in}
+use Rattle.determinize_dense.specs.Table.{DfaValue}
 use Rattle.determinize_start.specs.StartKinds.{start_kind_of}
 use Rattle.determinize_start.specs.StartSlots.{slot_number}
 use Rattle.determinize_start.specs.declared.start.StartSlot.{StartSlot}
@@ -97,3 +98,10 @@ pub record AreStarts (nfa : Nfa) (values : List Value) (n : ℕ) (starts : List 
   pub within : (i : ℕ) → i < n → slice_index starts i < length values
   pub rows : (slot : StartSlot) → slot_number slot < n
       → IsStart nfa values slot (slice_index starts (slot_number slot))
+
+-- the rows of all values that are reached
+pub record IsBuilt (b : Building) (rows : DfaValue) : Type 0 where
+  pub nfa : rows.nfa ≡ b.nfa
+  pub kind : rows.kind ≡ b.kind
+  pub states : HasStates b.nfa b.kind (length rows.table.patterns)
+  pub few : length rows.table.patterns ≤ b.limit

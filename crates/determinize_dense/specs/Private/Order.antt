@@ -1,6 +1,8 @@
 -- The order of rows: row 0, the rows that list patterns, those that are scanned, and the others.
 use Rattle.std.specs.Prelude.{◌≡◌, ◌<◌, ◌≤◌, ℕ, List, [], length, slice_index, true}
 use Rattle.determinize_state.specs.Value.{is_nonempty}
+use Rattle.determinize_dense.specs.Dfa.{IsDfaOf}
+use Rattle.determinize_dense.specs.Least.{IsLeast}
 use Rattle.determinize_dense.specs.Private.Rows.{IsInverse, IsStored, offset_of}
 use Rattle.determinize_dense.specs.Private.Scans.{AreAllStaying}
 use Rattle.determinize_dense.specs.Table.{DfaValue, Table, patterns_at}
@@ -35,3 +37,11 @@ pub record AreRanks (d : Table) (ranks : List ℕ) : Type 0 where
   pub count : length ranks ≡ length d.patterns
   pub some : 0 < length ranks
   pub each : (r : ℕ) → r < length ranks → IsRank d r (slice_index ranks r)
+
+-- a DFA with the same rows in order
+pub record IsInOrder (v w : DfaValue) : Type 0 where
+  pub nfa : w.nfa ≡ v.nfa
+  pub kind : w.kind ≡ v.kind
+  pub means : IsDfaOf w.nfa w.kind w.table
+  pub rows : length w.table.patterns ≡ length v.table.patterns
+  pub least : IsLeast v.nfa v.table → IsLeast w.nfa w.table

@@ -40,6 +40,12 @@ pub record IsRead (d : Table) (text : Text) (index row next : ℕ) : Type 0 wher
 abbrev pub StaysOver : Table → ℕ → Text → ℕ → ℕ → Type 0
 StaysOver d row text from to = (i : ℕ) → from ≤ i → i < to → IsRead d text i row row
 
+-- a scan in the row at an offset, over bytes that do not leave the row, comes this far
+pub record IsScan (d : Table) (row : ℕ) (text : Text) (from until to : ℕ) : Type 0 where
+  pub stays : StaysOver d row text from to
+  pub more : from ≤ to
+  pub within : to ≤ until
+
 -- the number of the row at an offset
 abbrev pub row_at : Table → ℕ → ℕ
 row_at d offset = offset / (d.class_count + 1)

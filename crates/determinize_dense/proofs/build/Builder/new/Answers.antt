@@ -1,4 +1,4 @@
-use Rattle.determinize_dense.proofs.Common.{arith, MAX_STATES, min, ◌≡◌}
+use Rattle.determinize_dense.proofs.Common.{arith, dead, MAX_STATES, min, rules, [], ◌∷◌, ◌≡◌}
 use Rattle.determinize_dense.proofs.Building.{building-first, more-than-none}
 use Rattle.determinize_dense.proofs.build.Builder.new.Goals as goal
 
@@ -9,7 +9,8 @@ returns-then-limit-eq0-clause-many g c = λ _.
 pub invariant_of-result : goal.invariant_of-result
 invariant_of-result g c =
     let least : c.min-limit.result ≡ min c.args.limit MAX_STATES = c.min-limit.ensures in
-    rw (c.new.ensures, c.in_ok-next.ensures.items, c.in_ok-states.ensures)
+    let states : c.intern.new.self ≡ dead ∷ [] = search rules in
+    rw (c.new.ensures, c.in_ok-next.ensures.items, states)
     (building-first c.args.nfa.now c.args.match_kind c.byte_classes-classes.result c.min-limit.result
     c.byte_classes-classes.ensures.accepted c.byte_classes-classes.ensures.classes c.alphabet_len.ensures.sound
     (grind (arith, c.if-limit-eq0.false)) (grind (arith, least)))

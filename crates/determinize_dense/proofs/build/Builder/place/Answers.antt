@@ -1,4 +1,4 @@
-use Rattle.determinize_dense.proofs.Common.{arith, false, get_last, IsReachedValue, rules, same_is, [], ◌++◌, ◌∷◌, ◌≡◌}
+use Rattle.determinize_dense.proofs.Common.{arith, get_last, IsReachedValue, rules, same_is, [], ◌++◌, ◌∷◌, ◌≡◌}
 use Rattle.determinize_dense.proofs.Building.{building-value, one_too_many, stays-same, stays-value}
 use Rattle.determinize_dense.proofs.build.Builder.place.Goals.{In_default, In_ok-intern}
 use Rattle.determinize_dense.proofs.build.Builder.place.Goals as goal
@@ -20,7 +20,7 @@ pub returns-then-eq-clause-stays : goal.returns-then-eq-clause-stays
 returns-then-eq-clause-stays g c = stays-same c.args.self.now
 
 pub returns-in-Some-clause-at : goal.returns-in-Some-clause-at
-returns-in-Some-clause-at g c = rw (← c.self.view_is, c.row_of.ensures) c.in-Some.ensures.index
+returns-in-Some-clause-at g c = rw (← c.self.view_is) c.in-Some.ensures.index
 
 pub returns-in-Some-clause-stays : goal.returns-in-Some-clause-stays
 returns-in-Some-clause-stays g c = stays-same c.args.self.now
@@ -42,7 +42,7 @@ invariant_of-self-2 g c =
 pub returns-clause-at : goal.returns-clause-at
 returns-clause-at g c =
     let d = (goal.at.returns-clause-at g c).In_ok-intern in
-    rw (grown g d, c.row_of-2.ensures, c.in_ok-intern.ensures.index) (get_last c.self.inside.states c.args.state.now)
+    rw (grown g d, c.in_ok-intern.ensures.index) (get_last c.self.inside.states c.args.state.now)
 
 pub returns-clause-stays : goal.returns-clause-stays
 returns-clause-stays g c =

@@ -1,11 +1,18 @@
-use Rattle.determinize_dense.proofs.Common.{rules, Stays, ◌∙◌}
+use Rattle.determinize_dense.proofs.Common.{AreStarts, length, length-map, lists_of, map, refl, rules, same_from_all_zip}
+use Rattle.determinize_dense.proofs.Common.{Stays, ◌≡◌}
 use Rattle.determinize_dense.proofs.Building.{more-before, err-as, starts-stay, stays-more}
-use Rattle.determinize_dense.proofs.build.Builder.rows.Goals.{In_ok-fill}
+use Rattle.determinize_dense.proofs.Simulation.{has_states, is_dfa}
+use Rattle.determinize_start.specs.declared.start.TheConstants.StartSlot.{COUNT}
+use Rattle.determinize_dense.proofs.build.Builder.rows.Goals.{In_ok-clone, In_ok-fill, In_ok-lists_of}
 use Rattle.determinize_dense.proofs.build.Builder.rows.Goals as goal
 
 -- the starts are found, and then all rows
 filled : (g : _) (c : In_ok-fill g) → Stays c.args.self.now c.fill.new.self
 filled g c = stays-more c.in_ok-starts.ensures.stays c.in_ok-fill.ensures.stays
+
+starts-are : (g : _) (c : In_ok-fill g)
+    → AreStarts c.fill.new.self.nfa c.fill.new.self.values COUNT c.in_ok-starts.starts
+starts-are g c = rw (filled g c).nfa (starts-stay c.in_ok-fill.ensures.stays c.in_ok-starts.ensures.starts)
 
 pub returns-in_err-starts-clause-many : goal.returns-in_err-starts-clause-many
 returns-in_err-starts-clause-many g c = λ same.
@@ -15,25 +22,33 @@ pub returns-in_err-fill-clause-many : goal.returns-in_err-fill-clause-many
 returns-in_err-fill-clause-many g c = λ same.
     more-before c.in_ok-starts.ensures.stays (c.in_err-fill.ensures.many (err-as same (search rules)))
 
-pub finish-requires-clause-whole : goal.finish-requires-clause-whole
-finish-requires-clause-whole g c = c.in_ok-fill.ensures.whole
+classes-are : (g : _) (c : In_ok-clone g) → c.in_ok-clone.field-0 ≡ c.self.inside.classes
+classes-are g c = search rules
 
-pub finish-requires-clause-starts : goal.finish-requires-clause-starts
-finish-requires-clause-starts g c =
-    rw (filled g (goal.at.finish-requires-clause-starts g c).In_ok-fill).nfa
-    (starts-stay c.in_ok-fill.ensures.stays c.in_ok-starts.ensures.starts)
+lists-are : (g : _) (c : In_ok-lists_of g)
+    → map (λ list. list.items) c.in_ok-lists_of.field-0.items ≡ lists_of c.self.inside.states
+lists-are g c = rw c.as_slice.ensures at c.in_ok-lists_of.ensures
 
-pub returns-clause-nfa : goal.returns-clause-nfa
-returns-clause-nfa g c = c.in_ok-finish.ensures.nfa ∙ (filled g (goal.at.returns-clause-nfa g c).In_ok-fill).nfa
+pub invariant_of-result : goal.invariant_of-result
+invariant_of-result g c =
+    let at = goal.at.invariant_of-result g c in
+    let next = same_from_all_zip _ c.self.inside.next.items c.in_ok-clone-2.field-0.items
+    c.in_ok-clone-2.ensures.cases.0 (λ x y e. e) in
+    rw (c.nfa.ensures, c.match_kind.ensures, classes-are g at.In_ok-clone, next, lists-are g at.In_ok-lists_of)
+    (is_dfa _ c.self.invariant (rw (← c.self.view_is) at c.in_ok-fill.ensures.whole) c.in_ok-starts.starts
+    (rw (← c.self.view_is) at (starts-are g at.In_ok-fill)))
 
-pub returns-clause-kind : goal.returns-clause-kind
-returns-clause-kind g c = c.in_ok-finish.ensures.kind ∙ (filled g (goal.at.returns-clause-kind g c).In_ok-fill).kind
-
-pub returns-clause-states : goal.returns-clause-states
-returns-clause-states g c =
-    let stays = filled g (goal.at.returns-clause-states g c).In_ok-fill in
-    rw (stays.nfa, stays.kind) at c.in_ok-finish.ensures.states
-
-pub returns-clause-few : goal.returns-clause-few
-returns-clause-few g c =
-    rw (filled g (goal.at.returns-clause-few g c).In_ok-fill).limit at c.in_ok-finish.ensures.few
+pub returns-clause-built : goal.returns-clause-built
+returns-clause-built g c =
+    let at = goal.at.returns-clause-built g c in
+    let stays = filled g at.In_ok-fill in
+    let count : length (map (λ list. list.items) c.in_ok-lists_of.field-0.items) ≡ length c.fill.new.self.values =
+    rw (← c.self.view_is, lists-are g at.In_ok-lists_of, length-map) refl in
+    record {
+      nfa = rw (c.nfa.ensures, ← stays.nfa, ← c.self.view_is) refl;
+      kind = rw (c.match_kind.ensures, ← stays.kind, ← c.self.view_is) refl;
+      states = rw (count, ← stays.nfa, ← stays.kind) (has_states c.fill.new.self
+          (rw (← c.self.view_is) c.self.invariant) c.in_ok-fill.ensures.whole c.in_ok-starts.starts
+          (starts-are g at.In_ok-fill));
+      few = rw (count, ← stays.limit, ← c.self.view_is) c.self.invariant.few;
+    }

@@ -13,15 +13,16 @@ not-more more few same = omega arith
 
 pub returns : goal.returns
 returns g c =
-    let states = rw (c.in_ok-builder.ensures.nfa, c.in_ok-builder.ensures.kind) at c.in_ok-rows.ensures.states in
+    let built = c.in_ok-rows.ensures.built in
+    let states = rw (c.in_ok-builder.ensures.nfa, c.in_ok-builder.ensures.kind) at built.states in
     record {
-      nfa = c.in_ok-arranged.ensures.nfa ∙ c.in_ok-rows.ensures.nfa ∙ c.in_ok-builder.ensures.nfa;
-      kind = c.in_ok-arranged.ensures.kind ∙ c.in_ok-rows.ensures.kind ∙ c.in_ok-builder.ensures.kind;
+      nfa = c.in_ok-arranged.ensures.nfa ∙ built.nfa ∙ c.in_ok-builder.ensures.nfa;
+      kind = c.in_ok-arranged.ensures.kind ∙ built.kind ∙ c.in_ok-builder.ensures.kind;
       means = c.in_ok-arranged.ensures.means;
       states = rw c.in_ok-arranged.ensures.rows states;
-      few = rw (c.in_ok-arranged.ensures.rows, ← c.in_ok-builder.ensures.limit) c.in_ok-rows.ensures.few;
+      few = rw (c.in_ok-arranged.ensures.rows, ← c.in_ok-builder.ensures.limit) built.few;
       many = search rules;
       more = λ more. absurd (not-more ((each_count_is_one c.args.nfa.now c.args.match_kind _ _ states).1 more)
-          c.in_ok-rows.ensures.few c.in_ok-builder.ensures.limit);
-      zero = search rules;
+          built.few c.in_ok-builder.ensures.limit);
+      zero = λ none. absurd (grind (arith, c.in_ok-builder.ensures.zero none));
     }

@@ -54,7 +54,7 @@ returns g c =
     ∙ sound.tells (is_anchored c.args.anchored) c.args.look_behind (units text) c.start_row-row.ensures.unit all in
     let start = start_is c.args.self.now.nfa c.args.anchored in
     record {
-      patterns = listed;
+      patterns = rw (← start) listed;
       all = list-all c.args.self.now.kind text sound.accepted start listed;
       preferred = list-preferred c.args.self.now.kind text sound.accepted start listed;
       accepted = each-accepted c.args.self.now.kind text sound.accepted start listed;

@@ -4,6 +4,3 @@ use Rattle.determinize_dense.proofs.rows.Rows.distances.Goals as goal
 
 pub loop-row-preserved : goal.loop-row-preserved
 loop-row-preserved g c = grind (arith, pushed)
-
-pub returns-clause-filled : goal.returns-clause-filled
-returns-clause-filled g c = rw (← c.self.view_is) c.self.invariant.table

@@ -1,5 +1,4 @@
-use Rattle.determinize_dense.proofs.Least.{has_rows}
 use Rattle.determinize_dense.proofs.rows.Rows.len.Goals as goal
 
-pub returns-clause-rows : goal.returns-clause-rows
-returns-clause-rows g c = rw (← c.self.view_is) (has_rows _ c.self.invariant)
+pub returns-clause-sound : goal.returns-clause-sound
+returns-clause-sound g c = rw (← c.self.view_is) c.self.invariant

@@ -1,22 +1,52 @@
-use Rattle.determinize_dense.proofs.Common.{dfa_value, map, rules, ◌≡◌}
+use Rattle.determinize_dense.proofs.Common.{AreMergedLists, AreMergedStarts, arith, dfa_value, get_or-set_at}
+use Rattle.determinize_dense.proofs.Common.{get_or-set_other, length-map, length-set, map, map_push, rules}
+use Rattle.determinize_dense.proofs.Common.{same_from_all_zip, ◌≡◌}
+use Rattle.determinize_dense.proofs.Lists.{items-at}
 use Rattle.determinize_dense.proofs.Merging.{merged-dfa, merged-is, with_rows}
-use Rattle.determinize_dense.proofs.rows.Rows.merged.Goals.{In_ok-merged_lists}
+use Rattle.determinize_dense.proofs.Splitting.{few_blocks, pushed}
+use Rattle.determinize_dense.proofs.rows.Rows.merged.Goals.{In_ok-merged_rows}
 use Rattle.determinize_dense.proofs.rows.Rows.merged.Goals as goal
 
+pub block-requires : goal.block-requires
+block-requires g c = rw (c.requires.count, ← c.self.view_is)
+    (c.self.invariant.table.first c.loop-number.number c.loop-number-test.true)
+
+pub overflow_cast-starts : goal.overflow_cast-starts
+overflow_cast-starts g c =
+    omega (arith, few_blocks c.requires.blocks, (rw c.self.view_is at c.self.invariant).table.few)
+
+pub loop-number-preserved : goal.loop-number-preserved
+loop-number-preserved g c = rw (← c.self.view_is) (grind (arith, length-set, get_or-set_at, get_or-set_other))
+
+pub loop-row-preserved : goal.loop-row-preserved
+loop-row-preserved g c =
+    let copy = same_from_all_zip _ c.index.result.now.items c.in_ok-clone.field-0.items c.in_ok-clone.ensures.cases.0
+    (λ x y e. e) in
+    rw (← c.self.view_is)
+    (grind (arith, pushed, map_push, length-map, copy, items-at (λ list. list.items) c.self.inside.patterns.items))
+
 -- the value of the result
-value-is : (g : _) (c : In_ok-merged_lists g) → dfa_value c.self.inside.nfa.now c.self.inside.match_kind
-    c.in_ok-clone.field-0 c.in_ok-merged_rows.field-0.items c.merged_starts.result
-    (map (λ list. list.items) c.in_ok-merged_lists.field-0.items)
-    ≡ with_rows c.args.self.now c.in_ok-merged_rows.field-0.items c.merged_starts.result
-    (map (λ list. list.items) c.in_ok-merged_lists.field-0.items)
-value-is g c = let same : c.in_ok-clone.field-0 ≡ c.self.inside.classes = search rules in rw (same, ← c.self.view_is)
+value-is : (g : _) (c : In_ok-merged_rows g) → dfa_value c.self.inside.nfa.now c.self.inside.match_kind
+    c.in_ok-clone-2.field-0 c.in_ok-merged_rows.field-0.items c.loop-number.starts
+    (map (λ list. list.items) c.loop-row.patterns.items)
+    ≡ with_rows c.args.self.now c.in_ok-merged_rows.field-0.items c.loop-number.starts
+    (map (λ list. list.items) c.loop-row.patterns.items)
+value-is g c = let same : c.in_ok-clone-2.field-0 ≡ c.self.inside.classes = search rules in rw (same, ← c.self.view_is)
+
+starts-are : (g : _) (c : In_ok-merged_rows g)
+    → AreMergedStarts c.args.self.now.table c.args.parts.now c.loop-number.starts
+starts-are g c = record { count = c.loop-number.invariant.count; blocks = grind arith }
+
+lists-are : (g : _) (c : In_ok-merged_rows g) → AreMergedLists c.args.self.now.table c.args.parts.now
+    (map (λ list. list.items) c.loop-row.patterns.items)
+lists-are g c = record { count = grind (arith, length-map); rows = c.loop-row.invariant.rows }
 
 pub invariant_of-result : goal.invariant_of-result
-invariant_of-result g c = rw (value-is g (goal.at.invariant_of-result g c).In_ok-merged_lists)
-    (merged-dfa (rw c.self.view_is at c.self.invariant) c.requires c.in_ok-merged_rows.ensures c.merged_starts.ensures
-    c.in_ok-merged_lists.ensures)
+invariant_of-result g c =
+    let at = (goal.at.invariant_of-result g c).In_ok-merged_rows in
+    rw (value-is g at) (merged-dfa (rw c.self.view_is at c.self.invariant) c.requires c.in_ok-merged_rows.ensures
+    (starts-are g at) (lists-are g at))
 
 pub returns : goal.returns
-returns g c = rw (value-is g (goal.at.returns g c).In_ok-merged_lists)
-    (merged-is (rw c.self.view_is at c.self.invariant) c.requires c.in_ok-merged_rows.ensures c.merged_starts.ensures
-    c.in_ok-merged_lists.ensures)
+returns g c = rw (value-is g c) (merged-is (rw c.self.view_is at c.self.invariant) c.requires
+    c.in_ok-merged_rows.ensures (starts-are g c) (lists-are g c))

@@ -11,6 +11,3 @@ loop-column-preserved g c =
           (λ less. (there.0, there.1, grind (arith, less, there.2)))
           (λ more. (c.loop-column.column, omega (arith, columns, c.loop-column-test.true), grind (arith, more)));
     }
-
-pub returns-clause-filled : goal.returns-clause-filled
-returns-clause-filled g c = rw (← c.self.view_is) c.self.invariant.table

@@ -1,11 +1,11 @@
-use Rattle.determinize_dense.proofs.Common.{arith, IsPartition, length-replicate, None, true}
+use Rattle.determinize_dense.proofs.Common.{arith, IsPartition, length-replicate}
 use Rattle.determinize_dense.proofs.Distances.{apart-distance}
 use Rattle.determinize_dense.proofs.Splitting.{few_blocks}
 use Rattle.determinize_dense.proofs.Refining.{partition-apart, partition-first}
 use Rattle.determinize_dense.proofs.rows.Rows.partition.Goals as goal
 
 pub whole-requires : goal.whole-requires
-whole-requires g c = grind (arith, c.len.ensures.rows.starts true None tt)
+whole-requires g c = grind (arith, c.len.ensures.sound.table.first 0)
 
 pub split-requires : goal.split-requires
 split-requires g c = grind (arith, length-replicate)
@@ -13,8 +13,8 @@ split-requires g c = grind (arith, length-replicate)
 pub loop-parts-init : goal.loop-parts-init
 loop-parts-init g c =
     let listing : IsPartition c.args.self.now.table c.in_ok-listing.listing = grind (arith, partition-first) in
-    let apart = apart-distance c.args.self.now.table c.distances.ensures.filled c.in_ok-distances.distances.items
-    c.in_ok-distances.ensures.distances in
+    let apart = apart-distance c.args.self.now.table c.len.ensures.sound.table c.in_ok-distances.distances.items
+    c.in_ok-distances.ensures in
     record { partition = partition-apart listing (rw c.as_slice-2.ensures.value at c.in_ok-parts.ensures) apart }
 
 pub loop-parts-smaller : goal.loop-parts-smaller

@@ -1,4 +1,4 @@
-use Rattle.determinize_dense.proofs.Common.{arith, None, true}
+use Rattle.determinize_dense.proofs.Common.{arith}
 use Rattle.determinize_dense.proofs.Splitting.{pushed}
 use Rattle.determinize_dense.proofs.rows.Rows.ranks.Goals as goal
 
@@ -6,4 +6,4 @@ pub loop-row-preserved : goal.loop-row-preserved
 loop-row-preserved g c = grind (arith, pushed)
 
 pub returns : goal.returns
-returns g c = grind (arith, c.len-row-end.ensures.rows.starts true None tt)
+returns g c = grind (arith, c.len-row-end.ensures.sound.table.first 0)

@@ -6,7 +6,7 @@ pub loop-row-preserved-then-distance-distances : goal.loop-row-preserved-then-di
 loop-row-preserved-then-distance-distances g c =
     let there = c.nearest-distance.ensures.there in
     let d = c.args.self.now.table in
-    let is = c.nearest-distance.ensures.filled in
+    let is = c.len-row.ensures.sound.table in
     let room : c.loop-row.row - 1 < length d.patterns =
     omega (arith, c.loop-row.invariant.below, c.loop-row-test.true) in
     let set = shortened d is c.loop-row.distances (c.loop-row.row - 1) there.0 (c.nearest-distance.result + 1) room

@@ -1,6 +1,6 @@
 use Rattle.determinize_dense.proofs.Common.{rules, take_all, ◌*◌}
 use Rattle.determinize_dense.proofs.Lists.{mapped-push}
-use Rattle.determinize_dense.proofs.order.offsets_of.Goals as goal
+use Rattle.determinize_dense.proofs.rows.offsets_of.Goals as goal
 
 pub loop-row-preserved : goal.loop-row-preserved
 loop-row-preserved g c = record {

@@ -1,5 +1,5 @@
 use Rattle.determinize_dense.proofs.Common.{map, take, ◌*◌, ◌≡◌}
-use Rattle.determinize_dense.proofs.order.offsets_of.Given as goal
+use Rattle.determinize_dense.proofs.rows.offsets_of.Given as goal
 
 abbrev pub invariant-loop-row : goal.invariant-loop-row
 invariant-loop-row g l = record {
