@@ -1,6 +1,6 @@
 -- Lists that are mapped, one element more at a time.
 -- Main statements: items-at, mapped-push, lists-push, unwrapped, map-copied.
--- Used by: the loops over lists of patterns, `memory_usage`, `offsets_of`, `numbers_of`, `lists_of`, `to_rows`.
+-- Used by: the loops over lists of patterns, `memory_usage`, `offsets_of`, `lists_of`, `to_rows`.
 -- Idea: `map_more` of std, with the equations that a loop has.
 use Rattle.determinize_dense.proofs.Common.{AllZip, get_or, get_or-map, length, List, lists_of, map, map_more, map_push}
 use Rattle.determinize_core.proofs.Common.{option_map}
@@ -21,8 +21,8 @@ mapped-push f done more xs i d so_far more_is inside = rw (more_is, so_far, map_
 
 -- one list more
 pub lists-push : {L : Type 0} (f : L → List ℕ) (lists : List L) {more : List L} {list : L}
-    (values : List Value) {i : ℕ} {v : Value} → map f lists ≡ lists_of (take i values) → more ≡ lists ++ list ∷ [] → f list ≡ v.patterns → i < length values
-    → get_or values i v ≡ v → map f more ≡ lists_of (take (i + 1) values)
+    (values : List Value) {i : ℕ} {v : Value} → map f lists ≡ lists_of (take i values) → more ≡ lists ++ list ∷ []
+    → f list ≡ v.patterns → i < length values → get_or values i v ≡ v → map f more ≡ lists_of (take (i + 1) values)
 lists-push f lists values {i = i} {v = v} so_far more_is same inside at =
     rw (more_is, map_push, so_far, same, map_more (λ (x : Value). x.patterns) values i v inside, at)
 

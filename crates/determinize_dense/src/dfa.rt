@@ -76,24 +76,6 @@ impl<'n, N: Allocator, A: Allocator> Model for Dfa<'n, N, A> {
         d.next.items d.last_match d.last_special d.first_scanned d.leaving d.inverse };
 }
 
-/// Returns the numbers of the rows at offsets.
-///
-/// - `columns` is the length of a row.
-fn numbers_of<A: Allocator + Copy>(
-    alloc: A,
-    offsets: &[u32],
-    columns: usize,
-) -> Result<Vec<u32, A>, AllocError>
-    requires { 0 < columns }
-    ensures { IfOk result (λ rows. rows.items ≡ rows_at columns offsets.now) }
-{
-    let mut rows = Vec::with_capacity(alloc, offsets.len())?;
-    for offset in offsets {
-        rows.push((*offset as usize / columns) as u32)?;
-    }
-    Ok(rows)
-}
-
 impl<'n, N: Allocator, A: Allocator + Copy> Dfa<'n, N, A> {
     /// Builds the DFA of an NFA, with all its start states: anchored and unanchored, behind each
     /// kind of byte.
@@ -157,11 +139,16 @@ impl<'n, N: Allocator, A: Allocator + Copy> Dfa<'n, N, A> {
     fn to_rows(&self, alloc: A) -> Result<Rows<'n, N, A>, AllocError>
         ensures { IfOk result (λ rows. rows ≡ self.now) }
     {
+        let columns = self.classes.alphabet_len();
+        let mut next = Vec::with_capacity(alloc, self.next.len())?;
+        for offset in &self.next {
+            next.push((*offset as usize / columns) as u32)?;
+        }
         Ok(Rows {
             nfa: self.nfa,
             match_kind: self.match_kind,
             classes: self.classes.clone()?,
-            next: numbers_of(alloc, self.next.as_slice(), self.classes.alphabet_len())?,
+            next,
             starts: self.starts,
             patterns: self.patterns.clone()?,
         })

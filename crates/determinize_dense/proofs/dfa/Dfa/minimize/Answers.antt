@@ -11,4 +11,5 @@ pub returns-clause-fewer : goal.returns-clause-fewer
 returns-clause-fewer g c =
     let p = rw c.in_ok-rows.ensures at c.in_ok-parts.ensures.partition in
     IfOk-weaker c.arranged.result _ _
-    (λ w order. omega (arith, few_blocks p.blocks, p.count, c.in_ok-fewest.ensures.count, order.rows)) c.arranged.ensures
+    (λ w order. omega (arith, few_blocks p.blocks, p.count, c.in_ok-fewest.ensures.count, order.rows))
+    c.arranged.ensures
