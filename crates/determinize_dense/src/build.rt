@@ -18,7 +18,7 @@ ghost use Rattle.determinize_below.specs.Nfa.{AllResolve};
 ghost use Rattle.determinize_core.specs.Private.Reading.{gives_nothing};
 ghost use Rattle.determinize_core.specs.Value.{Value as StateValue};
 ghost use Rattle.determinize_dense.specs.Dfa.{HasMoreStates, IsReachedValue, start_in};
-ghost use Rattle.determinize_dense.specs.Private.Building.{AreStarts, Building, HasChanges, HasIds, IsBase, IsBuilding, IsBuilt, IsStart, IsNextRow, Stays, columns_of, unit_at};
+ghost use Rattle.determinize_dense.specs.Private.Building.{AreStarts, Building, HasChanges, HasIds, IsBase, IsBuilding, IsBuilt, IsStart, IsNextRow, Stays, building, columns_of, unit_at};
 ghost use Rattle.determinize_dense.specs.declared.error.DfaError.TheVariants.{TooManyStates};
 ghost use Rattle.ordered_reach.specs.Runs.{without};
 
@@ -51,23 +51,10 @@ pub(crate) struct Builder<'n, N: Allocator, A: Allocator> {
 impl<'n, N: Allocator, A: Allocator> Model for Builder<'n, N, A> {
     ghost Value = { Building };
 
-    ghost view = { λ b. record {
-      nfa = b.stepper.nfa;
-      kind = b.stepper.kind;
-      classes = b.classes;
-      limit = b.limit;
-      values = b.states;
-      next = b.next.items;
-    } };
+    ghost view = { λ b. building b.stepper b.classes b.limit b.states b.next.items };
 
-    ghost invariant = { λ b. IsBuilding record {
-      nfa = b.stepper.nfa;
-      kind = b.stepper.kind;
-      classes = b.classes;
-      limit = b.limit;
-      values = b.states;
-      next = b.next.items;
-    } };
+    ghost invariant = { λ b. IsBuilding
+        (building b.stepper b.classes b.limit b.states b.next.items) };
 }
 
 /// Returns the state of the NFA from which an anchored or an unanchored search starts.

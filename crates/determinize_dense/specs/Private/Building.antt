@@ -11,6 +11,7 @@ use Rattle.determinize_engine.specs.States.{EachApart}
 use Rattle.determinize_engine.specs.declared.state_table.TheConstants.{MAX_STATES}
 use Rattle.determinize_core.specs.Alike.{AreChanges}
 use Rattle.determinize_core.specs.Step.{start_value, step}
+use Rattle.determinize_core.specs.Stepper.{StepperValue}
 use Rattle.determinize_core.specs.Value.{Value, dead}
 use Rattle.determinize_dense.specs.Dfa.{HasStates, IsReachedValue, start_in}
 use Rattle.determinize_dense.specs.Table.{DfaValue}
@@ -26,6 +27,17 @@ pub record Building : Type 0 where
   pub limit : ℕ
   pub values : List Value
   pub next : List ℕ
+
+-- what a builder with these parts has
+abbrev pub building : StepperValue → Classes → ℕ → List Value → List ℕ → Building
+building stepper classes limit values next = record {
+  nfa = stepper.nfa;
+  kind = stepper.kind;
+  classes = classes;
+  limit = limit;
+  values = values;
+  next = next;
+}
 
 -- the number of columns
 abbrev pub columns_of : Classes → ℕ
