@@ -6,6 +6,7 @@
 //! the drop of all that a function owns is proved at each exit. Only what runs while allocations
 //! fail returns errors, and that owns little.
 
+mod by_class;
 mod classes;
 mod dense;
 mod dfa;
