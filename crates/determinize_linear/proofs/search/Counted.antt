@@ -4,7 +4,7 @@
 -- Idea: a try leads at most one position further, so each pair on the stack is at most as many further as there were
 -- tries.
 use Rattle.std.proofs.Common.{◌≡◌, ◌≤◌, ◌+◌, ◌++◌, ◌∙◌, ◌∷◌, ◌||◌, ℕ, Bool, List, [], arith, false, length, nat_eq, refl}
-use Rattle.std.proofs.Common.{suc, sym, true}
+use Rattle.std.proofs.Common.{sym, true}
 use Rattle.std.proofs.lemmas.Bool.{false≢true, or_left, or_right}
 use Rattle.std.proofs.lemmas.Bool.Decides.{nat_tests}
 use Rattle.std.proofs.lemmas.List.{length-append}

@@ -1,4 +1,4 @@
-use Rattle.std.proofs.Common.{◌≡◌, ◌∙◌, None, ap, arith, sym, true}
+use Rattle.std.proofs.Common.{◌≡◌, ◌∙◌, None, ap, arith, sym}
 use Rattle.std.proofs.lemmas.Bool.{eqb-true, leb-true, true≢false}
 use Rattle.determinize_below.specs.Semantics.{Nfa, before_at}
 use Rattle.determinize_linear.proofs.walks.Starts.{rows_alike, units_before}
