@@ -19,8 +19,9 @@ use std::alloc::{Allocator, Global};
 pub type OwnedRegex<N = Global, A = Global> = Regex<OwnedLazy<N, A>, OwnedLazy<N, A>>;
 
 impl<A: Allocator + Copy> OwnedRegex<A, A> {
-    /// Returns a search with two empty caches of at most `limit` states each. The NFA and its
-    /// reverse, which is made here, are allocated from `alloc`, and so are the caches later.
+    /// Returns a search with two empty caches of at most `limit` states each, as
+    /// `OwnedLazy::new_by_class` makes them. The NFA and its reverse, which is made here, are
+    /// allocated from `alloc`, and so are the caches later.
     ///
     /// The NFA must read forward and have the usual prefix (`has_prefix`). The errors are those of
     /// `reversed`.

@@ -285,8 +285,8 @@ impl<F: Engine, B: Engine<Error = F::Error>> Finder for Regex<F, B> {
 }
 
 impl<'n, N: Allocator, B: Allocator, A: Allocator + Copy> LazyRegex<'n, N, B, A> {
-    /// Returns a search with two empty caches of at most `limit` states each. Does not allocate.
-    /// Searches allocate from `alloc`.
+    /// Returns a search with two empty caches of at most `limit` states each, as
+    /// `Lazy::new_by_class` makes them. Does not allocate. Searches allocate from `alloc`.
     ///
     /// The NFA must read forward and have the usual prefix (`has_prefix`), and `backward` must be
     /// its reverse, as `reversed` returns it.

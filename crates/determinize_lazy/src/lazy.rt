@@ -113,7 +113,10 @@ impl<'n, N: Allocator, A: Allocator + Copy> Lazy<'n, N, A> {
 
     /// Returns an empty cache of at most `limit` states, as `new` does, in which a computed step is
     /// cached over each byte of the class of its byte (`NFA::byte_classes`): these steps are equal.
-    /// So fewer are computed. Finds the classes, in one pass over the NFA. Does not allocate.
+    /// So fewer are computed. Does not allocate.
+    ///
+    /// Finds the classes: a pass over the NFA, and up to one more for each pair of a class and a
+    /// byte where a range of the NFA begins or ends.
     ///
     /// Only the steps from a state whose look-need has an assertion that the NFA does not have are
     /// computed for each byte. No walk over this NFA has such a state.
@@ -177,8 +180,8 @@ impl<'n, N: Allocator, A: Allocator + Copy> Lazy<'n, N, A> {
         self.table.len()
     }
 
-    /// Returns the number of transitions that were computed since `new`. It stays at `u64::MAX`
-    /// once it is there.
+    /// Returns the number of steps that were computed since the cache was made. It stays at
+    /// `u64::MAX` once it is there.
     pub fn computed(&self) -> u64
         ensures { result ≡ self.now.computed }
     {

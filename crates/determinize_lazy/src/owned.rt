@@ -40,7 +40,8 @@ pub struct OwnedLazy<N: Allocator = Global, A: Allocator = Global> {
     kept: Kept<A>,
 }
 
-/// The cached states and transitions, and how many transitions were computed.
+/// The cached states and transitions, how many steps were computed, and the classes of a cache by
+/// class.
 #[derive(Drop)]
 struct Kept<A: Allocator> {
     table: TransitionTable<A>,
@@ -156,8 +157,8 @@ impl<N: Allocator, A: Allocator + Copy> OwnedLazy<N, A> {
     }
 
     /// Returns an empty cache of at most `limit` states, as `new` does, in which a computed step is
-    /// cached over each byte of the class of its byte, as by `Lazy::new_by_class`. Finds the
-    /// classes, in one pass over the NFA. Does not allocate.
+    /// cached over each byte of the class of its byte, as by `Lazy::new_by_class`, which says what
+    /// that takes. Does not allocate.
     pub fn new_by_class(
         alloc: A,
         nfa: NFA<N>,
@@ -216,8 +217,8 @@ impl<N: Allocator, A: Allocator + Copy> OwnedLazy<N, A> {
         self.kept.table.len()
     }
 
-    /// Returns the number of transitions that were computed since `new`. It stays at `u64::MAX`
-    /// once it is there.
+    /// Returns the number of steps that were computed since the cache was made. It stays at
+    /// `u64::MAX` once it is there.
     pub fn computed(&self) -> u64
         ensures { result ≡ self.now.computed }
     {
