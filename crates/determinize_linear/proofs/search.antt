@@ -1,5 +1,6 @@
 pub mod Choices
 pub mod Counted
+pub mod Ends
 pub mod InTurn
 pub mod Left
 pub mod Marks

@@ -278,6 +278,8 @@ fn find_all_with<N: Allocator, M: Allocator + Copy, A: Allocator + Copy, C: Coun
     ensures counted { IsTrue C.counts → is_anchored dfa.now.nfa input.now.anchored ≡ false
         → IfOk result (λ _. C.total counter.old + (input.now.end + 1 - input.now.start)
         ≤ C.total counter.new) }
+    ensures ends { IsTrue C.counts → IfOk result (λ found. All (λ m. C.total counter.old
+        + (m.end + 1 - input.now.start) ≤ C.total counter.new) found.items) }
 {
     if input.start() > input.end() {
         return Ok(Vec::new(alloc));
@@ -315,8 +317,8 @@ pub fn find_all<N: Allocator, M: Allocator + Copy, A: Allocator + Copy>(
 
 /// Returns the same as [`find_all`], and counts the steps from one row to the next. On error too,
 /// they are at most one for each row of the DFA, and four more, for each byte of the range and two
-/// more. If the input is not anchored, they are on success at least one for each index from the
-/// start of the range to its end.
+/// more. On success they are at least one for each index from the start of the range to the end of
+/// each match and, if the input is not anchored, to the end of the range.
 pub fn find_all_counted<N: Allocator, M: Allocator + Copy, A: Allocator + Copy, L: Ledger>(
     alloc: A,
     dfa: &Dfa<'_, N, M>,
@@ -331,6 +333,8 @@ pub fn find_all_counted<N: Allocator, M: Allocator + Copy, A: Allocator + Copy, 
         + most_steps dfa.now.table (input.now.end - input.now.start) }
     ensures counted { is_anchored dfa.now.nfa input.now.anchored ≡ false → IfOk result
         (λ _. steps.old + (input.now.end + 1 - input.now.start) ≤ steps.new) }
+    ensures ends { IfOk result (λ found. All (λ m. steps.old
+        + (m.end + 1 - input.now.start) ≤ steps.new) found.items) }
 {
     find_all_with(alloc, dfa, input, steps)
 }

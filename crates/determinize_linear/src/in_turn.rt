@@ -1,6 +1,6 @@
 //! All matches by searches from one position after another, which a [`Matcher`] makes.
 
-ghost use Rattle.std.specs.Prelude.{[], ◌≡◌, ◌∷◌, ◌++◌, ◌<◌, ◌≤◌, ◌-◌, ◌+◌, ◌*◌, ◌^◌, ℕ, IfOk, IsTrue, None, OnOk, false, length, true};
+ghost use Rattle.std.specs.Prelude.{[], ◌≡◌, ◌∷◌, ◌++◌, ◌<◌, ◌≤◌, ◌-◌, ◌+◌, ◌*◌, ◌^◌, ℕ, All, IfOk, IsTrue, None, OnOk, false, length, true};
 ghost use Rattle.determinize_below.specs.Nfa.{IsAccepted};
 ghost use Rattle.determinize_engine.specs.Searches.{has_start, text_of};
 ghost use Rattle.determinize_find.specs.LeftmostIn as inputs;
@@ -75,6 +75,8 @@ pub(crate) fn find_all_by<S: Matcher, N: Allocator, A: Allocator, C: Counter>(
     ensures counted { IsTrue C.counts → inputs.is_anchored nfa.now input.now.anchored ≡ false
         → IfOk result (λ _. C.total counter.old + (input.now.end - input.now.start) + 1
         ≤ C.total counter.new) }
+    ensures ends { IsTrue C.counts → IfOk result (λ found. All (λ m. C.total counter.old
+        + (m.end + 1 - input.now.start) ≤ C.total counter.new) found.items) }
 {
     let is_anchored = is_anchored(nfa, input);
     let base = input.start();

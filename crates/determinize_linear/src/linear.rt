@@ -7,7 +7,7 @@
 //! one: only the marks of the position where the match ends are removed. Matches begin and end in
 //! order, so no search is at an earlier position again.
 
-ghost use Rattle.std.specs.Prelude.{◌≡◌, ◌≤◌, ◌-◌, ◌+◌, IfOk, IsTrue, None, OnOk, false, length, option_map, true};
+ghost use Rattle.std.specs.Prelude.{◌≡◌, ◌≤◌, ◌-◌, ◌+◌, All, IfOk, IsTrue, None, OnOk, false, length, option_map, true};
 ghost use Rattle.std.specs.Option.{IfNone, IfSome};
 ghost use Rattle.determinize_below.specs.Nfa.{IsAccepted};
 ghost use Rattle.determinize_engine.specs.Searches.{has_start};
@@ -122,6 +122,8 @@ fn find_all_with<N: Allocator, A: Allocator + Copy, C: Counter>(
     ensures counted { IsTrue C.counts → is_anchored nfa.now input.now.anchored ≡ false
         → IfOk result (λ _. C.total counter.old + (input.now.end + 1 - input.now.start)
         ≤ C.total counter.new) }
+    ensures ends { IsTrue C.counts → IfOk result (λ found. All (λ m. C.total counter.old
+        + (m.end + 1 - input.now.start) ≤ C.total counter.new) found.items) }
 {
     if input.start() > input.end() {
         return Ok(Vec::new(alloc));
@@ -154,9 +156,9 @@ pub fn find_all<N: Allocator, A: Allocator + Copy>(
 
 /// Returns the same as [`find_all`], and counts the tries: the pairs of a position and a state that
 /// the search takes from its stack. On error too, they are at most three for each state and each
-/// epsilon transition of the NFA, and three more, for each byte of the range and two more. If the
-/// input is not anchored, they are on success at least one for each index from the start of the
-/// range to its end.
+/// epsilon transition of the NFA, and three more, for each byte of the range and two more. On
+/// success they are at least one for each index from the start of the range to the end of each
+/// match and, if the input is not anchored, to the end of the range.
 pub fn find_all_counted<N: Allocator, A: Allocator + Copy, L: Ledger>(
     alloc: A,
     nfa: &NFA<N>,
@@ -170,6 +172,8 @@ pub fn find_all_counted<N: Allocator, A: Allocator + Copy, L: Ledger>(
         + most_tries nfa.now (input.now.end - input.now.start) }
     ensures counted { is_anchored nfa.now input.now.anchored ≡ false → IfOk result
         (λ _. tries.old + (input.now.end + 1 - input.now.start) ≤ tries.new) }
+    ensures ends { IfOk result (λ found. All (λ m. tries.old
+        + (m.end + 1 - input.now.start) ≤ tries.new) found.items) }
 {
     find_all_with(alloc, nfa, input, tries)
 }

@@ -5,11 +5,27 @@ use Rattle.determinize_below.specs.Semantics.{Text}
 use Rattle.determinize_find.specs.Private.BestAt.{IsBestAt, IsBestIn, from_index}
 use Rattle.determinize_find.proofs.matches.OneList.{length-range}
 use Rattle.determinize_linear.specs.Private.Paid.{in_haystack}
-use Rattle.determinize_linear.proofs.search.InTurn.{best_found, best_order, turn_pays, turned_anchored}
+use Rattle.determinize_linear.proofs.search.InTurn.{begins, best_found, best_order, turn_pays, turned_anchored}
 use Rattle.determinize_linear.proofs.search.InTurn.{turned_empty, turned_end, turned_longer, turned_none, turned_touching}
 use Rattle.determinize_linear.proofs.in_turn.find_all_by.Goals.{else-not-touches}
 use Rattle.determinize_linear.proofs.in_turn.find_all_by.Goals.{then-not-touches+in_ok-push_moved-in-Some-2}
+use Rattle.std.proofs.lemmas.List.Elements.{All-nil}
+use Rattle.determinize_linear.proofs.search.Ends.{counted_more, counted_push}
 use Rattle.determinize_linear.proofs.in_turn.find_all_by.Goals as goal
+
+pub loop-at-init : goal.loop-at-init
+loop-at-init g c =
+    let none : c.args.input.now.start + 0 ≡ c.args.input.now.start = omega arith in
+    let all : c.args.input.now.end - c.args.input.now.start + 1 - 0
+    ≡ c.args.input.now.end - c.args.input.now.start + 1 = omega arith in
+    record {
+      turned = rw (none, c.new-found.ensures.items) (begins c.args.nfa.now c.args.input.now);
+      high = omega arith;
+      ready = λ k l. c.requires.ready k;
+      paid = λ k. rw all (omega arith);
+      counted = λ k. omega arith;
+      ended = λ k. rw c.new-found.ensures.items (All-nil _);
+    }
 
 pub loop-at-preserved-then-next-at : goal.loop-at-preserved-then-next-at
 loop-at-preserved-then-next-at g c =
@@ -39,6 +55,10 @@ loop-at-preserved-then-next-at g c =
             (omega (arith, count, at, within, c.if-next-at.true)),
       );
       counted = λ k. omega (arith, rw is at (c.in_ok-next.ensures.counted k), c.loop-at.invariant.counted k);
+      ended = λ k. rw items (counted_push c.args.input.now.start _ _ c.loop-at.at c.loop-at.found.items c.in-Some.next
+          (counted_more c.args.input.now.start _ _ _ c.loop-at.found.items
+          (omega (arith, rw is at (c.in_ok-next.ensures.counted k), c.if-next-at.true)) (c.loop-at.invariant.ended k))
+          (omega (arith, rw is at (c.in_ok-next.ensures.counted k), c.loop-at.invariant.counted k)));
     }
 
 pub loop-at-preserved-in-Some-2 : goal.loop-at-preserved-in-Some-2
@@ -85,6 +105,16 @@ loop-at-preserved-in-Some-2 g c =
             (c.args.input.now.end - c.args.input.now.start + 1 - c.loop-at.at) (omega (arith, count, at)),
       );
       counted = λ k. omega (arith, end, rw is at (c.in_ok-next.ensures.counted k), c.loop-at.invariant.counted k);
+      ended = λ k. elim c.if-not-touches.branch [
+        | then-not-touches+in_ok-push_moved-in-Some-2 w ↦ let items = rw c.start-base.ensures.value at
+            w.in_ok-push_moved-in-Some-2.ensures in
+            rw (w.found-is, items) (counted_push c.args.input.now.start _ _ c.loop-at.at c.loop-at.found.items
+            c.in-Some.next (counted_more c.args.input.now.start _ _ _ c.loop-at.found.items
+            (omega (arith, end, rw is at (c.in_ok-next.ensures.counted k))) (c.loop-at.invariant.ended k))
+            (omega (arith, end, rw is at (c.in_ok-next.ensures.counted k), c.loop-at.invariant.counted k)))
+        | else-not-touches w ↦ rw w.found-is (counted_more c.args.input.now.start _ _ _ c.loop-at.found.items
+            (omega (arith, end, rw is at (c.in_ok-next.ensures.counted k))) (c.loop-at.invariant.ended k))
+      ];
     }
 
 pub loop-at-preserved : goal.loop-at-preserved
@@ -110,6 +140,8 @@ loop-at-preserved g c =
             (c.args.input.now.end - c.args.input.now.start + 1 - c.loop-at.at) (omega (arith, count, at)),
       );
       counted = λ k. omega (arith, rw is at (c.in_ok-next.ensures.counted k), c.loop-at.invariant.counted k);
+      ended = λ k. counted_more c.args.input.now.start _ _ _ c.loop-at.found.items
+          (omega (arith, rw is at (c.in_ok-next.ensures.counted k))) (c.loop-at.invariant.ended k);
     }
 
 pub returns-then-is_anchored-clause-all : goal.returns-then-is_anchored-clause-all
@@ -142,3 +174,12 @@ returns-clause-counted g c = λ k free.
     let count : length c.args.text.now.bytes ≡ c.args.input.now.end - c.args.input.now.start
     = ap (λ (t : Text). length t.bytes) c.requires.text ∙ length-range c.args.input.now c.requires.haystack in
     omega (arith, count, c.len.ensures.value, c.loop-at-test.false, c.loop-at.invariant.counted k)
+
+pub returns-then-is_anchored-clause-ends : goal.returns-then-is_anchored-clause-ends
+returns-then-is_anchored-clause-ends g c = λ k.
+    let is : c.in_ok-next.field-0 ≡ None = search rules in
+    counted_more c.args.input.now.start _ _ _ c.loop-at.found.items
+    (omega (arith, rw is at (c.in_ok-next.ensures.counted k))) (c.loop-at.invariant.ended k)
+
+pub returns-clause-ends : goal.returns-clause-ends
+returns-clause-ends g c = λ k. c.loop-at.invariant.ended k

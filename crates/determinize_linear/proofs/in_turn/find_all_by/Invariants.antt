@@ -1,5 +1,6 @@
 use Rattle.std.proofs.Common.{◌≤◌, ◌*◌, ◌+◌, ◌-◌, ℕ, IsTrue, length}
 use Rattle.determinize_linear.proofs.search.InTurn.{HasTurned}
+use Rattle.determinize_linear.proofs.search.Ends.{AreCounted}
 use Rattle.determinize_linear.proofs.in_turn.find_all_by.Given as goal
 
 abbrev pub invariant-loop-at : goal.invariant-loop-at
@@ -14,6 +15,8 @@ invariant-loop-at g l = record {
       + (g.S.Matcher.left l.initial.search l.nfa l.text 0
       + (g.S.Matcher.most l.nfa + g.S.Matcher.extra) * (l.input.end - l.input.start + 1));
   counted : IsTrue g.C.Counter.counts → g.C.Counter.total l.initial.counter + l.at ≤ g.C.Counter.total l.counter;
+  ended : IsTrue g.C.Counter.counts → AreCounted l.input.start (g.C.Counter.total l.initial.counter)
+      (g.C.Counter.total l.counter) l.found.items;
 }
 
 abbrev pub decreases-loop-at : goal.decreases-loop-at
