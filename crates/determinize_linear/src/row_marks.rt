@@ -77,6 +77,7 @@ impl<A: Allocator> RowMarks<A> {
         requires rows { 0 < rows }
         requires columns { 0 < columns }
         ensures room { IfOk result (λ m. positions ≤ 64 * (columns * m.span)) }
+        ensures few { IfOk result (λ m. 64 * (columns * m.span) < positions + 64 * columns) }
         ensures words { IfOk result (λ m. length m.words ≡ rows * (columns * m.span)) }
         ensures first { IfOk result
             (λ m. (i : ℕ) → has_bit m.words i ≡ nat_lt i (64 * (columns * m.span))) }
