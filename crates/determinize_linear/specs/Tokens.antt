@@ -31,7 +31,7 @@ abbrev pub end_of_last : ℕ → List Match → ℕ
 end_of_last start [] = start
 end_of_last start (m ∷ ms) = end_of_last m.end ms
 
--- one step for each token and for each byte that they cover, and one where the list ends before the
+-- one step for each token and for each byte that they cover, and one more if they end before the
 -- range does
 abbrev pub least_steps : Asked → List Match → ℕ
 least_steps asked ms = length ms + (min (end_of_last asked.start ms + 1) asked.end - asked.start)

@@ -2,7 +2,7 @@
 //! DFA.
 //!
 //! The last match that the rows of an anchored walk list is the most preferred one that begins
-//! where the walk does. The walk may have read far on after it. So each pair of a position and a
+//! where the walk does. The walk may have read far past its end. So each pair of a position and a
 //! row that it was at is marked, if the next row listed no match. A later walk begins where that
 //! match ends or further on. So a marked pair that it comes to was marked after the match, from
 //! where no further match was listed, and the walk ends there: all walks go on alike from a pair.
@@ -316,9 +316,9 @@ pub fn find_all<N: Allocator, M: Allocator + Copy, A: Allocator + Copy>(
 }
 
 /// Returns the same as [`find_all`], and counts the steps from one row to the next. On error too,
-/// they are at most one for each row of the DFA, and four more, for each byte of the range and two
-/// more. On success they are at least one for each index from the start of the range to the end of
-/// each match and, if the input is not anchored, to the end of the range.
+/// they are at most `(rows + 4) * (bytes + 2)`, for the rows of the DFA and the bytes of the range.
+/// On success they are at least one for each index from the start of the range to the end of each
+/// match and, if the input is not anchored, to the end of the range.
 pub fn find_all_counted<N: Allocator, M: Allocator + Copy, A: Allocator + Copy, L: Ledger>(
     alloc: A,
     dfa: &Dfa<'_, N, M>,

@@ -1,9 +1,9 @@
 //! The tokens of an input by longest match, in a number of steps linear in its length, for a given
 //! DFA.
 //!
-//! A walk from where a token begins may read far on after its end. The walk from there on is at the
-//! same bytes again, and ends where it comes to a pair of a position and a row that was marked, as
-//! those of [`crate::dense`] do: after the end of the token no match was listed.
+//! A walk from where a token begins may read far past its end. The next walk begins there, is at
+//! the same bytes again, and ends where it comes to a pair of a position and a row that was marked,
+//! as those of [`crate::dense`] do: after the end of the token no match was listed.
 
 ghost use Rattle.std.specs.Prelude.{◌≡◌, ◌≤◌, ◌-◌, ◌+◌, IfOk, IsTrue, false, length};
 ghost use Rattle.determinize_below.specs.declared.search.MatchKind.TheVariants as kinds;
@@ -77,9 +77,9 @@ pub fn tokens<N: Allocator, M: Allocator + Copy, A: Allocator + Copy>(
 }
 
 /// Returns the same as [`tokens`], and counts the steps from one row to the next. On error too,
-/// they are at most one for each row of the DFA, and four more, for each byte of the range and two
-/// more. On success they are at least one for each token and one for each byte that they cover, and
-/// one more if the list ends before the range does.
+/// they are at most `(rows + 4) * (bytes + 2)`, for the rows of the DFA and the bytes of the range.
+/// On success they are at least one for each token and one for each byte that they cover, and one
+/// more if the list ends before the range does.
 pub fn tokens_counted<N: Allocator, M: Allocator + Copy, A: Allocator + Copy, L: Ledger>(
     alloc: A,
     dfa: &Dfa<'_, N, M>,

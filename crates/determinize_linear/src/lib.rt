@@ -1,6 +1,6 @@
 //! All matches of an input, in a number of steps linear in its length, for a given NFA or DFA.
 //!
-//! A search for the leftmost match may read far on after it, and the search for the next one reads
+//! A search for the leftmost match may read far past its end, and the search for the next one reads
 //! the same bytes again: by `find_all` of `determinize_find`, all matches of `[^z]*z|a` over
 //! `aaa..` take quadratic time. Here the searches go from match to match, and stop where one before
 //! has found that no match follows. [`dense`] walks by a whole DFA, and marks pairs of a position

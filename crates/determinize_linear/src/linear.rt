@@ -155,10 +155,10 @@ pub fn find_all<N: Allocator, A: Allocator + Copy>(
 }
 
 /// Returns the same as [`find_all`], and counts the tries: the pairs of a position and a state that
-/// the search takes from its stack. On error too, they are at most three for each state and each
-/// epsilon transition of the NFA, and three more, for each byte of the range and two more. On
-/// success they are at least one for each index from the start of the range to the end of each
-/// match and, if the input is not anchored, to the end of the range.
+/// the search takes from its stack. On error too, they are at most `3 * (n + e + 1) * (bytes + 2)`,
+/// for n states and e epsilon transitions of the NFA, and the bytes of the range. On success they
+/// are at least one for each index from the start of the range to the end of each match and, if the
+/// input is not anchored, to the end of the range.
 pub fn find_all_counted<N: Allocator, A: Allocator + Copy, L: Ledger>(
     alloc: A,
     nfa: &NFA<N>,

@@ -35,7 +35,7 @@ fn other_byte(terminator: u8) -> u8
     if terminator == b' ' { b'!' } else { b' ' }
 }
 
-/// Returns the row where an anchored walk begins behind a byte, or behind nothing.
+/// Returns the row where an anchored walk begins after this byte, or after none.
 fn row_behind<N: Allocator, M: Allocator + Copy>(dfa: &Dfa<'_, N, M>, behind: Option<u8>) -> usize
     ensures row { result ≡ start_row dfa.now.nfa dfa.now.table true behind }
     ensures dead { IsDead dfa.now.table 0 }
@@ -45,8 +45,8 @@ fn row_behind<N: Allocator, M: Allocator + Copy>(dfa: &Dfa<'_, N, M>, behind: Op
     dfa.start_state(&start).as_usize()
 }
 
-/// Returns whether anchored walks from all positions of a text begin in one row. If the text is
-/// short it is not tried.
+/// Returns `true` only if anchored walks from all positions of a text begin in one row. For a text
+/// of fewer than `FEW` bytes returns `false`.
 pub(crate) fn begin_alike<N: Allocator, M: Allocator + Copy>(
     dfa: &Dfa<'_, N, M>,
     text: &Text<'_>,
@@ -65,8 +65,8 @@ pub(crate) fn begin_alike<N: Allocator, M: Allocator + Copy>(
         && row_behind(dfa, Some(other_byte(terminator))) == first
 }
 
-/// Returns the configuration of an anchored walk from a position of a text: where all begin alike,
-/// that behind nothing, and else that behind the byte before.
+/// Returns the configuration of an anchored walk from a position of a text: with the byte before
+/// the position, or with none if all walks begin alike.
 #[inline(always)]
 pub(crate) fn start_at(text: &Text<'_>, from: usize, begin_alike: bool) -> Config
     ensures value { result ≡ record {

@@ -1,8 +1,8 @@
 //! A zero-sized count of tries: of the pairs that a search takes from its stack, or of the steps of
 //! a walk by a DFA.
 //!
-//! A search counts each try by a [`Counter`]: [`Tries`] in the calls named `find_all_counted`, and
-//! `()`, which counts nothing, in those named `find_all`.
+//! A search counts each try by a [`Counter`]: [`Tries`] in the calls whose names end in `_counted`,
+//! and `()`, which counts nothing, in the others.
 
 ghost use Rattle.std.specs.Prelude.{◌≡◌, ℕ, ◌+◌, ◌<◌, Bool, true, false, IsTrue};
 

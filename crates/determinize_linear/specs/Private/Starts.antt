@@ -4,7 +4,7 @@ use Rattle.determinize_below.specs.Semantics.{Text, before_at}
 use Rattle.determinize_below.specs.Truth.{IsUnit}
 use Rattle.determinize_dense.specs.Table.{DfaValue, start_row}
 
--- from all positions of a text they begin in the row where they begin behind nothing
+-- from each position of a text they begin in the row where they begin with no byte before
 pub record BeginAlike (dfa : DfaValue) (text : Text) : Type 0 where
   pub row : (k : ℕ) → start_row dfa.nfa dfa.table true (before_at text k)
       ≡ start_row dfa.nfa dfa.table true None
