@@ -1,9 +1,31 @@
 -- Marks at the bytes where something changes, and states with the same target on two bytes.
--- Main statements: ranges_more, read_at, all_states, one_marked.
--- Used by: `mark_ranges`, `boundaries_of`, `are_alike`.
+-- Main statements: marks_like, marks_both, ranges_more, read_at, all_states.
+-- Used by: `mark_ranges`, `mark_lines`, `mark_crlf`, `mark_word_bytes`, `boundaries_of`, `are_alike`.
 -- Idea: the first range that contains a byte is among the ranges so far, or it is the next one.
-use Rattle.determinize_below.proofs.Common.{ap, arith, [], Bool, by_cases, cases_lt, Fail, false, get_or, get_or-set_other, get_or-set_same, length, not, set, subst, sym, true, List, Nfa, Node, None, refl, slice_get, Some, state_at, take, target_of, Transition, ℕ, ◌++◌, ◌+◌, ◌<◌, ◌∷◌, ◌≡◌, ◌∙◌, cond, option_or, take_more, get_or_from_slice_get, MarksChanges, matches, sparse_target}
+use Rattle.determinize_below.proofs.Common.{arith, [], Bool, by_cases, cases_lt, Fail, get_or, length, List, nat_eq, nat_tests, Nfa, Node, None, refl, slice_get, Some, state_at, take, target_of, Transition, ℕ, ◌++◌, ◌+◌, ◌<◌, ◌∷◌, ◌≡◌, cond, option_or, take_more, get_or_from_slice_get, MarksChanges, matches, sparse_target}
 use Rattle.determinize_below.proofs.nfas.Edges.{state_past}
+use Rattle.determinize_below.specs.Semantics.{within}
+
+-- marks of changes, of a function that changes only where this one does
+pub marks_like : {A B : Type 0} (f : ℕ → A) (g : ℕ → B) (old new : List Bool)
+    → ((b c : ℕ) → f b ≡ f c → g b ≡ g c) → MarksChanges f old new → MarksChanges g old new
+marks_like f g old new like m = record {
+  was = m.was;
+  same = λ b low h. like b (b + 1) (m.same b low h);
+}
+
+-- marks of changes, and then those of another function
+pub marks_both : {A B C : Type 0} (f : ℕ → A) (g : ℕ → B) (both : ℕ → C) (old mid new : List Bool)
+    → ((b c : ℕ) → f b ≡ f c → g b ≡ g c → both b ≡ both c)
+    → MarksChanges f old mid → MarksChanges g mid new → MarksChanges both old new
+marks_both f g both old mid new like first next = record {
+  was = λ b h. first.was b (next.was b h);
+  same = λ b low h. like b (b + 1) (first.same b low (next.was (b + 1) h)) (next.same b low h);
+}
+
+-- the range of one byte contains this one
+pub within_one : (t b : ℕ) → within t t b ≡ nat_eq b t
+within_one t b = grind (arith, nat_tests)
 
 -- the target of some ranges and one more
 sparse_target-push : (ts : List Transition) (t : Transition) (b : ℕ)
@@ -38,19 +60,3 @@ pub all_states : (nfa : Nfa) (b c : ℕ) → ((s : ℕ) → s < length nfa.state
     → (s : ℕ) → target_of (Some b) (state_at nfa s) ≡ target_of (Some c) (state_at nfa s)
 all_states nfa b c same s = by_cases (cases_lt s (length nfa.states)) (same s)
     (λ l. let past = state_past nfa s l in rw past refl)
-
--- one more mark, at a byte that differs from the byte before it
-pub one_marked : (P : ℕ → Type 0) (marks : List Bool) (n byte : ℕ) (same : Bool) → n ≡ byte → byte + 1 < length marks
-    → (same ≡ true → P byte) → ((b : ℕ) → b < byte → get_or marks (b + 1) false ≡ false → P b)
-    → (b : ℕ) → b < byte + 1 → get_or (set marks (n + 1) (not same)) (b + 1) false ≡ false → P b
-one_marked P marks n byte same e l here before b low h = by_cases (cases_lt b byte)
-    (λ k. before b k (sym (get_or-set_other marks (n + 1) (b + 1) (not same) false (λ z. omega arith)) ∙ h))
-    (λ k. let z : byte ≡ b = omega arith in
-    let s : b + 1 ≡ n + 1 = omega arith in
-    let m : not same ≡ false = sym (get_or-set_same marks (n + 1) (not same) false (omega arith))
-    ∙ ap (λ w. get_or (set marks (n + 1) (not same)) w false) (sym s) ∙ h in
-    subst P z (here (true_from_not same m)))
-  where
-    true_from_not : (x : Bool) → not x ≡ false → x ≡ true
-    true_from_not true m = refl
-    true_from_not false m = absurd (cc)

@@ -7,11 +7,13 @@
 //! the class of the byte before it. A marked byte is compared with the least byte of each class so
 //! far, since it may be alike to an earlier byte. So a mark too many costs only time.
 
-ghost use Rattle.std.specs.Prelude.{◌≡◌, ℕ, ◌<◌, ◌≤◌, Some, length, slice_index, true};
+ghost use Rattle.std.specs.Prelude.{◌≡◌, ℕ, ◌+◌, ◌<◌, ◌≤◌, ◌&&◌, Some, false, length, nat_eq, slice_index, true};
 ghost use Rattle.std.specs.Bool.{Decides};
 ghost use Rattle.determinize_below.specs.ByteClasses.{AreAlike, AreClassesOf, AreTestedAlike};
-ghost use Rattle.determinize_below.specs.ByteClasses.{MarksChanges};
-ghost use Rattle.determinize_below.specs.Semantics.{state_at, target_of};
+ghost use Rattle.determinize_below.specs.ByteClasses.{MarksChanges, is_marked};
+ghost use Rattle.determinize_below.specs.Look.{has_crlf, has_line, has_word};
+ghost use Rattle.determinize_below.specs.Semantics.{state_at, target_of, within};
+ghost use Rattle.determinize_below.specs.Semantics as semantics;
 ghost use Rattle.determinize_below.specs.Nfa.{IsAccepted, is_dense_sound, is_sparse_sound};
 ghost use Rattle.determinize_below.specs.Node.{node_of};
 ghost use Rattle.determinize_below.specs.Private.Boundaries.{AreBoundaries};
@@ -80,13 +82,20 @@ fn are_alike<A: Allocator>(nfa: &NFA<A>, b: u8, c: u8) -> bool
 }
 
 /// Marks the first byte of the range, and the byte after its last.
+fn mark_between(start: u8, end: u8, marks: &mut [bool; 256])
+    ensures { MarksChanges (within start end) marks.old marks.new }
+{
+    marks[usize::from(start)] = true;
+    if end < u8::MAX {
+        marks[usize::from(end) + 1] = true;
+    }
+}
+
+/// Marks the first byte of the range of the transition, and the byte after its last.
 fn mark_range(trans: &Transition, marks: &mut [bool; 256])
     ensures { MarksChanges (matches trans.now) marks.old marks.new }
 {
-    marks[usize::from(trans.start)] = true;
-    if trans.end < u8::MAX {
-        marks[usize::from(trans.end) + 1] = true;
-    }
+    mark_between(trans.start, trans.end, marks);
 }
 
 /// Marks the first byte of each range, and the byte after its last.
@@ -123,15 +132,71 @@ fn mark_state<A: Allocator>(state: &State<A>, marks: &mut [bool; 256])
     }
 }
 
+/// Marks the bytes that a line assertion of the NFA distinguishes from the byte before.
+fn mark_lines<A: Allocator>(nfa: &NFA<A>, marks: &mut [bool; 256])
+    ensures { MarksChanges (λ b. has_line nfa.now.look_set_any && nat_eq b nfa.now.terminator)
+        marks.old marks.new }
+{
+    if !nfa.look_set_any().contains_anchor_line() {
+        return;
+    }
+    let terminator = nfa.look_matcher().get_line_terminator();
+    mark_between(terminator, terminator, marks);
+}
+
+/// Marks the bytes that a CRLF assertion of the NFA distinguishes from the byte before.
+fn mark_crlf<A: Allocator>(nfa: &NFA<A>, marks: &mut [bool; 256])
+    ensures carriage { MarksChanges (λ b. has_crlf nfa.now.look_set_any && nat_eq b 13)
+        marks.old marks.new }
+    ensures feed { MarksChanges (λ b. has_crlf nfa.now.look_set_any && nat_eq b 10)
+        marks.old marks.new }
+{
+    if !nfa.look_set_any().contains_anchor_crlf() {
+        return;
+    }
+    mark_between(b'\n', b'\n', marks);
+    mark_between(b'\r', b'\r', marks);
+}
+
+/// Marks the word bytes before which there is none, and the others before which there is one.
+fn mark_word_bytes(marks: &mut [bool; 256])
+    ensures { MarksChanges semantics.is_word_byte marks.old marks.new }
+{
+    mark_between(b'0', b'9', marks);
+    mark_between(b'A', b'Z', marks);
+    mark_between(b'_', b'_', marks);
+    mark_between(b'a', b'z', marks);
+}
+
+/// Marks the bytes that a word assertion of the NFA distinguishes from the byte before.
+fn mark_words<A: Allocator>(nfa: &NFA<A>, marks: &mut [bool; 256])
+    ensures { MarksChanges (λ b. has_word nfa.now.look_set_any && semantics.is_word_byte b)
+        marks.old marks.new }
+{
+    if !nfa.look_set_any().contains_word() {
+        return;
+    }
+    mark_word_bytes(marks);
+}
+
+/// Returns marks at the bytes that an assertion of the NFA distinguishes from the byte before.
+fn tested_bytes<A: Allocator>(nfa: &NFA<A>) -> [bool; 256]
+    ensures { (b : ℕ) → b < 255 → is_marked result (b + 1) ≡ false
+        → AreTestedAlike nfa.now b (b + 1) }
+{
+    let mut marks = [false; 256];
+    mark_lines(nfa, &mut marks);
+    mark_crlf(nfa, &mut marks);
+    mark_words(nfa, &mut marks);
+    marks
+}
+
 /// Returns marks at all bytes that the NFA may distinguish from the byte before.
 fn boundaries_of<A: Allocator>(nfa: &NFA<A>) -> [bool; 256]
     ensures marks { AreBoundaries nfa.now result }
     ensures accepted { IsAccepted nfa.now }
 {
-    let mut marks = [false; 256];
-    for byte in 0..255u8 {
-        marks[usize::from(byte) + 1] = !are_tested_alike(nfa, byte, byte + 1);
-    }
+    let mut marks = tested_bytes(nfa);
     for index in 0..nfa.len() {
         nfa.mark_changes(StateID::must(index), &mut marks);
     }

@@ -1,11 +1,5 @@
-use Rattle.determinize_below.proofs.Common.{◌≡◌, ◌+◌, ◌<◌, ℕ, Some, false, length, AreTestedAlike, is_marked, state_at, target_of}
+use Rattle.determinize_below.proofs.Common.{◌≡◌, ◌+◌, ◌<◌, ℕ, Some, false, AreTestedAlike, is_marked, state_at, target_of}
 use Rattle.determinize_below.proofs.nfa.byte_classes.boundaries_of.Given as goal
-
-abbrev pub invariant-loop-byte : goal.invariant-loop-byte
-invariant-loop-byte g l = record {
-  long : length l.marks ≡ 256;
-  tests : (b : ℕ) → b < l.byte → is_marked l.marks (b + 1) ≡ false → AreTestedAlike l.nfa b (b + 1);
-}
 
 abbrev pub invariant-loop-index : goal.invariant-loop-index
 invariant-loop-index g l = record {
