@@ -3,18 +3,19 @@
 -- Used by: `reopens`, `stays_closed`, `reopened_under`, `redo_law`, StepLaws.
 -- Idea: by the members of the sets.
 use Rattle.determinize_core.proofs.Common.{ap, arith, Assertion, Bool, each_look, false, fun_ext, has, IfNone, IfSome}
-use Rattle.determinize_core.proofs.Common.{is_reopened, IsReopened, list_any, Nfa, not, opened_by, Option, sym, true}
+use Rattle.determinize_core.proofs.Common.{is_reopened, IsReopened, list_any, Nfa, not, opened_by, Option, refl, sym, true}
 use Rattle.determinize_core.proofs.Common.{by_test, Value, ℕ, ◌&&◌, ◌||◌, ◌∙◌, ◌≡◌}
 use Rattle.std.specs.Bool.{Decides, then_some}
-use Rattle.determinize_below.specs.Look.{has_haystack, has_line, intersect, union}
+use Rattle.determinize_below.specs.Look.{intersect, union}
 use Rattle.determinize_below.proofs.looks.LookSets.{has-empty, has-intersect, has-union}
 use Rattle.determinize_below.proofs.looks.CommonLooks.{each_look-false}
 use Rattle.determinize_below.proofs.Common.{Any-from_list_any, both_ways, false_from_ne_true}
 use Rattle.ordered_reach.proofs.lists.Pieces.{list_any_unmet}
 use Rattle.determinize_below.specs.Semantics.{is_word}
-use Rattle.determinize_start.proofs.tables.KnownSet.{haystack_class, line_class}
 use Rattle.determinize_start.specs.LookTables.{line_opened, opened, Tables, word_opened}
+use Rattle.determinize_below.specs.declared.look.Look.TheVariants.{Start}
 use Rattle.determinize_core.specs.Step.{is_redone}
+use Rattle.determinize_core.specs.declared.determinize.reopening.TheConstants.{LINES}
 
 -- the test on sets: `others` is what was found and is not in look-have, and some of it is needed
 pub reopens : (found have need others : ℕ) (empty : Bool)
@@ -41,22 +42,21 @@ pub unneeded : (nfa : Nfa) (v : Value) (u : Option ℕ) → v.look_need ≡ 0 �
 unneeded nfa v u e = list_any_unmet (λ l. opened_by nfa v u l && has v.look_need l && not (has v.look_have l)) each_look
     (λ l. rw e (grind (arith, has-empty l)))
 
--- of a set without haystack and line assertions no member is one
-unlined : (t : Tables) (half : Bool) (u : Option ℕ) (need : ℕ) (l : Assertion)
-    → (has_haystack need || has_line need) ≡ false → has need l ≡ true → line_opened t half u l ≡ false
+-- a haystack or line assertion that is satisfied is among the six
+lined : (t : Tables) (half : Bool) (u : Option ℕ) (l : Assertion) → (line_opened t half u l || has LINES l) ≡ has LINES l
 unfolding has line_opened
-unlined t half u need l none n = grind (arith, haystack_class need l, line_class need l)
+lined t half u Start = refl
+lined t half u l = grind arith
 
--- if only word assertions are needed, they decide
+-- if no unit could satisfy more than the word assertions found and these six, they decide
 pub words_decide : (t : Tables) (f half : Bool) (u : Option ℕ) (found have need : ℕ)
-    → (has_haystack need || has_line need) ≡ false
     → ((l : Assertion) → has found l ≡ word_opened f (is_word u) l)
-    → is_redone (has found) have need ≡ false → is_redone (opened t f half u) have need ≡ false
+    → is_redone (has (union found LINES)) have need ≡ false → is_redone (opened t f half u) have need ≡ false
 unfolding opened
-words_decide t f half u found have need none words closed =
+words_decide t f half u found have need words closed =
     list_any_unmet (λ l. opened t f half u l && has need l && not (has have l)) each_look (λ l.
-    let e = each_look-false (λ x. has found x && has need x && not (has have x)) closed l in
-    grind (arith, words l, unlined t half u need l none))
+    let e = each_look-false (λ x. has (union found LINES) x && has need x && not (has have x)) closed l in
+    grind (arith, words l, has-union found LINES l, lined t half u l))
 
 -- the set under which the closure is reopened, where it is
 pub reopened_under : (nfa : Nfa) (v : Value) (u : Option ℕ) (found : ℕ) (test : Bool)

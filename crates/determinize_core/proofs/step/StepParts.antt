@@ -1,21 +1,22 @@
 -- The parts of a step make the step.
--- Main statements: step_tries, IsRead, stepped, tries_are.
--- Used by: `transition`, `read_working_list`.
+-- Main statements: step_tries, entered_by, tries_are, left-none, tries-none, stepped.
+-- Used by: `transition`, `reopen`.
 -- Idea: flags depend on whether a state is entered, and that on whether there is a target.
 use Rattle.determinize_core.proofs.Common.{[], add-one, added, added_one, AllResolve, ap, append_assoc, arith}
 use Rattle.determinize_core.proofs.Common.{Assertion, begun, Bool, by_test, edges_in_all, false, fold, from_word_after}
 use Rattle.determinize_core.proofs.Common.{half_crlf_after, has, have_after, is_capture, is_nonempty, IsAccepted}
-use Rattle.determinize_core.proofs.Common.{length, List, MatchKind, member, nat_eq, nat_tests, Nfa, not, Option}
-use Rattle.determinize_core.proofs.Common.{patterns_of, patterns_read, reach, reach_past, refl, same_decides, step}
-use Rattle.determinize_core.proofs.Common.{tables_of, targets, tries, tries_left, tries_of, true, Value, without}
-use Rattle.determinize_core.proofs.Common.{working_list, ℕ, ◌&&◌, ◌*◌, ◌+◌, ◌<◌, ◌==◌, ◌∙◌, ◌∷◌, ◌≡◌, ◌≤◌}
+use Rattle.determinize_core.proofs.Common.{length, List, MatchKind, member, nat_eq, nat_tests, Nfa, Option}
+use Rattle.determinize_core.proofs.Common.{patterns_of, patterns_read, reach, reach_past, refl, same_decides, step, sym}
+use Rattle.determinize_core.proofs.Common.{tables_of, targets, tries, tries_left, tries_of, true, true≢false, Value, without}
+use Rattle.determinize_core.proofs.Common.{working_list, ℕ, ◌*◌, ◌+◌, ◌<◌, ◌==◌, ◌∙◌, ◌∷◌, ◌≡◌, ◌≤◌}
 use Rattle.std.proofs.Common.{All as Each}
 use Rattle.std.proofs.lemmas.List.Elements.{All-contains}
 use Rattle.ordered_reach.proofs.lists.Elements.{In_Contains, member_In}
 use Rattle.determinize_state.specs.Recording.{settled}
 use Rattle.determinize_state.proofs.values.RecordingSteps.{added-none}
-use Rattle.determinize_core.proofs.closure.EmptySearch.{reach_past-empty, tries_left-empty}
+use Rattle.determinize_core.proofs.closure.EmptySearch.{reach-none, reach_past-empty, tries_left-empty}
 use Rattle.determinize_core.proofs.step.StepBound.{tries_are_few}
+use Rattle.determinize_core.specs.Step.{left_by}
 
 -- each member of a list is below what all its items are below
 pub member-below : (bound : ℕ) (xs : List ℕ) → Each (λ id. id < bound) xs → (s : ℕ) → member nat_eq xs s ≡ true
@@ -44,38 +45,55 @@ pub step_tries : (nfa : Nfa) → IsAccepted nfa → (kind : MatchKind) (v : Valu
 step_tries nfa accepted kind v u inside =
     tries_are_few nfa accepted kind v u (member-below (length nfa.states) v.states inside)
 
--- a builder with the look-behind for the unit, after the working list was read: the set for the next states is empty,
--- and the targets are on the stack
-pub record IsRead (nfa : Nfa) (kind : MatchKind) (v : Value) (u : Option ℕ) (have : ℕ) (flagged : Value)
-    (held row : List ℕ) : Type 0 where
-  pub have_is : have ≡ have_after (tables_of nfa) u
-  pub flagged_is : flagged ≡ begun (is_nonempty row && from_word_after (tables_of nfa) u)
-      (is_nonempty row && half_crlf_after (tables_of nfa) u) have
-      (patterns_read kind (patterns_of nfa (working_list nfa v u)))
-  pub held_is : held ≡ []
-  pub row_is : row ≡ targets nfa kind v u
+-- recording leaves look-have
+pub have_left : (nfa : Nfa) (v now : Value) (xs : List ℕ) → now ≡ fold (added_one nfa) v xs → now.look_have ≡ v.look_have
+have_left nfa v now xs e = ap (λ (w : Value). w.look_have) (e ∙ fold-added nfa v xs)
 
-module _ {nfa : Nfa} {kind : MatchKind} {v : Value} {u : Option ℕ} {have : ℕ} {flagged : Value} {held row : List ℕ}
-    (is : IsRead nfa kind v u have flagged held row) where
-  -- what is recorded is the next value
-  pub stepped : settled (fold (added_one nfa) flagged (reach_past nfa (has have) held row)) ≡ step nfa kind v u
-  unfolding step
-  stepped = rw (
+module _ (nfa : Nfa) (u : Option ℕ) (have : ℕ) (have_is : have ≡ have_after (tables_of nfa) u) (held row : List ℕ)
+    (held_is : held ≡ []) where
+  -- what is recorded from a target or more, with this look-have, is what the unit leaves
+  pub entered_by : (flagged now : Value) (patterns : List ℕ)
+      → flagged ≡ begun (from_word_after (tables_of nfa) u) (half_crlf_after (tables_of nfa) u) 0 patterns
+      → is_nonempty row ≡ true → now ≡ fold (added_one nfa) flagged (reach_past nfa (has have) held row)
+      → settled (record now { look_have = have })
+      ≡ left_by nfa u patterns (reach nfa (has (have_after (tables_of nfa) u)) row)
+  entered_by flagged now patterns flagged_is some recorded_is = rw (
+    recorded_is,
     fold-added,
-    is.held_is,
+    held_is,
     reach_past-empty,
-    is.flagged_is,
-    is.row_is,
-    is.have_is,
-    ← is_nonempty-reach nfa (has (have_after (tables_of nfa) u)) (targets nfa kind v u),
+    flagged_is,
+    have_is,
+    is_nonempty-reach nfa (has (have_after (tables_of nfa) u)) row,
+    some,
   ) refl
 
   -- the tries for the states entered
-  pub tries_are : tries_left nfa (has have) held row
-      ≡ tries_of nfa (has (have_after (tables_of nfa) u)) (targets nfa kind v u)
-  tries_are = rw (is.held_is, tries_left-empty, is.have_is, is.row_is) refl
+  pub tries_are : tries_left nfa (has have) held row ≡ tries_of nfa (has (have_after (tables_of nfa) u)) row
+  tries_are = rw (held_is, tries_left-empty, have_is) refl
 
--- a list that is not empty
-pub is_nonempty-length : (n : ℕ) (xs : List ℕ) → n ≡ length xs → not (n == 0) ≡ is_nonempty xs
-is_nonempty-length n [] e = rw e refl
-is_nonempty-length n (x ∷ xs) e = let k : (n == 0) ≡ false = grind (arith, nat_tests) in ap not k
+module _ (nfa : Nfa) (holds : Assertion → Bool) where
+  -- without targets nothing is entered
+  pub left-none : (u : Option ℕ) (patterns : List ℕ)
+      → left_by nfa u patterns (reach nfa holds []) ≡ begun false false 0 patterns
+  left-none u patterns = rw reach-none refl
+
+  -- and nothing is tried
+  pub tries-none : tries_of nfa holds [] ≡ 0
+  tries-none = rw reach-none refl
+
+-- the patterns that were read, and what the targets enter, are those of the step
+pub stepped : (nfa : Nfa) (kind : MatchKind) (v : Value) (u : Option ℕ) (patterns row : List ℕ)
+    → patterns ≡ patterns_read kind (patterns_of nfa (working_list nfa v u)) → row ≡ targets nfa kind v u
+    → left_by nfa u patterns (reach nfa (has (have_after (tables_of nfa) u)) row) ≡ step nfa kind v u
+unfolding step
+stepped nfa kind v u patterns row patterns_are row_is = rw (patterns_are, row_is) refl
+
+-- the test of the length tells whether there are items
+pub some_items : (n : ℕ) (xs : List ℕ) → n ≡ length xs → (n == 0) ≡ false → is_nonempty xs ≡ true
+some_items n [] e h = absurd (true≢false (rw e at h))
+some_items n (x ∷ xs) e h = refl
+
+pub no_items : (n : ℕ) (xs : List ℕ) → n ≡ length xs → (n == 0) ≡ true → xs ≡ []
+no_items n [] e h = refl
+no_items n (x ∷ xs) e h = let k : (n == 0) ≡ false = grind (arith, nat_tests) in absurd (true≢false (sym h ∙ k))

@@ -2,16 +2,17 @@
 //!
 //! The recorded states are closed under look-have. If the unit satisfies a further assertion of
 //! look-need, their closure is reopened: computed again, with that assertion. Most units satisfy
-//! none. If look-need has only word assertions, the most frequent case, a short test decides.
+//! none, and a short test shows it unless a haystack or line assertion is needed.
 
-ghost use Rattle.std.specs.Prelude.{◌≡◌, Bool, IsTrue, false, IfNone, IfSome, ◌||◌};
-ghost use Rattle.determinize_below.specs.Look.{has, has_haystack, has_line};
+ghost use Rattle.std.specs.Prelude.{◌≡◌, Bool, IsTrue, false, IfNone, IfSome};
+ghost use Rattle.determinize_below.specs.Look.{has};
+ghost use Rattle.determinize_below.specs.Nfa.{IsAccepted};
 ghost use Rattle.determinize_below.specs.Unit.{byte_of};
 ghost use Rattle.determinize_start.specs.LookTables.{Tables, opened};
 ghost use Rattle.determinize_core.specs.Private.Reading.{IsReopened};
 ghost use Rattle.determinize_core.specs.Step.{is_redone, is_reopened};
 
-use determinize_below::{LookSet, NFA, Unit};
+use determinize_below::{Look, LookSet, NFA, Unit};
 use determinize_start::look_tables::{LookTables, words_opened};
 use determinize_state::state::State;
 use std::alloc::Allocator;
@@ -23,24 +24,23 @@ fn reopens(found: LookSet, have: LookSet, need: LookSet) -> bool
     !found.subtract(have).intersect(need).is_empty()
 }
 
-/// Returns whether the set contains a haystack or a line assertion.
-fn tests_lines(set: LookSet) -> bool
-    ensures { result ≡ (has_haystack set || has_line set) }
-{
-    set.contains_anchor_haystack() || set.contains_anchor_line()
-}
+/// The haystack and line assertions.
+const LINES: u32 = Look::Start as u32
+    | Look::End as u32
+    | Look::StartLF as u32
+    | Look::EndLF as u32
+    | Look::StartCRLF as u32
+    | Look::EndCRLF as u32;
 
 /// Returns true only if the unit satisfies no assertion of look-need that is not in look-have. May
-/// return false although it satisfies none, since it tests word assertions only.
+/// return false although it satisfies none, since it takes all of `LINES` for satisfied.
 #[tactic(auto, using(crate::proofs::step::Reopening::words_decide))]
 fn stays_closed(from_word: bool, unit: Unit, have: LookSet, need: LookSet) -> bool
     ensures { (tables : Tables) (half_crlf : Bool) → IsTrue result → is_redone
         (opened tables from_word half_crlf (byte_of unit)) have need ≡ false }
 {
-    if tests_lines(need) {
-        return false;
-    }
-    !reopens(words_opened(from_word, unit), have, need)
+    let found = words_opened(from_word, unit).union(LookSet::from_repr(LINES));
+    !reopens(found, have, need)
 }
 
 /// Returns the assertions under which the unit reopens the closure: look-have and those that the
@@ -53,7 +53,9 @@ pub(crate) fn reopened_under<N: Allocator, A: Allocator>(
 ) -> Option<LookSet>
     ensures none { IfNone result (is_reopened nfa.now state.now (byte_of unit) ≡ false) }
     ensures some { IfSome result (IsReopened nfa.now state.now (byte_of unit)) }
+    ensures accepted { IsAccepted nfa.now }
 {
+    let tables = LookTables::of(nfa);
     let need = state.look_need();
     if need.is_empty() {
         return None;
@@ -64,7 +66,6 @@ pub(crate) fn reopened_under<N: Allocator, A: Allocator>(
     if stays_closed(from_word, unit, have, need) {
         return None;
     }
-    let tables = LookTables::of(nfa);
     let found = tables.opened(from_word, state.is_half_crlf(), unit);
     reopens(found, have, need).then_some(have.union(found))
 }

@@ -3,46 +3,86 @@
 //! The look-behind of the next state is set from the unit, the first pass over the working list
 //! adds the patterns and pushes the targets, and the closure of the targets adds the NFA states.
 
-ghost use Rattle.std.specs.Prelude.{◌≡◌, ◌+◌, ◌*◌, ◌<◌, ◌≤◌, ◌&&◌, [], IsTrue, length, IfOk, OnOk};
+ghost use Rattle.std.specs.Prelude.{◌≡◌, ◌+◌, ◌*◌, ◌<◌, ◌≤◌, [], false, IsTrue, length, IfOk, OnOk};
+ghost use Rattle.determinize_below.specs.Edges.{reach};
+ghost use Rattle.determinize_below.specs.Look.{has};
 ghost use Rattle.determinize_below.specs.Nfa.{AllResolve};
 ghost use Rattle.determinize_below.specs.Unit.{byte_of};
 ghost use Rattle.determinize_below.specs.declared.search.MatchKind.TheVariants as kinds;
 ghost use Rattle.determinize_core.specs.Scratch.{IsScratch};
-ghost use Rattle.determinize_core.specs.Step.{step};
-ghost use Rattle.determinize_core.specs.Tries.{edges_in_all, tries};
+ghost use Rattle.determinize_core.specs.Step.{begun, left_by, step};
+ghost use Rattle.determinize_core.specs.Tries.{edges_in_all, tries, tries_of};
+ghost use Rattle.determinize_start.specs.LookTables.{have_after, tables_of};
+ghost use Rattle.determinize_state.specs.Recording.{settled};
 ghost use Rattle.determinize_state.specs.Value.{dead, with_flags};
 
 use crate::determinize::closure::explore;
 use crate::determinize::steps::{Counter, Steps};
 use crate::determinize::working_list::read_working_list;
-use determinize_below::{MatchKind, NFA, SparseSets, StateID, Unit};
+use determinize_below::{LookSet, MatchKind, NFA, SparseSet, SparseSets, StateID, Unit};
 use determinize_start::look_tables::{LookBehind, LookTables};
 use determinize_state::state::{State, StateBuilderEmpty, StateBuilderNFA};
 use std::alloc::{AllocError, Allocator};
 use std::sync::ledger::Ledger;
 
-/// Replaces look-have by that of the look-behind.
-fn set_look_have<A: Allocator>(look_behind: LookBehind, builder: &mut StateBuilderNFA<A>)
-    ensures { builder.new ≡ record builder.old { look_have = look_behind.looks } }
+/// Sets the flags of the look-behind.
+fn set_flags<A: Allocator>(look_behind: LookBehind, builder: &mut StateBuilderNFA<A>)
+    ensures { builder.new ≡ with_flags builder.old look_behind.from_word look_behind.half_crlf }
 {
-    builder.set_look_have(|_| look_behind.looks);
-}
-
-/// Sets the flags of the look-behind if some state has a transition on the unit.
-fn set_flags<A: Allocator>(
-    look_behind: LookBehind,
-    has_targets: bool,
-    builder: &mut StateBuilderNFA<A>,
-)
-    ensures { builder.new ≡ with_flags builder.old
-        (has_targets && look_behind.from_word) (has_targets && look_behind.half_crlf) }
-{
-    if has_targets && look_behind.from_word {
+    if look_behind.from_word {
         builder.set_is_from_word();
     }
-    if has_targets && look_behind.half_crlf {
+    if look_behind.half_crlf {
         builder.set_is_half_crlf();
     }
+}
+
+/// Sets look-have if look-need is not empty, so that states do not differ in assertions that
+/// nothing tests. Look-have is empty before.
+fn set_look_have<A: Allocator>(looks: LookSet, builder: &mut StateBuilderNFA<A>)
+    requires { builder.old.look_have ≡ 0 }
+    ensures { builder.new ≡ settled (record builder.old { look_have = looks }) }
+{
+    if !builder.look_need().is_empty() {
+        builder.set_look_have(|_| looks);
+    }
+}
+
+/// Adds the closure of the targets on the stack to a builder without NFA states, and sets the
+/// look-behind after the unit. On error the stack is not cleared.
+///
+/// Without targets the builder is unchanged: nothing uses a look-behind then, and setting it would
+/// give states that differ in flags only, such as a second dead state.
+#[inline(always)]
+fn enter_targets<N: Allocator, A: Allocator, C: Counter>(
+    nfa: &NFA<N>,
+    unit: Unit,
+    stack: &mut Vec<StateID, A>,
+    set: &mut SparseSet<A>,
+    builder: &mut StateBuilderNFA<A>,
+    counter: &mut C,
+) -> Result<(), AllocError>
+    requires resolve { AllResolve nfa.now stack.old.items }
+    requires capacity { set.old.capacity ≡ length nfa.now.states }
+    requires unrecorded { builder.old ≡ begun false false 0 builder.old.patterns }
+    ensures ok { OnOk result (builder.new ≡ left_by nfa.now (byte_of unit) builder.old.patterns
+        (reach nfa.now (has (have_after (tables_of nfa.now) (byte_of unit))) stack.old.items)) }
+    ensures stack { OnOk result (stack.new.items ≡ []) }
+    ensures capacity { set.new.capacity ≡ set.old.capacity }
+    ensures counted { IsTrue C.counts → OnOk result (C.total counter.new ≡ C.total counter.old
+        + tries_of nfa.now (has (have_after (tables_of nfa.now) (byte_of unit))) stack.old.items) }
+    ensures bounded { IsTrue C.counts → C.total counter.new ≤ C.total counter.old
+        + tries_of nfa.now (has (have_after (tables_of nfa.now) (byte_of unit))) stack.old.items }
+{
+    if stack.is_empty() {
+        return Ok(());
+    }
+    let look_behind = LookTables::of(nfa).after(unit);
+    set.clear();
+    set_flags(look_behind, builder);
+    explore(nfa, &[], look_behind.looks, stack, set, builder, counter)?;
+    set_look_have(look_behind.looks, builder);
+    Ok(())
 }
 
 /// Builds the next state in an empty builder. On error the stack is not cleared.
@@ -68,26 +108,10 @@ fn step_over<N: Allocator, A: Allocator, C: Counter>(
     ensures bounded { IsTrue C.counts → C.total counter.new
         ≤ C.total counter.old + 2 * (length nfa.now.states + edges_in_all nfa.now) }
 {
-    let look_behind = LookTables::of(nfa).after(unit);
-    sparses.clear();
-    set_look_have(look_behind, builder);
     read_working_list(
         nfa, match_kind, state, unit, sparses, stack, builder, counter,
     )?;
-    // Without targets nothing uses the flags, and setting them would give states that differ in
-    // flags only, such as a second dead state.
-    set_flags(look_behind, !stack.is_empty(), builder);
-    explore(
-        nfa,
-        &[],
-        look_behind.looks,
-        stack,
-        &mut sparses.set2,
-        builder,
-        counter,
-    )?;
-    builder.settle();
-    Ok(())
+    enter_targets(nfa, unit, stack, &mut sparses.set2, builder, counter)
 }
 
 /// Builds the next state over a byte, or over EOI for `None`. On error the stack is not cleared.

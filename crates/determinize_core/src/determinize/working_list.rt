@@ -77,7 +77,7 @@ fn reopen<N: Allocator, A: Allocator, C: Counter>(
 }
 
 /// Reads the working list: adds its patterns to the builder and pushes its targets, under
-/// `MatchKind::LeftmostFirst` up to the first match.
+/// `MatchKind::LeftmostFirst` up to the first match. The sets are cleared before they are used.
 #[inline(always)]
 pub(crate) fn read_working_list<N: Allocator, A: Allocator, C: Counter>(
     nfa: &NFA<N>,
@@ -89,29 +89,50 @@ pub(crate) fn read_working_list<N: Allocator, A: Allocator, C: Counter>(
     builder: &mut StateBuilderNFA<A>,
     counter: &mut C,
 ) -> Result<(), AllocError>
-    requires accepted { IsAccepted nfa.now }
     requires scratch { IsScratch nfa.now sparses.old.set1 sparses.old.set2 stack.old.items }
-    requires first_empty { sparses.old.set1.ids ≡ [] }
-    requires second_empty { sparses.old.set2.ids ≡ [] }
     requires resolve { AllResolve nfa.now state.now.states }
     requires unread { builder.old.patterns ≡ [] }
     requires unrecorded { builder.old.states ≡ [] }
     ensures ok { OnOk result (IsListRead nfa.now match_kind (byte_of unit)
         (working_list nfa.now state.now (byte_of unit)) builder.old builder.new stack.new.items) }
-    ensures second { OnOk result (sparses.new.set2.ids ≡ []) }
+    ensures accepted { IsAccepted nfa.now }
     ensures scratch { IsScratch nfa.now sparses.new.set1 sparses.new.set2 [] }
     ensures counted { IsTrue C.counts → OnOk result (C.total counter.new
         ≡ C.total counter.old + tries_again nfa.now state.now (byte_of unit)) }
     ensures bounded { IsTrue C.counts → C.total counter.new
         ≤ C.total counter.old + tries_again nfa.now state.now (byte_of unit) }
 {
-    let SparseSets { set1, set2 } = sparses;
+    sparses.set1.clear();
     let Some(look_have) = reopened_under(nfa, state, unit) else {
         let ids = state.iter_nfa_state_ids();
-        return read_states(nfa, match_kind, ids, unit, set1, stack, builder);
+        return read_states(
+            nfa,
+            match_kind,
+            ids,
+            unit,
+            &mut sparses.set1,
+            stack,
+            builder,
+        );
     };
-    reopen(nfa, state, look_have, set1, set2, stack, counter)?;
-    let result = read_states(nfa, match_kind, set2.iter(), unit, set1, stack, builder);
-    set2.clear();
-    result
+    sparses.set2.clear();
+    reopen(
+        nfa,
+        state,
+        look_have,
+        &mut sparses.set1,
+        &mut sparses.set2,
+        stack,
+        counter,
+    )?;
+    let ids = sparses.set2.iter();
+    read_states(
+        nfa,
+        match_kind,
+        ids,
+        unit,
+        &mut sparses.set1,
+        stack,
+        builder,
+    )
 }

@@ -16,6 +16,7 @@ ghost use Rattle.determinize_below.specs.Look.{insert};
 ghost use Rattle.determinize_state.specs.Value.{Value as StateValue, IsValue, dead, with_pattern, with_state};
 ghost use Rattle.determinize_state.specs.Recording.{settled, IsGrown};
 ghost use Rattle.determinize_state.specs.Spelling.{spell};
+ghost use Rattle.determinize_state.specs.Building.{header};
 ghost use Rattle.determinize_state.specs.Private.Marking.{IsMarkOf};
 
 use crate::state::small_bytes::SmallBytes;
@@ -68,10 +69,12 @@ impl<A: Allocator> StateBuilderEmpty<A> {
     pub fn into_matches(self) -> Result<StateBuilderMatches<A>, AllocError>
         ensures { IfOk result (λ builder. builder ≡ dead) }
     {
-        let mut bytes = self.bytes;
-        if bytes.is_empty() {
-            bytes.extend_from_slice(&[0; bytes::COUNT])?;
-        }
+        let bytes = self.bytes;
+        let bytes = if bytes.is_empty() {
+            first_bytes(bytes)?
+        } else {
+            bytes
+        };
         let last = StateID::ZERO;
         let builder = StateBuilderNFA { bytes, last };
         Ok(StateBuilderMatches { builder })
@@ -81,6 +84,30 @@ impl<A: Allocator> StateBuilderEmpty<A> {
     pub fn capacity(&self) -> usize {
         self.bytes.capacity()
     }
+}
+
+/// Returns empty bytes with an empty header appended. On error they are dropped.
+///
+/// It takes the bytes, so `into_matches` keeps those that have a header in registers.
+#[cold]
+#[inline(never)]
+fn with_header<A: Allocator>(bytes: Vec<u8, A>) -> Result<Vec<u8, A>, AllocError>
+    requires { bytes.items ≡ [] }
+    ensures { IfOk result (λ bytes. bytes.items ≡ header) }
+{
+    let mut bytes = bytes;
+    bytes.extend_from_slice(&[0; bytes::COUNT])?;
+    Ok(bytes)
+}
+
+/// Returns the same as `with_header`. Inlined, so its result takes memory on this path only.
+#[inline(always)]
+fn first_bytes<A: Allocator>(bytes: Vec<u8, A>) -> Result<Vec<u8, A>, AllocError>
+    requires { bytes.items ≡ [] }
+    ensures { IfOk result (λ bytes. bytes.items ≡ header) }
+{
+    let result = with_header(bytes);
+    result
 }
 
 /// A builder that takes the flags of a state, its look-have and its patterns.
