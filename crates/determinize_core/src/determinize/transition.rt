@@ -1,7 +1,8 @@
 //! One transition: from a DFA state over a unit of input to the next state.
 //!
-//! The look-behind of the next state is set from the unit, the first pass over the working list
-//! adds the patterns and pushes the targets, and the closure of the targets adds the NFA states.
+//! The first pass over the working list adds the patterns and pushes the targets. If there are any
+//! targets, their closure adds the NFA states, and the look-behind is set from the unit. The order
+//! is for speed: many transitions enter no state.
 
 ghost use Rattle.std.specs.Prelude.{◌≡◌, ◌+◌, ◌*◌, ◌<◌, ◌≤◌, [], false, IsTrue, length, IfOk, OnOk};
 ghost use Rattle.determinize_below.specs.Edges.{reach};
