@@ -106,7 +106,7 @@ fn push_ids<A: Allocator>(state: &State<A>, ids: &mut Vec<StateID, A>) -> Result
     Ok(())
 }
 
-/// Returns a list with the patterns of each state: one that is not allocated if there are none.
+/// Returns a list with the list of patterns of each state. An empty list is not allocated.
 fn lists_of<A: Allocator + Copy>(
     alloc: A,
     states: &[State<A>],
@@ -342,8 +342,8 @@ impl<'n, N: Allocator, A: Allocator + Copy> Builder<'n, N, A> {
         Some(self.next[base.row * self.classes.alphabet_len() + column])
     }
 
-    /// Returns the entry of a row in a column. Often it is the entry of the base, or that before or
-    /// above.
+    /// Returns the entry of a row in a column. Often it is the entry of the base, or that of the
+    /// column before; the one above is only a guess.
     ///
     /// - `base` is that of the row, and `changes` are those of its state.
     fn entry(

@@ -111,9 +111,9 @@ impl<'n, N: Allocator, A: Allocator + Copy> Dfa<'n, N, A> {
     }
 
     /// Returns the DFA with the fewest states among those that list the same patterns along all
-    /// units, also along units behind the end of input (EOI).
+    /// units, also along units after the end of input (EOI).
     ///
-    /// States are merged if they list the same patterns along all units. A text has no unit behind
+    /// States are merged if they list the same patterns along all units. A text has no unit after
     /// EOI, so a table that agrees with this DFA after each text may have fewer states. A few
     /// passes over the table suffice mostly. For a long chain of states that all list patterns, as
     /// that of `a{0,10000}`, or of states with a loop over most bytes and others in turn, as in

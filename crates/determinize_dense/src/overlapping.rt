@@ -63,7 +63,7 @@ impl<'n, N: Allocator, A: Allocator + Copy> Dfa<'n, N, A> {
     /// list is most preferred first.
     ///
     /// The parameters are those of `search`. The lists are those of the walk that `walk_between` of
-    /// `determinize_core` makes over the same text, behind that of its start. Under
+    /// `determinize_core` makes over the same text, after that of its start. Under
     /// `MatchKind::All` a list has all patterns with a match that ends at its position. Under
     /// `MatchKind::LeftmostFirst` the last list that is not empty has the pattern of the most
     /// preferred match. Does not allocate, and reads each byte once.

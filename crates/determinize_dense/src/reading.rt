@@ -124,7 +124,7 @@ impl Iterator for RowIds {
 
 impl<'n, N: Allocator, A: Allocator + Copy> Dfa<'n, N, A> {
     /// Returns the row of the start state of a configuration: its anchored mode, and the byte
-    /// behind the start. `Anchored::Pattern` has no start state and is not accepted.
+    /// before the start. `Anchored::Pattern` has no start state and is not accepted.
     pub fn start_state(&self, config: &Config) -> RowId
         requires { has_start config.now.anchored ≡ true }
         ensures value { result ≡ start_row self.now.nfa self.now.table

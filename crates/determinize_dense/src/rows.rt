@@ -18,7 +18,7 @@ use determinize_engine::state_table::MAX_STATES;
 use std::alloc::{AllocError, Allocator, Global};
 use std::marker::Model;
 
-/// The least number of bytes that do not leave a row that is scanned out of.
+/// The least number of bytes, of all 256, that do not leave a row for a search to scan out of it.
 const STAYING: usize = 64;
 
 /// The rows of a DFA, in any order, except that row 0 is that of the dead state.

@@ -31,12 +31,13 @@ pub(crate) const BLOCK: usize = 64;
 /// The number of blocks without a match after which a search scans again.
 pub(crate) const BLOCKS: usize = 8;
 
-/// A scan that reads fewer bytes costs more time than it saves.
+/// The number of bytes from which on a scan saves time: a shorter one costs more than it saves.
 pub(crate) const WORTHWHILE: usize = 8;
 
-/// The fewest and the most bytes of a pause.
+/// The number of bytes of the shortest pause.
 const SHORTEST: usize = 32;
 
+/// The number of bytes of the longest pause.
 const LONGEST: usize = 1024;
 
 /// The pauses between scans. After each scan of fewer than 8 bytes comes a pause: of 32 bytes, and
@@ -105,7 +106,8 @@ impl<'n, N: Allocator, A: Allocator + Copy> Rows<'n, N, A> {
         leaving
     }
 
-    /// Returns the tables of the first rows from one row on, up to another.
+    /// Returns the tables of row `first` and the rows after it, at most four and up to `last`; the
+    /// others are all 1.
     pub(crate) fn all_leaving(&self, first: usize, last: usize) -> [[u8; 256]; TABLES]
         requires first { first ≤ MAX_STATES }
         requires last { last < length self.now.table.patterns }
@@ -138,7 +140,7 @@ impl<'n, N: Allocator, A: Allocator + Copy> Dfa<'n, N, A> {
         Some(&self.leaving[number - self.first_scanned])
     }
 
-    /// Returns the number of bytes that are read when a search leaves a row, but at most `until`.
+    /// Returns the index of the first byte that leaves a row, but at most `until`.
     ///
     /// - `row` is the offset of the row, and `read` the number of bytes read before.
     #[inline(always)]
@@ -155,8 +157,8 @@ impl<'n, N: Allocator, A: Allocator + Copy> Dfa<'n, N, A> {
         read
     }
 
-    /// Returns the number of bytes that are read when a search leaves a row, or fewer. It reads
-    /// eight bytes at a time, for as long as none of the eight leaves the row by its table.
+    /// Returns the index of the first byte that leaves a row, or less: eight bytes are read at a
+    /// time, for as long as none of the eight leaves the row by its table.
     ///
     /// - `row` is the offset of the row, and `read` the number of bytes read before.
     #[inline(always)]
@@ -175,7 +177,8 @@ impl<'n, N: Allocator, A: Allocator + Copy> Dfa<'n, N, A> {
         read
     }
 
-    /// Returns the number of bytes that are read when a search leaves a row.
+    /// Returns what `scan` returns, for a scan that is not over after a few bytes: by the table of
+    /// the row, if it has one, and then byte by byte.
     ///
     /// - `row` is the offset of the row, and `read` the number of bytes read before.
     #[inline(never)]
@@ -188,7 +191,7 @@ impl<'n, N: Allocator, A: Allocator + Copy> Dfa<'n, N, A> {
         self.scan_upto(row, text, read, text.len())
     }
 
-    /// Returns the number of bytes that are read when a search leaves a row.
+    /// Returns the index of the first byte that leaves a row, or the length of the text.
     ///
     /// - `row` is the offset of the row, and `read` the number of bytes read before.
     ///

@@ -234,7 +234,7 @@ impl<'n, N: Allocator, A: Allocator + Copy> Dfa<'n, N, A> {
     /// to: the numbers of a `Reached`, which are passed in registers if they are apart.
     ///
     /// The inner loop compares each row with `stop` once. In a pause between scans this is
-    /// `last_match`, so that no row is scanned out of, and else `last_special`. Behind a match the
+    /// `last_match`, so that no row is scanned out of, and else `last_special`. After a match the
     /// text is read in blocks, since more matches may be near.
     fn search_rest(
         &self,

@@ -43,7 +43,7 @@ impl<'d, 'n, N: Allocator, A: Allocator> Model for Walker<'d, 'n, N, A> {
 
 impl<'n, N: Allocator, A: Allocator + Copy> Dfa<'n, N, A> {
     /// Returns a walker in the row of the start state of a configuration: its anchored mode, and
-    /// the byte behind the start. `Anchored::Pattern` has no start state and is not accepted.
+    /// the byte before the start. `Anchored::Pattern` has no start state and is not accepted.
     #[inline(always)]
     pub fn walker(&self, config: &Config) -> Walker<'_, 'n, N, A>
         requires { has_start config.now.anchored ≡ true }

@@ -119,7 +119,7 @@ impl<'n, N: Allocator, A: Allocator + Copy> Lazy<'n, N, A> {
     /// byte where a range of the NFA begins or ends.
     ///
     /// Only the steps from a state whose look-need has an assertion that the NFA does not have are
-    /// computed for each byte. No walk over this NFA has such a state.
+    /// computed apart for each byte. No walk over this NFA has such a state.
     pub fn new_by_class(
         alloc: A,
         nfa: &'n NFA<N>,

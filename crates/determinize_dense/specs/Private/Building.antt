@@ -28,7 +28,7 @@ pub record Building : Type 0 where
   pub values : List Value
   pub next : List ℕ
 
--- what a builder with these parts has
+-- the value of a builder of these parts
 abbrev pub building : StepperValue → Classes → ℕ → List Value → List ℕ → Building
 building stepper classes limit values next = record {
   nfa = stepper.nfa;
@@ -111,7 +111,7 @@ pub record AreStarts (nfa : Nfa) (values : List Value) (n : ℕ) (starts : List 
   pub rows : (slot : StartSlot) → slot_number slot < n
       → IsStart nfa values slot (slice_index starts (slot_number slot))
 
--- the rows of all values that are reached
+-- as many rows as states are reached, at most the limit
 pub record IsBuilt (b : Building) (rows : DfaValue) : Type 0 where
   pub nfa : rows.nfa ≡ b.nfa
   pub kind : rows.kind ≡ b.kind

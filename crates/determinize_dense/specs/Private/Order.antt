@@ -8,7 +8,7 @@ use Rattle.determinize_dense.specs.Private.Scans.{AreAllStaying}
 use Rattle.determinize_dense.specs.Table.{DfaValue, Table, patterns_at}
 use Rattle.determinize_dense.specs.declared.partition.TheConstants.{RANKS}
 
--- behind row 0 and up to the last match, and only there, the rows list patterns
+-- after row 0 and up to the last match, and only there, the rows list patterns
 pub record IsOrdered (d : Table) (last_match last_special : ℕ) : Type 0 where
   pub dead : patterns_at d 0 ≡ []
   pub some : (r : ℕ) → 0 < r → r < length d.patterns → offset_of d r ≤ last_match
