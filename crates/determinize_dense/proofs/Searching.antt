@@ -1,6 +1,6 @@
 -- A search by a table, one unit more at a time, and what it finds.
--- Main statements: next-offset, come-start, come-dead, come-none, come-some, come-on, finds-on, finds-all, finds-over,
--- found-text, found-search, found-decides.
+-- Main statements: next-offset, come-start, come-listing, come-silent, come-dead, come-none, come-some, come-on,
+-- finds-on, finds-all, finds-over, found-text, found-search, found-decides.
 -- Used by: the searches of `Dfa`.
 -- Idea: what is found, the match of the last row that lists patterns, is the same wherever the search has come to.
 use Rattle.determinize_dense.proofs.Common.{All, All-drop, All-nil, Anchored, ap, arith, Asked, Bool, chain, Decides}
@@ -29,6 +29,9 @@ row-zero d = row-of d {r = 0} (omega arith)
 -- a list of patterns has a match
 match_of_some : (end : ℕ) (ps : List ℕ) → is_nonempty ps ≡ true → is_some (ended_at end ps) ≡ true
 match_of_some end ps some = grind arith
+
+none_listed : (ps : List ℕ) → is_nonempty ps ≡ false → ps ≡ []
+none_listed ps none = grind arith
 
 or_some : (a b : Option HalfMatch) → is_some b ≡ true → option_or b a ≡ b
 or_some a b some = grind arith
@@ -82,6 +85,27 @@ module _ {d : DfaValue} {text : Text} {from now : Reached} {next : ℕ} (come : 
         matched = come.matched;
       }
 
+  -- to a row that lists some
+  come-lists : is_nonempty (patterns_at d.table number) ≡ true → HasCome d text from
+      record { row = next; read = now.read + 1; matched = next; offset = now.read }
+  come-lists some =
+      let lists = match_of_some now.read (patterns_at d.table (row_at d.table next)) (rw (row-of d.table here.1) some) in
+      record {
+        at = next-offset come.at r;
+        listing = next-offset come.at r;
+        same = rw (unrolled, or_some (match_so_far d.table now) _ lists) at come.same;
+        matched = λ has not. lists;
+      }
+
+  -- to a row of which a test says whether it lists some
+  module _ {lists : Bool} (test : (s : ℕ) → IsRowAt d.table next s → lists ≡ is_nonempty (patterns_at d.table s)) where
+    pub come-listing : lists ≡ true → HasCome d text from
+        record { row = next; read = now.read + 1; matched = next; offset = now.read }
+    come-listing e = come-lists (sym (test number here) ∙ e)
+
+    pub come-silent : lists ≡ false → HasCome d text from record now { row = next; read = now.read + 1 }
+    come-silent e = come-kept (none_listed (patterns_at d.table number) (sym (test number here) ∙ e))
+
   module _ {last_match last_special : ℕ} (o : IsOrdered d.table last_match last_special) where
     -- as row 0
     pub come-dead : next ≡ 0 → HasCome d text from record now { row = next; read = now.read + 1 }
@@ -95,14 +119,7 @@ module _ {d : DfaValue} {text : Text} {from now : Reached} {next : ℕ} (come : 
         record { row = next; read = now.read + 1; matched = next; offset = now.read + 1 - 1 }
     come-some not upto =
         let end : now.read + 1 - 1 ≡ now.read = omega arith in
-        let lists = match_of_some now.read (patterns_at d.table (row_at d.table next)) (rw (row-of d.table here.1)
-        (o.some number (grind (arith, here.1)) here.0 (rw here.1 at upto))) in
-        rw end record {
-          at = next-offset come.at r;
-          listing = next-offset come.at r;
-          same = rw (unrolled, or_some (match_so_far d.table now) _ lists) at come.same;
-          matched = λ has not. lists;
-        }
+        rw end (come-lists (o.some number (grind (arith, here.1)) here.0 (rw here.1 at upto)))
 
 -- over units that lead a row to itself
 module _ {d : DfaValue} {text : Text} {from : Reached} (r : Reached) {to last_match last_special : ℕ}

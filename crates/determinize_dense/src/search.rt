@@ -3,7 +3,7 @@
 //! Matches are delayed by one unit: a row lists the patterns that match before the unit that led to
 //! it. So a search also reads the unit ahead of its text, and a start state is no match state.
 
-ghost use Rattle.std.specs.Prelude.{[], Bool, Decides, IsTrue, ◌≡◌, ◌<◌, ◌≤◌, ◌⊎◌, ℕ, false, length, true, None};
+ghost use Rattle.std.specs.Prelude.{[], Bool, Decides, IsTrue, ◌≡◌, ◌+◌, ◌<◌, ◌≤◌, ◌⊎◌, ℕ, false, length, true, None};
 ghost use Rattle.determinize_below.specs.Semantics.{between};
 ghost use Rattle.determinize_below.specs.Search.{is_done};
 ghost use Rattle.determinize_engine.specs.Searches.{HasMatch, IsSearch, IsSearchResult, has_start, start_for, text_of};
@@ -21,6 +21,9 @@ use determinize_engine::engine::Engine;
 use determinize_engine::text::{Text, in_haystack};
 use std::alloc::Allocator;
 use std::convert::Infallible;
+
+/// The number of bytes that are read with one test of whether the search is over.
+const GROUP: usize = 4;
 
 /// How far a search of a text has come.
 #[derive(Clone, Copy)]
@@ -103,7 +106,8 @@ impl<'n, N: Allocator, A: Allocator + Copy> Dfa<'n, N, A> {
         ensures { (r : ℕ) → IsRowAt self.now.table offset r
             → result ≡ is_nonempty (patterns_at self.now.table r) }
     {
-        offset != 0 && offset <= self.last_match
+        // Of 0 the difference is the greatest number, so one test serves for both bounds.
+        offset.wrapping_sub(1) < self.last_match
     }
 
     /// Returns the match of a row, or `None` if it lists no patterns.
@@ -135,11 +139,35 @@ impl<'n, N: Allocator, A: Allocator + Copy> Dfa<'n, N, A> {
         self.row_over(row, Some(text.byte(index)))
     }
 
-    /// Reads a text up to an index, without scans. Stops at row 0 and, if `is_earliest`, at the
-    /// first row that lists a pattern.
+    /// Returns how far a search has come that reads one byte more.
     ///
-    /// Which rows list patterns is hard to predict, so the loop keeps the last one in a form that
-    /// needs no jump where `is_earliest` is the constant `false`.
+    /// Which rows list patterns is hard to predict, so the last one is kept in a form that needs no
+    /// jump.
+    #[inline(always)]
+    fn read_byte(&self, text: &Text<'_>, from: Reached) -> Reached
+        requires row { IsOffset self.now.table from.row }
+        requires matched { IsOffset self.now.table from.matched }
+        requires read { from.read < length text.now.bytes }
+        requires limit { from.read < usize.MAX }
+        ensures come { HasCome self.now text.now from result }
+        ensures more { result.read ≡ from.read + 1 }
+    {
+        let mut at = from;
+        at.row = self.over_byte(at.row, text, at.read);
+        if self.is_listing(at.row) {
+            at.matched = at.row;
+            at.offset = at.read;
+        }
+        at.read += 1;
+        at
+    }
+
+    /// Reads a text up to an index, without scans. Stops within `GROUP` bytes once the search is
+    /// over: in row 0 or, if `is_earliest`, with a match.
+    ///
+    /// Whether it is over is tested once for `GROUP` bytes. With a test for each byte a search
+    /// takes up to a fifth longer on some processors if the jump lies across a boundary of 32
+    /// bytes, and where it lies depends on how the program is linked.
     #[inline(always)]
     fn read_block(&self, text: &Text<'_>, from: Reached, until: usize, is_earliest: bool) -> Reached
         requires row { IsOffset self.now.table from.row }
@@ -151,18 +179,18 @@ impl<'n, N: Allocator, A: Allocator + Copy> Dfa<'n, N, A> {
         ensures within { result.read ≤ until }
     {
         let mut at = from;
-        while at.read < until {
-            at.row = self.over_byte(at.row, text, at.read);
-            at.read += 1;
-            if at.row == 0 {
-                break;
+        while until - at.read >= GROUP {
+            for _ in 0..GROUP {
+                at = self.read_byte(text, at);
             }
-            if at.row <= self.last_match {
-                at.matched = at.row;
-                at.offset = at.read - 1;
-                if is_earliest {
-                    break;
-                }
+            if at.is_over(is_earliest) {
+                return at;
+            }
+        }
+        while at.read < until {
+            at = self.read_byte(text, at);
+            if at.is_over(is_earliest) {
+                break;
             }
         }
         at
@@ -193,16 +221,30 @@ impl<'n, N: Allocator, A: Allocator + Copy> Dfa<'n, N, A> {
             return self.match_of(first.matched, first.offset);
         }
         if first.read < text.len() {
-            return self.search_rest(
-                first.row,
-                text,
-                first.read,
-                first.matched,
-                first.offset,
-                is_earliest,
-            );
+            return self.search_on(text, first, is_earliest);
         }
         self.last_of(text, first)
+    }
+
+    /// Searches the rest of a text as `search_rest` does, from where a search has come to.
+    ///
+    /// Lends a copy of the text, so that a search that ends before keeps its text in registers.
+    #[inline(always)]
+    fn search_on(&self, text: &Text<'_>, from: Reached, is_earliest: bool) -> Option<HalfMatch>
+        requires row { IsOffset self.now.table from.row }
+        requires matched { IsOffset self.now.table from.matched }
+        requires read { from.read ≤ length text.now.bytes }
+        ensures { FindsFrom self.now is_earliest text.now from result }
+    {
+        let text = text.copied();
+        self.search_rest(
+            from.row,
+            &text,
+            from.read,
+            from.matched,
+            from.offset,
+            is_earliest,
+        )
     }
 
     /// Reads a text in blocks, without scans, as long as matches are near. Stops at row 0, at the
@@ -304,10 +346,10 @@ impl<'n, N: Allocator, A: Allocator + Copy> Dfa<'n, N, A> {
         ensures { (earliest : Bool) → FindsFrom self.now earliest text.now at result }
     {
         let end = self.row_over(at.row, text.ahead());
-        if end == 0 || end > self.last_match {
-            return self.match_of(at.matched, at.offset);
+        if self.is_listing(end) {
+            return self.match_of(end, text.len());
         }
-        self.match_of(end, text.len())
+        self.match_of(at.matched, at.offset)
     }
 
     /// Searches the range of an input in the direction of the NFA. The match is one of the text
@@ -337,7 +379,7 @@ impl<'n, N: Allocator, A: Allocator + Copy> Dfa<'n, N, A> {
     /// `None` means that no run accepts.
     ///
     /// The text is in reading order: for a reverse NFA from the last byte on. The search stops at
-    /// the dead state, since no match can follow it. Does not allocate.
+    /// most three bytes after the dead state, since no match can follow it. Does not allocate.
     pub fn search(
         &self,
         anchored: Anchored,
@@ -384,9 +426,9 @@ impl<'n, N: Allocator, A: Allocator + Copy> Dfa<'n, N, A> {
     /// Returns whether an input has a match, under both match kinds: whether some run over what
     /// `search_input` reads accepts.
     ///
-    /// Stops at the first match state, and at the dead state. If the range starts past its end,
-    /// nothing is read and the result is `false`. `Anchored::Pattern` is not accepted. Does not
-    /// allocate.
+    /// Stops at most three bytes after the first match state or the dead state. If the range starts
+    /// past its end, nothing is read and the result is `false`. `Anchored::Pattern` is not
+    /// accepted. Does not allocate.
     pub fn is_match(&self, input: &Input<'_>) -> bool
         requires { has_start input.now.anchored ≡ true }
         ensures accepts { is_done input.now ≡ false

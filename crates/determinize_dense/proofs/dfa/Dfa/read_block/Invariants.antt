@@ -1,5 +1,12 @@
-use Rattle.determinize_dense.proofs.Common.{HasCome, ◌-◌, ◌≤◌}
+use Rattle.determinize_dense.proofs.Common.{HasCome, ◌+◌, ◌-◌, ◌≡◌, ◌≤◌}
 use Rattle.determinize_dense.proofs.dfa.Dfa.read_block.Given as goal
+
+-- the bytes that are read with one test
+abbrev pub invariant-loop : goal.invariant-loop
+invariant-loop g l = record {
+  come : HasCome l.self l.text l.fn.from l.at;
+  read : l.at.read ≡ l.initial.at.read + l.counter;
+}
 
 abbrev pub invariant-loop-at : goal.invariant-loop-at
 invariant-loop-at g l = record {
@@ -10,3 +17,13 @@ invariant-loop-at g l = record {
 
 abbrev pub decreases-loop-at : goal.decreases-loop-at
 decreases-loop-at g l = l.until - l.at.read
+
+abbrev pub invariant-loop-at-2 : goal.invariant-loop-at-2
+invariant-loop-at-2 g l = record {
+  come : HasCome l.self l.text l.fn.from l.at;
+  low : l.fn.from.read ≤ l.at.read;
+  within : l.at.read ≤ l.until;
+}
+
+abbrev pub decreases-loop-at-2 : goal.decreases-loop-at-2
+decreases-loop-at-2 g l = l.until - l.at.read

@@ -19,7 +19,7 @@ returns-then-is_over g c =
     c.len.ensures.units (c.is_over.ensures c.if-is_over.true))
 
 pub returns-then-first-len : goal.returns-then-first-len
-returns-then-first-len g c = found g (goal.at.returns-then-first-len g c).After-read_block-first c.search_rest.ensures
+returns-then-first-len g c = found g (goal.at.returns-then-first-len g c).After-read_block-first c.search_on.ensures
 
 pub returns : goal.returns
 returns g c =
