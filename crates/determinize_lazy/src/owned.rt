@@ -284,6 +284,26 @@ impl<N: Allocator, A: Allocator + Copy> OwnedLazy<N, A> {
         found
     }
 
+    /// Continues a search as `search_rest` does.
+    ///
+    /// Lends a copy of the text, so that a search that only reads the cache keeps its text in
+    /// registers.
+    #[inline(always)]
+    fn search_on(
+        &mut self,
+        reached: Option<CachedPosition>,
+        start: StateID,
+        text: &Text<'_>,
+        earliest: bool,
+    ) -> Result<Option<HalfMatch>, AllocError>
+        requires start { start < length self.old.nfa.states }
+        requires reached { IsShort earliest self.old start text.now reached }
+        ensures { IsOverText earliest (cache self.old) start text.now result (cache self.new) }
+    {
+        let text = text.copied();
+        self.search_rest(reached, start, &text, earliest)
+    }
+
     /// Searches a text, as `Lazy` does. If the cache is only read, it is not moved.
     #[inline(always)]
     fn search_text(
@@ -299,10 +319,7 @@ impl<N: Allocator, A: Allocator + Copy> OwnedLazy<N, A> {
     {
         match self.view().search_text(start, text, earliest) {
             Reached::End(found) => Ok(found),
-            Reached::Short(reached) => {
-                let text = text.copied();
-                self.search_rest(reached, start, &text, earliest)
-            }
+            Reached::Short(reached) => self.search_on(reached, start, text, earliest),
         }
     }
 

@@ -207,6 +207,26 @@ impl<'n, N: Allocator, A: Allocator + Copy> Lazy<'n, N, A> {
         }
     }
 
+    /// Continues a search as `search_rest` does.
+    ///
+    /// Lends a copy of the text, so that a search that only reads the cache keeps its text in
+    /// registers.
+    #[inline(always)]
+    fn search_on(
+        &mut self,
+        reached: Option<CachedPosition>,
+        start: StateID,
+        text: &Text<'_>,
+        earliest: bool,
+    ) -> Result<Option<HalfMatch>, AllocError>
+        requires start { start < length self.old.nfa.states }
+        requires reached { IsShort earliest self.old start text.now reached }
+        ensures { IsOverText earliest (cache self.old) start text.now result (cache self.new) }
+    {
+        let text = text.copied();
+        self.search_rest(reached, start, &text, earliest)
+    }
+
     /// Searches a text from the start state of a walk over it. If the id of that state is kept and
     /// all transitions are cached, the cache is only read.
     #[inline(always)]
@@ -223,11 +243,7 @@ impl<'n, N: Allocator, A: Allocator + Copy> Lazy<'n, N, A> {
     {
         match self.view().search_text(start, text, earliest) {
             Reached::End(found) => Ok(found),
-            Reached::Short(reached) => {
-                // A copy, so that a search that only reads the cache keeps its text in registers.
-                let text = text.copied();
-                self.search_rest(reached, start, &text, earliest)
-            }
+            Reached::Short(reached) => self.search_on(reached, start, text, earliest),
         }
     }
 

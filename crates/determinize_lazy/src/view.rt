@@ -1,6 +1,6 @@
 //! What a search does as long as it only reads the cache, for a `Lazy` and for an owner of its NFA.
 
-ghost use Rattle.std.specs.Prelude.{◌≡◌, ◌<◌, ◌≤◌, length, slice_get, slice_index_or, true, Some};
+ghost use Rattle.std.specs.Prelude.{◌≡◌, ◌+◌, ◌<◌, ◌≤◌, length, slice_get, slice_index_or, true, Some};
 ghost use Rattle.std.specs.Option.{IfSome};
 ghost use Rattle.determinize_below.specs.Nfa.{AllResolve};
 ghost use Rattle.determinize_core.specs.Chain.{units};
@@ -161,6 +161,7 @@ impl<'v, N: Allocator, A: Allocator + Copy> View<'v, N, A> {
         ensures position { IsCachedPosition self.now result }
         ensures come { HasCome earliest (units text.now) (first_place (cache self.now)
             (slice_index_or self.now.states start dead)) (cached_place self.now result) }
+        ensures within { result.read ≤ length text.now.bytes + 1 }
     {
         let first = CachedPosition {
             id: start,
@@ -199,7 +200,9 @@ impl<'v, N: Allocator, A: Allocator + Copy> View<'v, N, A> {
         };
         let at = self.follow_to_end(id, text, earliest);
         let tag = self.table.tag(at.id);
-        if at.read > text.len() || tag.is_last(earliest) {
+        // An equation, since the compiler does not know that the sum is greater than the length. So
+        // a search that has just read the unit ahead has no test of it.
+        if at.read == text.len() + 1 || tag.is_last(earliest) {
             return Reached::End(at.last.or_match(tag, at.read).get());
         }
         Reached::Short(Some(at))

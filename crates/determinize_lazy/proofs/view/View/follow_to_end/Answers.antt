@@ -35,4 +35,5 @@ returns-in-Some g c =
       come = come_twice (bytes g (goal.at.returns-in-Some g c).After-follow-at)
           (come-next (unit-last c.args.text.now c.follow-at.result.read all ∙ ap Some (sym c.ahead.ensures)) more
           next.place next.grows);
+      within = omega (arith, all);
     }
