@@ -3,8 +3,8 @@
 -- Used by: `reopens`, `stays_closed`, `reopened_under`, `redo_law`, StepLaws.
 -- Idea: by the members of the sets.
 use Rattle.determinize_core.proofs.Common.{ap, arith, Assertion, Bool, each_look, false, fun_ext, has, IfNone, IfSome}
-use Rattle.determinize_core.proofs.Common.{is_reopened, IsReopened, list_any, Nfa, not, opened_by, Option, refl, sym, true}
-use Rattle.determinize_core.proofs.Common.{by_test, Value, ℕ, ◌&&◌, ◌||◌, ◌∙◌, ◌≡◌}
+use Rattle.determinize_core.proofs.Common.{is_reopened, IsReopened, list_any, Nfa, not, opened_by, Option, refl, sym}
+use Rattle.determinize_core.proofs.Common.{by_test, true, Value, ℕ, ◌&&◌, ◌||◌, ◌∙◌, ◌≡◌}
 use Rattle.std.specs.Bool.{Decides, then_some}
 use Rattle.determinize_below.specs.Look.{intersect, union}
 use Rattle.determinize_below.proofs.looks.LookSets.{has-empty, has-intersect, has-union}
@@ -43,7 +43,8 @@ unneeded nfa v u e = list_any_unmet (λ l. opened_by nfa v u l && has v.look_nee
     (λ l. rw e (grind (arith, has-empty l)))
 
 -- a haystack or line assertion that is satisfied is among the six
-lined : (t : Tables) (half : Bool) (u : Option ℕ) (l : Assertion) → (line_opened t half u l || has LINES l) ≡ has LINES l
+lined : (t : Tables) (half : Bool) (u : Option ℕ) (l : Assertion)
+    → (line_opened t half u l || has LINES l) ≡ has LINES l
 unfolding has line_opened
 lined t half u Start = refl
 lined t half u l = grind arith

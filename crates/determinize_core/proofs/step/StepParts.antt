@@ -7,8 +7,8 @@ use Rattle.determinize_core.proofs.Common.{Assertion, begun, Bool, by_test, edge
 use Rattle.determinize_core.proofs.Common.{half_crlf_after, has, have_after, is_capture, is_nonempty, IsAccepted}
 use Rattle.determinize_core.proofs.Common.{length, List, MatchKind, member, nat_eq, nat_tests, Nfa, Option}
 use Rattle.determinize_core.proofs.Common.{patterns_of, patterns_read, reach, reach_past, refl, same_decides, step, sym}
-use Rattle.determinize_core.proofs.Common.{tables_of, targets, tries, tries_left, tries_of, true, true≢false, Value, without}
-use Rattle.determinize_core.proofs.Common.{working_list, ℕ, ◌*◌, ◌+◌, ◌<◌, ◌==◌, ◌∙◌, ◌∷◌, ◌≡◌, ◌≤◌}
+use Rattle.determinize_core.proofs.Common.{tables_of, targets, tries, tries_left, tries_of, true, true≢false, Value}
+use Rattle.determinize_core.proofs.Common.{without, working_list, ℕ, ◌*◌, ◌+◌, ◌<◌, ◌==◌, ◌∙◌, ◌∷◌, ◌≡◌, ◌≤◌}
 use Rattle.std.proofs.Common.{All as Each}
 use Rattle.std.proofs.lemmas.List.Elements.{All-contains}
 use Rattle.ordered_reach.proofs.lists.Elements.{In_Contains, member_In}
@@ -46,7 +46,8 @@ step_tries nfa accepted kind v u inside =
     tries_are_few nfa accepted kind v u (member-below (length nfa.states) v.states inside)
 
 -- recording leaves look-have
-pub have_left : (nfa : Nfa) (v now : Value) (xs : List ℕ) → now ≡ fold (added_one nfa) v xs → now.look_have ≡ v.look_have
+pub have_left : (nfa : Nfa) (v now : Value) (xs : List ℕ) → now ≡ fold (added_one nfa) v xs
+    → now.look_have ≡ v.look_have
 have_left nfa v now xs e = ap (λ (w : Value). w.look_have) (e ∙ fold-added nfa v xs)
 
 module _ (nfa : Nfa) (u : Option ℕ) (have : ℕ) (have_is : have ≡ have_after (tables_of nfa) u) (held row : List ℕ)
@@ -89,7 +90,7 @@ pub stepped : (nfa : Nfa) (kind : MatchKind) (v : Value) (u : Option ℕ) (patte
 unfolding step
 stepped nfa kind v u patterns row patterns_are row_is = rw (patterns_are, row_is) refl
 
--- the test of the length tells whether there are items
+-- the test of the length says whether there are items
 pub some_items : (n : ℕ) (xs : List ℕ) → n ≡ length xs → (n == 0) ≡ false → is_nonempty xs ≡ true
 some_items n [] e h = absurd (true≢false (rw e at h))
 some_items n (x ∷ xs) e h = refl

@@ -88,7 +88,7 @@ impl<A: Allocator> StateBuilderEmpty<A> {
 
 /// Returns empty bytes with an empty header appended. On error they are dropped.
 ///
-/// It takes the bytes, so `into_matches` keeps those that have a header in registers.
+/// It is given the bytes by value, so `into_matches` keeps those with a header in registers.
 #[cold]
 #[inline(never)]
 fn with_header<A: Allocator>(bytes: Vec<u8, A>) -> Result<Vec<u8, A>, AllocError>
@@ -100,7 +100,7 @@ fn with_header<A: Allocator>(bytes: Vec<u8, A>) -> Result<Vec<u8, A>, AllocError
     Ok(bytes)
 }
 
-/// Returns the same as `with_header`. Inlined, so its result takes memory on this path only.
+/// Returns the same as `with_header`. Inlined, so a result is passed in memory on this path only.
 #[inline(always)]
 fn first_bytes<A: Allocator>(bytes: Vec<u8, A>) -> Result<Vec<u8, A>, AllocError>
     requires { bytes.items ≡ [] }

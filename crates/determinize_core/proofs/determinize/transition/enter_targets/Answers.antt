@@ -1,5 +1,6 @@
-use Rattle.determinize_core.proofs.Common.{[], ap, arith, begun, byte_of, from_word_after, half_crlf_after, has, have_after}
-use Rattle.determinize_core.proofs.Common.{is_nonempty, reach_past, refl, sym, tables_of, true, Value, ◌∙◌, ◌≡◌}
+use Rattle.determinize_core.proofs.Common.{[], ap, arith, begun, byte_of, from_word_after, half_crlf_after, has}
+use Rattle.determinize_core.proofs.Common.{have_after, is_nonempty, reach_past, refl, sym, tables_of, true, Value}
+use Rattle.determinize_core.proofs.Common.{◌∙◌, ◌≡◌}
 use Rattle.determinize_below.specs.Members.{Members}
 use Rattle.determinize_start.specs.LookTables.{LookBehindValue}
 use Rattle.determinize_core.proofs.step.StepParts.{entered_by, have_left, left-none, no_items, some_items, tries-none}

@@ -29,7 +29,8 @@ returns-clause-ok g c =
 pub returns-clause-resolve : goal.returns-clause-resolve
 returns-clause-resolve g c =
     on_ok_weaker c.enter_targets.result (λ left.
-    let done : c.enter_targets.new.builder ≡ step c.args.nfa.now c.args.match_kind c.args.state.now (byte_of c.args.unit) =
+    let done : c.enter_targets.new.builder
+    ≡ step c.args.nfa.now c.args.match_kind c.args.state.now (byte_of c.args.unit) =
     left ∙ stepped c.args.nfa.now c.args.match_kind c.args.state.now
     (byte_of c.args.unit) _ _ (ap (λ (v : Value). v.patterns) c.in_ok-read_working_list.ensures.ok.value_is)
     c.in_ok-read_working_list.ensures.ok.targets_are in
