@@ -18,6 +18,3 @@ mod words;
 
 pub use crate::error::{FormatError, FormatErrorKind};
 pub use crate::stored::StoredDfa;
-
-#[cfg(test)]
-mod tests;

@@ -20,6 +20,7 @@ mod patterns;
 mod pieces;
 mod reading;
 mod sizes;
+mod stored;
 mod stored_walks;
 mod strings;
 mod tokens;

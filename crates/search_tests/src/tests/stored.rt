@@ -1,0 +1,211 @@
+//! Whole DFAs in bytes: a file that was written by hand, and what is wrong with others.
+
+use crate::tests::dense::{dfa, nfa};
+use crate::tests::{ended, holds, same};
+use determinize_below::{Input, MatchKind, StateID};
+use determinize_stored::{FormatError, FormatErrorKind, StoredDfa};
+use std::mem;
+use std::process::Abort;
+
+/// The numbers before the classes, and those behind them, of the DFA of the pattern `a` under
+/// `MatchKind::LeftmostFirst`. `a` has class 1, all other bytes have class 0. Row 2 is each start
+/// but those behind a line terminator that is not `\n`, row 3 comes after `a`, row 1 lists pattern
+/// 0, and row 0 is dead.
+static HEAD: [u32; 7] = [0x0041_4644, 1, 1, 0, 10, 2, 4];
+
+static BEHIND: [u32; 29] = [
+    2, 2, 2, 2, 2, 0, 2, 2, 2, 2, 2, 0, 0, 0, 0, 0, 0, 0, 0, 3, 0, 1, 1, 1, 0, 1, 1, 1, 0,
+];
+
+/// An index of a number, another number for it, and what is then wrong at which offset.
+static WRONG: [(usize, u32, FormatErrorKind, usize); 13] = [
+    (0, 0x4446_4100, FormatErrorKind::Magic, 0),
+    (1, 2, FormatErrorKind::Version, 4),
+    (2, 2, FormatErrorKind::MatchKind, 8),
+    (3, 2, FormatErrorKind::Direction, 12),
+    (4, 256, FormatErrorKind::LineTerminator, 16),
+    (5, 257, FormatErrorKind::ClassCount, 20),
+    (6, 5, FormatErrorKind::Length, 1168),
+    (12, 2, FormatErrorKind::Class, 48),
+    (263, 4, FormatErrorKind::Start, 1052),
+    (278, 4, FormatErrorKind::Entry, 1112),
+    (287, 2, FormatErrorKind::ListEnd, 1152),
+    (290, 2, FormatErrorKind::Length, 1168),
+    (291, 0x7FFF_FFFF, FormatErrorKind::Pattern, 1164),
+];
+
+/// Adds numbers to bytes.
+fn push<R: Abort>(rt: &R, bytes: &mut Vec<u8>, words: &[u32]) {
+    for word in words {
+        let added = bytes.extend_from_slice(&word.to_le_bytes());
+        added.expect(rt, "memory");
+    }
+}
+
+/// Returns the file.
+fn file<R: Abort + AllocGlobal>(rt: &R) -> Vec<u8> {
+    let mut bytes = Vec::new(rt.alloc());
+    push(rt, &mut bytes, &HEAD);
+    for byte in 0..=u8::MAX {
+        push(rt, &mut bytes, &[u32::from(byte == b'a')]);
+    }
+    push(rt, &mut bytes, &BEHIND);
+    bytes
+}
+
+/// Writes a number at its index.
+fn write(bytes: &mut [u8], index: usize, word: u32) {
+    let places = bytes.iter_mut().skip(index.saturating_mul(4));
+    for (place, byte) in places.zip(word.to_le_bytes()) {
+        *place = byte;
+    }
+}
+
+/// Compares what is wrong with bytes.
+fn expect_error<R: Abort>(rt: &R, bytes: &[u8], kind: FormatErrorKind, offset: usize) {
+    let found = StoredDfa::from_bytes(bytes).err();
+    same(rt, found, Some(FormatError { kind, offset }));
+}
+
+/// Compares what is wrong with the file with another number at an index.
+fn expect_wrong<R: Abort + AllocGlobal>(
+    rt: &R,
+    index: usize,
+    word: u32,
+    kind: FormatErrorKind,
+    offset: usize,
+) {
+    let mut bytes = file(rt);
+    write(bytes.as_mut_slice(), index, word);
+    expect_error(rt, &bytes, kind, offset);
+}
+
+/// Compares the end of the match in a text.
+fn expect_end<R: Abort>(rt: &R, dfa: &StoredDfa<'_>, text: &[u8], end: usize) {
+    same(rt, dfa.search_input(&Input::new(text)), ended(end));
+}
+
+/// Asserts that a text has no match.
+fn expect_none<R: Abort>(rt: &R, dfa: &StoredDfa<'_>, text: &[u8]) {
+    same(rt, dfa.search_input(&Input::new(text)), None);
+}
+
+/// Asserts that a DFA has four rows, and an iterator over them has four too.
+fn expect_rows<R: Abort>(rt: &R, dfa: &StoredDfa<'_>) {
+    assert_eq!(rt; dfa.len(), 4);
+    same(rt, dfa.rows().count(), 4);
+}
+
+/// Steps over `a`, and over another one.
+fn expect_steps<R: Abort>(rt: &R, dfa: &StoredDfa<'_>) {
+    let start = dfa.start_state_forward(&Input::new(b"a"));
+    let last = dfa.next_eoi_state(dfa.next_state(start, b'a'));
+    same(rt, dfa.match_len(last), 1);
+    holds(rt, dfa.is_match_state(last) && !dfa.is_dead_state(last));
+    holds(rt, dfa.is_dead_state(dfa.next_state(last, b'a')));
+}
+
+#[test]
+fn a_dfa_is_written_as_by_hand(rt: HostRuntime) {
+    let nfa = nfa(&rt, "B:61>1 M:0", StateID::ZERO);
+    let bytes = dfa(&rt, &nfa, MatchKind::LeftmostFirst, 10).to_bytes(rt.alloc());
+    let bytes = bytes.expect(&rt, "memory");
+    same(&rt, bytes.as_slice(), file(&rt).as_slice());
+}
+
+#[test]
+fn a_file_is_searched(rt: HostRuntime) {
+    let bytes = file(&rt);
+    let dfa = StoredDfa::from_bytes(&bytes).expect(&rt, "a DFA");
+    expect_rows(&rt, &dfa);
+    expect_none(&rt, &dfa, b"");
+    expect_end(&rt, &dfa, b"a", 1);
+    expect_end(&rt, &dfa, b"ab", 1);
+    expect_none(&rt, &dfa, b"ba");
+    expect_steps(&rt, &dfa);
+}
+
+#[test]
+fn what_is_wrong_is_said(rt: HostRuntime) {
+    for (index, word, kind, offset) in &WRONG {
+        expect_wrong(&rt, *index, *word, *kind, *offset);
+    }
+}
+
+#[test]
+fn another_length_is_wrong(rt: HostRuntime) {
+    let mut bytes = file(&rt);
+    expect_error(&rt, &[], FormatErrorKind::Length, 0);
+    let _last = bytes.pop();
+    expect_error(&rt, &bytes, FormatErrorKind::Length, 1164);
+    bytes.push(0).expect(&rt, "memory");
+    bytes.push(0).expect(&rt, "memory");
+    expect_error(&rt, &bytes, FormatErrorKind::Length, 1168);
+}
+
+/// Steps from each row over some units, and searches a text.
+fn expect_safe<R: Abort>(rt: &R, dfa: &StoredDfa<'_>) {
+    for row in dfa.rows() {
+        let next = dfa.next_state(row, b'a');
+        holds(rt, next.as_usize() < dfa.len());
+        holds(rt, dfa.next_eoi_state(next).as_usize() < dfa.len());
+        same(
+            rt,
+            dfa.match_pattern(next, 0).is_some(),
+            dfa.is_match_state(next),
+        );
+    }
+    if let Some(found) = dfa.search_input(&Input::new(b"aab")) {
+        holds(rt, found.offset <= 3);
+    }
+}
+
+/// Returns whether bytes are a DFA, which is then safe.
+fn is_safe<R: Abort>(rt: &R, bytes: &[u8]) -> bool {
+    match StoredDfa::from_bytes(bytes) {
+        Ok(dfa) => {
+            expect_safe(rt, &dfa);
+            true
+        }
+        Err(_) => false,
+    }
+}
+
+/// Returns the number after a number, of some that look random.
+fn after(number: u64) -> u64 {
+    let number = number ^ (number << 13);
+    let number = number ^ (number >> 7);
+    number ^ (number << 17)
+}
+
+/// Writes another byte at an index, and returns the one that was there.
+fn exchanged(bytes: &mut [u8], index: usize, byte: u8) -> u8 {
+    match bytes.get_mut(index) {
+        Some(place) => mem::replace(place, byte),
+        None => byte,
+    }
+}
+
+/// Returns whether a file is a DFA, which is then safe, with another byte in one place: the number
+/// chooses both.
+fn is_safe_if_changed<R: Abort>(rt: &R, bytes: &mut [u8], number: u64) -> bool {
+    let index = (number % 1168) as usize;
+    let before = exchanged(bytes, index, ((number >> 32) & 7) as u8);
+    let is_accepted = is_safe(rt, bytes);
+    exchanged(bytes, index, before);
+    is_accepted
+}
+
+#[test]
+fn changed_files_are_safe(rt: HostRuntime) {
+    let mut bytes = file(&rt);
+    let mut number = 88172645463325252;
+    let mut accepted: u32 = 0;
+    for _ in 0..100_000 {
+        number = after(number);
+        if is_safe_if_changed(&rt, bytes.as_mut_slice(), number) {
+            accepted = accepted.saturating_add(1);
+        }
+    }
+    holds(&rt, accepted > 1000);
+}
