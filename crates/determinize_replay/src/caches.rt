@@ -43,6 +43,22 @@ fn place(automata: &[Automaton<'_>], job: &Job<'_>) -> Option<usize> {
     None
 }
 
+/// Adds the NFA of a walk with its match kind. Returns an error if the NFA is malformed.
+fn push<'t>(
+    alloc: Global,
+    automata: &mut Vec<Automaton<'t>>,
+    fields: Fields<'t>,
+    kind: MatchKind,
+) -> Result<(), TextError> {
+    match fields.nfa(alloc) {
+        Ok(nfa) => match automata.push(Automaton { fields, nfa, kind }) {
+            Ok(()) => Ok(()),
+            Err(_) => Err(TextError::OutOfMemory),
+        },
+        Err(error) => Err(error),
+    }
+}
+
 /// Adds the NFA of a job, unless the job is no walk or the NFA is present. Returns an error for a
 /// walk whose NFA or match kind is malformed.
 fn add<'t>(
@@ -53,11 +69,10 @@ fn add<'t>(
     if job.verb() != "walk" || place(automata.as_slice(), job).is_some() {
         return Ok(());
     }
-    let fields = *job.fields();
-    let kind = fields.match_kind()?;
-    let nfa = fields.nfa(alloc)?;
-    automata.push(Automaton { fields, nfa, kind })?;
-    Ok(())
+    match job.fields().match_kind() {
+        Ok(kind) => push(alloc, automata, *job.fields(), kind),
+        Err(error) => Err(error),
+    }
 }
 
 /// Adds the NFAs of the walks of a text, once per match kind. A job that cannot be parsed is
@@ -96,7 +111,10 @@ fn add_caches<'n>(
     limit: usize,
 ) -> Result<(), AllocError> {
     for automaton in automata {
-        caches.push(Lazy::new(alloc, &automaton.nfa, automaton.kind, limit))?;
+        let cache = Lazy::new(alloc, &automaton.nfa, automaton.kind, limit);
+        if caches.push(cache).is_err() {
+            return Err(AllocError);
+        }
     }
     Ok(())
 }
@@ -111,12 +129,14 @@ impl<'n, 't> Caches<'n, 't> {
         limit: usize,
     ) -> Result<Caches<'n, 't>, AllocError> {
         let mut caches = Vec::new(alloc);
-        add_caches(alloc, &mut caches, automata, limit)?;
-        Ok(Caches {
-            is_search,
-            automata,
-            caches,
-        })
+        match add_caches(alloc, &mut caches, automata, limit) {
+            Ok(()) => Ok(Caches {
+                is_search,
+                automata,
+                caches,
+            }),
+            Err(error) => Err(error),
+        }
     }
 
     /// Returns the cache for a job, or `None` if the job is no walk or its NFA is not present.

@@ -40,6 +40,14 @@ impl fmt::Debug for ReadError<'_> {
     }
 }
 
+/// Returns the outcome of a call that allocates, with its error as one of texts.
+pub fn told(made: Result<(), AllocError>) -> Result<(), TextError> {
+    match made {
+        Ok(()) => Ok(()),
+        Err(_) => Err(TextError::OutOfMemory),
+    }
+}
+
 /// A reason why a replay has no verdict.
 #[derive(Drop)]
 pub enum ReplayError {

@@ -4,7 +4,7 @@
 /// Returns the output of the example with this name: a line for each state, and one for the last
 /// match. Returns an empty text if no example has the name.
 pub fn output_of(name: &str) -> &'static str {
-    for part in OUTPUTS.split("= ") {
+    for part in outputs().split("= ") {
         if let Some((first, lines)) = part.split_once('\n') {
             if first == name {
                 return lines;
@@ -14,7 +14,13 @@ pub fn output_of(name: &str) -> &'static str {
     ""
 }
 
-/// The outputs, each after a line with the name of the example.
+/// Returns the outputs.
+fn outputs() -> &'static str {
+    OUTPUTS
+}
+
+/// The outputs, each after a line with the name of the example. Only [`outputs`] names this text: a
+/// proof reads all of it at each mention.
 const OUTPUTS: &str = "\
 = 2
 00000000000000000000

@@ -94,9 +94,13 @@ fn write_output_of<'t>(
     text: &'t str,
     output: &mut String,
 ) -> Result<Extent, ReadError<'t>> {
-    let job = Job::read(text)?;
-    let extent = write_output(alloc, caches, &job, output)?;
-    Ok(extent)
+    match Job::read(text) {
+        Ok(job) => match write_output(alloc, caches, &job, output) {
+            Ok(extent) => Ok(extent),
+            Err(error) => Err(ReadError::Text(error)),
+        },
+        Err(error) => Err(error),
+    }
 }
 
 /// A replay in progress: the current job with the number of its line, the lines of its expected

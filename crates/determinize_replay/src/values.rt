@@ -36,11 +36,13 @@ pub fn pattern_ids(alloc: Global, text: &str) -> Result<Vec<PatternID>, TextErro
 /// Returns a set of assertions.
 pub fn look_set(text: &str) -> Result<LookSet, TextError> {
     let mut set = LookSet::empty();
-    if is_none(text) {
-        return Ok(set);
-    }
-    for name in text.split(',') {
-        set = set.insert(look(name)?);
+    if !is_none(text) {
+        for name in text.split(',') {
+            match look(name) {
+                Ok(look) => set = set.insert(look),
+                Err(error) => return Err(error),
+            }
+        }
     }
     Ok(set)
 }

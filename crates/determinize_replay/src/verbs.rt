@@ -3,6 +3,7 @@
 mod automata;
 mod small;
 
+use crate::error::told;
 use crate::job::Job;
 pub use automata::write_through;
 use example_walks::error::TextError;
@@ -22,7 +23,7 @@ pub fn write_output(alloc: Global, job: &Job<'_>, text: &mut String) -> Result<(
         "start" => small::start(alloc, fields, text),
         "bytemap" => small::bytemap(fields, text),
         "fromusize" => small::fromusize(fields, text),
-        "dead" => small::dead(alloc, text),
+        "dead" => told(small::dead(alloc, text)),
         "build" => small::build(alloc, fields, text),
         "size" => small::size(alloc, fields, text),
         verb => automata::write_output(alloc, verb, fields, &fields.nfa(alloc)?, text),

@@ -1,5 +1,6 @@
 //! The verbs without an NFA.
 
+use crate::error::told;
 use crate::{records, values};
 use determinize_below::{BuildError, Input, LookMatcher, NFA, PatternID, StateID, nfa};
 use determinize_core::start::{Config, Start, StartByteMap};
@@ -37,7 +38,11 @@ fn range(text: &str) -> Result<(usize, usize), TextError> {
     let Some((start, end)) = text.split_once("..") else {
         return Err(TextError::Malformed(Part::Range));
     };
-    Ok((number(start)?, number(end)?))
+    match (number(start), number(end)) {
+        (Ok(start), Ok(end)) => Ok((start, end)),
+        (Err(error), _) => Err(error),
+        (_, Err(error)) => Err(error),
+    }
 }
 
 /// Writes the start kind of a look-behind byte, and the byte.
@@ -77,24 +82,27 @@ fn write_kind(text: &mut String, byte: u8, kind: Start) -> Result<(), AllocError
 
 /// Runs `fromusize`: writes the start kind with a number.
 pub fn fromusize(fields: &Fields<'_>, text: &mut String) -> Result<(), TextError> {
-    match Start::from_usize(number(fields.value_or_none("n"))?) {
-        Some(kind) => writeln!(text, "some {kind:?}")?,
-        None => text.push_str("none\n")?,
-    }
-    Ok(())
+    let number = number(fields.value_or_none("n"))?;
+    told(match Start::from_usize(number) {
+        Some(kind) => writeln!(text, "some {kind:?}"),
+        None => text.push_str("none\n"),
+    })
 }
 
 /// Runs `dead`: writes the bytes of the dead state.
-pub fn dead(alloc: Global, text: &mut String) -> Result<(), TextError> {
-    let state = State::dead(alloc)?;
-    values::write_bytes(text, state.as_bytes())?;
-    Ok(())
+pub fn dead(alloc: Global, text: &mut String) -> Result<(), AllocError> {
+    match State::dead(alloc) {
+        Ok(state) => values::write_bytes(text, state.as_bytes()),
+        Err(error) => Err(error),
+    }
 }
 
 /// Runs `build`: writes the bytes of the job's record, and the results of its readers.
 pub fn build(alloc: Global, fields: &Fields<'_>, text: &mut String) -> Result<(), TextError> {
-    write_built(alloc, text, &records::builder(alloc, fields)?)?;
-    Ok(())
+    match records::builder(alloc, fields) {
+        Ok(builder) => told(write_built(alloc, text, &builder)),
+        Err(error) => Err(error),
+    }
 }
 
 /// Writes the bytes of a record, and the results of the readers of its state.
@@ -113,15 +121,20 @@ fn write_built(
 pub fn size(alloc: Global, fields: &Fields<'_>, text: &mut String) -> Result<(), TextError> {
     let count = number(fields.value_or_none("states"))?;
     let matches = number(fields.value_or_none("matches"))?;
-    let count = nfa_of(alloc, states(alloc, count, matches)?)?.len();
-    writeln!(text, "states {count}")?;
-    Ok(())
+    let states = states(alloc, count, matches)?;
+    match count_states(alloc, states) {
+        Ok(count) => told(writeln!(text, "states {count}")),
+        Err(error) => Err(TextError::from(error)),
+    }
 }
 
-/// Returns the NFA of these states, which starts in the first one.
-fn nfa_of(alloc: Global, states: Vec<nfa::State>) -> Result<NFA, BuildError> {
-    let matcher = LookMatcher::new();
-    NFA::from_parts(alloc, states, StateID::ZERO, StateID::ZERO, false, matcher)
+/// Returns the number of states of the NFA of these states, which starts in the first one.
+fn count_states(alloc: Global, states: Vec<nfa::State>) -> Result<usize, BuildError> {
+    let (zero, matcher) = (StateID::ZERO, LookMatcher::new());
+    match NFA::from_parts(alloc, states, zero, zero, false, matcher) {
+        Ok(nfa) => Ok(nfa.len()),
+        Err(error) => Err(error),
+    }
 }
 
 /// Returns `count` states, of which the first `matches` are `Match` states.
