@@ -6,6 +6,8 @@
 //! the drop of all that a function owns is proved at each exit. Only what runs while allocations
 //! fail returns errors, and that owns little.
 
+ghost use Rattle.std.specs.Prelude.{◌≡◌, true};
+
 mod by_class;
 mod classes;
 mod dense;
@@ -37,23 +39,10 @@ pub fn same<R: Abort, T: PartialEq + Debug + Copy>(rt: &R, found: T, wanted: T) 
 }
 
 /// Asserts a condition.
-pub fn holds<R: Abort>(rt: &R, is_so: bool) {
+pub fn holds<R: Abort>(rt: &R, is_so: bool)
+    ensures { is_so ≡ true }
+{
     assert!(rt; is_so);
-}
-
-/// Asserts that a call that may fail returned this value. Returns its error if it failed.
-pub fn same_if_ok<R: Abort, T: PartialEq + Debug + Copy, E>(
-    rt: &R,
-    found: Result<T, E>,
-    wanted: T,
-) -> Result<(), E> {
-    match found {
-        Ok(found) => {
-            same(rt, found, wanted);
-            Ok(())
-        }
-        Err(error) => Err(error),
-    }
 }
 
 /// Asserts that a value has this text.

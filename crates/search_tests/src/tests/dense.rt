@@ -4,10 +4,11 @@
 ghost use Rattle.std.specs.Prelude.{◌≡◌, false};
 
 use crate::tests::stored_walks::STORED;
-use crate::tests::{ended, expect_debug, expect_text, same};
+use crate::tests::{by_class, ended, expect_debug, expect_text, holds, same};
 use determinize_below::{Anchored, Input, LookMatcher, MatchKind, NFA, PatternID, StateID};
 use determinize_core::state::State;
 use determinize_dense::{Dfa, DfaError};
+use determinize_lazy::Lazy;
 use determinize_replay::failing_alloc::FailingAllocator;
 use determinize_replay::outputs::output_of;
 use determinize_uses::dfa::smallest;
@@ -180,10 +181,10 @@ fn dense_counts(rt: HostRuntime) {
 
 /// The text of a walk, and the bytes around it.
 #[derive(Clone, Copy)]
-struct Around<'t> {
-    look_behind: Option<u8>,
-    text: &'t [u8],
-    look_ahead: Option<u8>,
+pub struct Around<'t> {
+    pub look_behind: Option<u8>,
+    pub text: &'t [u8],
+    pub look_ahead: Option<u8>,
 }
 
 /// Asserts that a search of a text has this match, and that these patterns match where it ends.
@@ -226,25 +227,41 @@ fn expect_both<R: Abort + AllocGlobal>(
     expect_found(rt, &least(rt, dfa), around, last, patterns);
 }
 
-/// Asserts that searches of the text of a walk by a DFA and by the smallest one have its last
-/// match, and that the patterns where the text ends are those of its last state.
-fn expect_walk<R: Abort + AllocGlobal>(rt: &R, fields: &Fields<'_>, dfa: &Dfa<'_>, last: &str) {
+/// Asserts that searches of the text of a walk by a DFA of at most 1000 states and by the smallest
+/// one have its last match, that the patterns where the text ends are those of its last state, and
+/// that searches through a cache by class have that match.
+fn expect_walk<R: Abort + AllocGlobal>(
+    rt: &R,
+    fields: &Fields<'_>,
+    nfa: &NFA,
+    kind: MatchKind,
+    last: &str,
+) {
     let text = fields.text(rt.alloc()).expect(rt, "bytes");
     let around = Around {
         look_behind: fields.look_behind().expect(rt, "a byte"),
         text: text.as_slice(),
         look_ahead: fields.look_ahead().expect(rt, "a byte"),
     };
-    expect_both(rt, dfa, &around, last, last_patterns(rt, fields).as_slice());
+    let patterns = last_patterns(rt, fields);
+    expect_both(
+        rt,
+        &dfa(rt, nfa, kind, 1000),
+        &around,
+        last,
+        patterns.as_slice(),
+    );
+    let mut lazy = Lazy::new_by_class(rt.alloc(), nfa, kind, 50);
+    by_class::expect_walk(rt, &mut lazy, &around, last);
 }
 
-/// Builds the DFA of a walk, of at most 1000 states, and asserts it of both.
+/// Asserts it of the NFA of a walk.
 fn expect_job<R: Abort + AllocGlobal>(rt: &R, line: &str, last: &str) {
     let (_, fields) = Fields::split(line);
     let start = fields.start().expect(rt, "a start");
     let kind = fields.match_kind().expect(rt, "a match kind");
     let nfa = fields.nfa_from(rt.alloc(), start).expect(rt, "an NFA");
-    expect_walk(rt, &fields, &dfa(rt, &nfa, kind, 1000), last);
+    expect_walk(rt, &fields, &nfa, kind, last);
 }
 
 /// Each of the 45 examples and of the 42 stored walks has a DFA of at most 1000 states.
@@ -322,8 +339,11 @@ static LISTS: [List; 6] = [
 /// Asserts that these patterns match.
 pub fn expect_patterns<R: Abort>(rt: &R, found: &[PatternID], wanted: &[usize]) {
     same(rt, found.len(), wanted.len());
-    for (found, wanted) in found.iter().zip(wanted) {
-        same(rt, found.as_usize(), *wanted);
+    for index in 0..wanted.len() {
+        match (found.get(index), wanted.get(index)) {
+            (Some(found), Some(wanted)) => same(rt, found.as_usize(), *wanted),
+            _ => holds(rt, false),
+        }
     }
 }
 

@@ -10,15 +10,34 @@ use determinize_dense::Dfa;
 use determinize_uses::dfa::{patterns_at, smallest};
 use std::process::Abort;
 
-/// The texts that each DFA searches.
-static TEXTS: [&str; 6] = ["foo12", "xfoo9y", "bar", "ba", "", "barfoo1"];
+/// Texts, and the ends of their matches: of anchored searches, and of others for the first and for
+/// all matches.
+static ANCHORED: [(&str, Option<usize>); 6] = [
+    ("foo12", Some(5)),
+    ("xfoo9y", None),
+    ("bar", Some(3)),
+    ("ba", None),
+    ("", None),
+    ("barfoo1", Some(3)),
+];
 
-/// The ends of their matches: by anchored searches, and by others of the first and of all matches.
-static ANCHORED: [Option<usize>; 6] = [Some(5), None, Some(3), None, None, Some(3)];
+static FIRST: [(&str, Option<usize>); 6] = [
+    ("foo12", Some(5)),
+    ("xfoo9y", Some(5)),
+    ("bar", Some(3)),
+    ("ba", None),
+    ("", None),
+    ("barfoo1", Some(3)),
+];
 
-static FIRST: [Option<usize>; 6] = [Some(5), Some(5), Some(3), None, None, Some(3)];
-
-static ALL: [Option<usize>; 6] = [Some(5), Some(5), Some(3), None, None, Some(7)];
+static ALL: [(&str, Option<usize>); 6] = [
+    ("foo12", Some(5)),
+    ("xfoo9y", Some(5)),
+    ("bar", Some(3)),
+    ("ba", None),
+    ("", None),
+    ("barfoo1", Some(7)),
+];
 
 /// How many patterns match at each position of `barfoo1`: one after `bar`, and one at the end.
 static COUNTS: [usize; 8] = [0, 0, 0, 1, 0, 0, 0, 1];
@@ -41,9 +60,9 @@ fn search(dfa: &Dfa<'_>, is_anchored: bool, text: &str) -> Option<HalfMatch> {
 }
 
 /// Searches the texts, and compares the ends of the matches.
-fn expect_ends<R: Abort>(rt: &R, dfa: &Dfa<'_>, is_anchored: bool, ends: &[Option<usize>]) {
-    for (text, end) in TEXTS.iter().zip(ends) {
-        expect_end(rt, search(dfa, is_anchored, text), *end);
+fn expect_ends<R: Abort>(rt: &R, dfa: &Dfa<'_>, is_anchored: bool, ends: &[(&str, Option<usize>)]) {
+    for &(text, end) in ends {
+        expect_end(rt, search(dfa, is_anchored, text), end);
     }
 }
 
@@ -56,15 +75,26 @@ fn expect_counts<R: Abort>(rt: &R, dfa: &Dfa<'_>)
     }
 }
 
+/// Searches for first matches.
+fn expect_first<R: Abort>(rt: &R, dfa: &Dfa<'_>) {
+    expect_ends(rt, dfa, true, &ANCHORED);
+    expect_ends(rt, dfa, false, &FIRST);
+}
+
+/// Searches for all matches.
+fn expect_all<R: Abort>(rt: &R, dfa: &Dfa<'_>)
+    requires { dfa.now.kind ≡ kinds.All }
+{
+    expect_ends(rt, dfa, true, &ANCHORED);
+    expect_ends(rt, dfa, false, &ALL);
+    expect_counts(rt, dfa);
+}
+
 #[test]
 fn smallest_dfas(rt: HostRuntime) {
     let nfa = nfa(&rt, FOO_OR_BAR, StateID::must(2));
     let first = smallest(rt.alloc(), &nfa, MatchKind::LeftmostFirst, 100);
-    let first = first.expect(&rt, "few states");
-    expect_ends(&rt, &first, true, &ANCHORED);
-    expect_ends(&rt, &first, false, &FIRST);
-    let all = smallest(rt.alloc(), &nfa, MatchKind::All, 100).expect(&rt, "few states");
-    expect_ends(&rt, &all, true, &ANCHORED);
-    expect_ends(&rt, &all, false, &ALL);
-    expect_counts(&rt, &all);
+    expect_first(&rt, &first.expect(&rt, "few states"));
+    let all = smallest(rt.alloc(), &nfa, MatchKind::All, 100);
+    expect_all(&rt, &all.expect(&rt, "few states"));
 }

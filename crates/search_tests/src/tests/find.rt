@@ -8,7 +8,7 @@ ghost use Rattle.determinize_find.specs.Prefix.{HasPrefix};
 ghost use Rattle.determinize_find.specs.Reversal.{IsReverseOf};
 
 use crate::tests::trial::{Trial, build_error, fail_each_in_turn, succeed_if};
-use crate::tests::{dense, ended, same, same_if_ok};
+use crate::tests::{dense, ended, holds, kept, same};
 use determinize_below::{BuildError, HalfMatch, Input, MatchKind, NFA, StateID};
 use determinize_dense::Dfa;
 use determinize_find::{LazyRegex, Match, Pieces, Regex, Searcher, has_prefix, plain, reversed};
@@ -87,7 +87,7 @@ pub fn nfa<R: Abort + AllocGlobal>(rt: &R, states: &str) -> NFA
     ensures prefix { HasPrefix result }
 {
     let nfa = dense::nfa(rt, states, StateID::must(2));
-    assert!(rt; has_prefix(&nfa));
+    holds(rt, has_prefix(&nfa));
     nfa
 }
 
@@ -109,8 +109,9 @@ fn ends_of(found: Option<Match>) -> Option<Ends> {
 /// Compares matches with their patterns and ends.
 pub fn expect_matches<R: Abort>(rt: &R, found: &[Match], wanted: &[Ends]) {
     same(rt, found.len(), wanted.len());
-    for (found, wanted) in found.iter().zip(wanted) {
-        same(rt, ends_of(Some(*found)), Some(*wanted));
+    for index in 0..wanted.len() {
+        let found = ends_of(found.get(index).copied());
+        same(rt, found, wanted.get(index).copied());
     }
 }
 
@@ -138,6 +139,21 @@ pub fn expect_search<R: Abort, N: Allocator>(
 /// Asserts that a search found these matches.
 pub fn expect_same<R: Abort>(rt: &R, found: &[Match], wanted: &[Match]) {
     same(rt, found, wanted);
+}
+
+/// Compares whether there is a match, by a search that may fail. Returns its error if it failed.
+fn is_match_if_ok<R: Abort>(
+    rt: &R,
+    found: Result<bool, AllocError>,
+    wanted: bool,
+) -> Result<(), AllocError> {
+    match found {
+        Ok(found) => {
+            same(rt, found, wanted);
+            Ok(())
+        }
+        Err(error) => Err(error),
+    }
 }
 
 /// Compares the match of a search that may fail. Returns its error if it failed.
@@ -181,6 +197,7 @@ pub enum PlainSearch {
 }
 
 /// A search by a `Regex`.
+#[derive(Drop)]
 pub enum Search {
     /// For the first match.
     Find,
@@ -192,6 +209,8 @@ pub enum Search {
     Advance,
     /// For all matches of the haystack in two pieces.
     Pieces,
+    /// For all matches of the haystack, and their bytes, in pieces of this size.
+    Bytes(usize),
 }
 
 /// Each search by `plain`.
@@ -231,6 +250,16 @@ fn find_plain<R: Abort, A: Allocator + Copy>(
     }
 }
 
+/// Moves a cursor, and compares the match. Returns whether the call did not fail.
+fn has_advanced<R: Abort, A: Allocator + Copy>(
+    rt: &R,
+    searcher: &mut Searcher<'_>,
+    regex: &mut LazyRegex<'_, Global, A, A>,
+    wanted: Option<Ends>,
+) -> bool {
+    match_if_ok(rt, searcher.advance(regex), wanted).is_ok()
+}
+
 /// Moves a cursor over all matches and past the last one, and again where that fails.
 fn advance_each<R: Abort, A: Allocator + Copy>(
     rt: &R,
@@ -241,9 +270,11 @@ fn advance_each<R: Abort, A: Allocator + Copy>(
     let mut is_sound = true;
     for index in 0..wanted.len() + 1 {
         let next = wanted.get(index).copied();
-        if match_if_ok(rt, searcher.advance(regex), next).is_err() {
-            match_if_ok(rt, searcher.advance(regex), next)?;
+        if !has_advanced(rt, searcher, regex, next) {
             is_sound = false;
+            if !has_advanced(rt, searcher, regex, next) {
+                return Err(AllocError);
+            }
         }
     }
     succeed_if(is_sound)
@@ -259,35 +290,21 @@ fn advance_over<R: Abort, A: Allocator + Copy>(
     advance_each(rt, &mut searcher, regex, row.matches)
 }
 
-/// Feeds the part of a piece that was not read, if the piece begins at this offset of the text.
-fn feed_rest<B: Allocator, A: Allocator + Copy>(
+/// Feeds a piece, and if that fails, the part of it that was not read.
+fn feed_piece<B: Allocator, A: Allocator + Copy>(
     stream: &mut Pieces<A>,
     regex: &mut LazyRegex<'_, Global, B, A>,
     piece: &[u8],
-    begin: usize,
     found: &mut Vec<Match, A>,
+    is_sound: &mut bool,
 ) -> Result<(), AllocError> {
+    let begin = stream.bytes_read();
+    if stream.feed(regex, piece, found).is_ok() {
+        return Ok(());
+    }
+    *is_sound = false;
     let read = stream.bytes_read().saturating_sub(begin);
     stream.feed(regex, piece.get(read..).unwrap_or(piece), found)
-}
-
-/// Feeds pieces, and if that fails, the part of a piece that was not read. Returns whether none
-/// failed.
-fn feed_each<B: Allocator, A: Allocator + Copy>(
-    stream: &mut Pieces<A>,
-    regex: &mut LazyRegex<'_, Global, B, A>,
-    pieces: &[&[u8]],
-    found: &mut Vec<Match, A>,
-) -> Result<bool, AllocError> {
-    let mut is_sound = true;
-    for piece in pieces {
-        let begin = stream.bytes_read();
-        if feed_rest(stream, regex, piece, begin, found).is_err() {
-            feed_rest(stream, regex, piece, begin, found)?;
-            is_sound = false;
-        }
-    }
-    Ok(is_sound)
 }
 
 /// Feeds pieces and ends the text, and ends it again if that fails. Compares the matches.
@@ -299,13 +316,16 @@ fn feed_all<R: Abort, B: Allocator, A: Allocator + Copy>(
     found: &mut Vec<Match, A>,
     wanted: &[Ends],
 ) -> Result<(), AllocError> {
-    let is_fed = feed_each(stream, regex, pieces, found)?;
-    let is_ended = stream.finish(regex, found).is_ok();
-    if !is_ended {
+    let mut is_sound = true;
+    for piece in pieces {
+        feed_piece(stream, regex, piece, found, &mut is_sound)?;
+    }
+    if stream.finish(regex, found).is_err() {
+        is_sound = false;
         stream.finish(regex, found)?;
     }
     expect_matches(rt, found.as_slice(), wanted);
-    succeed_if(is_fed && is_ended)
+    succeed_if(is_sound)
 }
 
 /// Feeds a text in pieces, and makes each call that fails again, for the bytes that it did not
@@ -333,7 +353,7 @@ fn feed_halves<R: Abort, A: Allocator + Copy>(
 }
 
 /// Searches by a `Regex`.
-fn find_by_regex<R: Abort, A: Allocator + Copy>(
+fn find_by_regex<R: Abort + AllocGlobal, A: Allocator + Copy>(
     rt: &R,
     alloc: A,
     regex: &mut LazyRegex<'_, Global, A, A>,
@@ -343,10 +363,11 @@ fn find_by_regex<R: Abort, A: Allocator + Copy>(
     let (input, wanted) = (Input::new(row.haystack), row.matches.first().copied());
     match *search {
         Search::Find => match_if_ok(rt, regex.find(&input), wanted),
-        Search::IsMatch => same_if_ok(rt, regex.is_match(&input), wanted.is_some()),
+        Search::IsMatch => is_match_if_ok(rt, regex.is_match(&input), wanted.is_some()),
         Search::FindAll => matches_if_ok(rt, regex.find_all(alloc, &input), row.matches),
         Search::Advance => advance_over(rt, regex, row),
         Search::Pieces => feed_halves(rt, alloc, regex, row),
+        Search::Bytes(size) => kept::read_pieces(rt, alloc, regex, row, size),
     }
 }
 
@@ -364,7 +385,7 @@ pub fn search_plain<R: Abort + AllocGlobal, A: Allocator + Copy>(
 }
 
 /// Finds the matches of a row by an NFA and its reverse, through new caches of this limit.
-fn search_both<R: Abort, A: Allocator + Copy>(
+fn search_both<R: Abort + AllocGlobal, A: Allocator + Copy>(
     rt: &R,
     alloc: A,
     nfa: &NFA,

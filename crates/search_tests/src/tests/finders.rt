@@ -7,18 +7,14 @@ ghost use Rattle.determinize_engine.specs.Searches.{has_start};
 ghost use Rattle.determinize_find.specs.Prefix.{HasPrefix};
 ghost use Rattle.determinize_find.specs.Reversal.{IsReverseOf};
 
-use crate::tests::find::{Ends, WORDS, backward_of, expect_matches, expect_same, nfa};
+use crate::tests::find::{Ends, WORDS, expect_matches, expect_same, nfa};
 use crate::tests::linear::expect_linear;
-use crate::tests::stored_walks::{Place, STORED, prefixed};
 use crate::tests::{dense, holds, same};
 use determinize_below::{Anchored, Input, MatchKind, NFA, StateID};
 use determinize_dense::Dfa;
 use determinize_engine::WithAllocError;
-use determinize_find::{Finder, Match, OwnedRegex, Plain, Regex, find_all};
+use determinize_find::{Finder, LazyRegex, Match, OwnedRegex, Plain, Regex, find_all};
 use determinize_lazy::Lazy;
-use determinize_replay::job::Job;
-use example_walks::examples::examples;
-use example_walks::fields::Fields;
 use std::alloc::AllocError;
 use std::process::Abort;
 
@@ -52,16 +48,15 @@ fn expect_all<R: Abort + AllocGlobal, F: Finder>(
 /// the searches in a linear number of steps.
 fn expect_in_turn<R: Abort + AllocGlobal>(
     rt: &R,
-    nfa: &NFA,
     whole: &Dfa<'_>,
     input: &Input<'_>,
     wanted: &[Match],
 )
-    requires forward { nfa.now.reverse ≡ false }
-    requires nfa { whole.now.nfa ≡ nfa.now }
+    requires forward { whole.now.nfa.reverse ≡ false }
     requires kind { whole.now.kind ≡ kinds.LeftmostFirst }
     requires start { has_start input.now.anchored ≡ true }
 {
+    let nfa = whole.nfa();
     let mut lazy = Lazy::new(rt.alloc(), nfa, MatchKind::LeftmostFirst, 50);
     expect_all(rt, &mut Plain::new(nfa, &mut lazy), input, wanted);
     expect_all(rt, &mut Plain::new(nfa, whole), input, wanted);
@@ -104,8 +99,29 @@ fn expect_by_lazy_and_whole<R: Abort + AllocGlobal>(
     expect_all(rt, &mut regex, input, wanted);
 }
 
-/// Asserts it of each finder that has a whole DFA of an NFA or of its reverse.
+/// Asserts it of two whole DFAs, and of each of them by itself or with a lazy one.
 fn expect_by_each<R: Abort + AllocGlobal>(
+    rt: &R,
+    ends: &Dfa<'_>,
+    starts: &Dfa<'_>,
+    input: &Input<'_>,
+    wanted: &[Match],
+)
+    requires kind { ends.now.kind ≡ kinds.LeftmostFirst }
+    requires kind_of_starts { starts.now.kind ≡ kinds.All }
+    requires forward { ends.now.nfa.reverse ≡ false }
+    requires prefix { HasPrefix ends.now.nfa }
+    requires reverse { IsReverseOf starts.now.nfa ends.now.nfa }
+    requires start { has_start input.now.anchored ≡ true }
+{
+    expect_in_turn(rt, ends, input, wanted);
+    expect_all(rt, &mut Regex::from_engines(ends, starts), input, wanted);
+    expect_by_whole_and_lazy(rt, ends, starts.nfa(), input, wanted);
+    expect_by_lazy_and_whole(rt, ends.nfa(), starts, input, wanted);
+}
+
+/// Asserts it of each finder that has a whole DFA of an NFA or of its reverse.
+fn expect_by_whole<R: Abort + AllocGlobal>(
     rt: &R,
     nfa: &NFA,
     backward: &NFA,
@@ -119,44 +135,31 @@ fn expect_by_each<R: Abort + AllocGlobal>(
 {
     let ends = dense::dfa(rt, nfa, MatchKind::LeftmostFirst, 1000);
     let starts = dense::dfa(rt, backward, MatchKind::All, 1000);
-    expect_in_turn(rt, nfa, &ends, input, wanted);
-    expect_all(rt, &mut Regex::from_engines(&ends, &starts), input, wanted);
-    expect_by_whole_and_lazy(rt, &ends, backward, input, wanted);
-    expect_by_lazy_and_whole(rt, nfa, &starts, input, wanted);
+    expect_by_each(rt, &ends, &starts, input, wanted);
+}
+
+/// Returns the matches of an input by two lazy DFAs, and asserts that the first one is found first.
+fn found_by_lazy<R: Abort + AllocGlobal>(
+    rt: &R,
+    regex: &mut LazyRegex<'_>,
+    input: &Input<'_>,
+) -> Vec<Match>
+    requires start { has_start input.now.anchored ≡ true }
+{
+    let wanted = regex.find_all(rt.alloc(), input).expect(rt, "memory");
+    expect_all(rt, regex, input, wanted.as_slice());
+    wanted
 }
 
 /// Compares the matches of an input by each finder with those by two lazy DFAs.
-fn expect_input<R: Abort + AllocGlobal>(rt: &R, nfa: &NFA, backward: &NFA, input: &Input<'_>)
+pub fn expect_input<R: Abort + AllocGlobal>(rt: &R, nfa: &NFA, backward: &NFA, input: &Input<'_>)
     requires forward { nfa.now.reverse ≡ false }
     requires prefix { HasPrefix nfa.now }
     requires reverse { IsReverseOf backward.now nfa.now }
     requires start { has_start input.now.anchored ≡ true }
 {
-    let mut regex = Regex::new(rt.alloc(), nfa, backward, 50);
-    let wanted = regex.find_all(rt.alloc(), input).expect(rt, "memory");
-    expect_all(rt, &mut regex, input, wanted.as_slice());
-    expect_by_each(rt, nfa, backward, input, wanted.as_slice());
-}
-
-/// Compares the matches of the text of a walk, anywhere and at its start.
-fn expect_walk<R: Abort + AllocGlobal>(rt: &R, fields: &Fields<'_>) {
-    let nfa = prefixed(rt, fields);
-    let backward = backward_of(rt, &nfa);
-    let place = Place::of(rt, fields);
-    expect_input(rt, &nfa, &backward, &place.input(rt, Anchored::No));
-    expect_input(rt, &nfa, &backward, &place.input(rt, Anchored::Yes));
-}
-
-/// Each finder finds the same matches of the 45 examples and of the stored walks.
-#[test]
-fn same_matches(rt: HostRuntime) {
-    for example in examples() {
-        expect_walk(&rt, &example.fields());
-    }
-    for line in STORED.lines() {
-        let (job, _) = line.split_once(" = ").expect(&rt, "a job and a match");
-        expect_walk(&rt, Job::read(job).expect(&rt, "a job").fields());
-    }
+    let wanted = found_by_lazy(rt, &mut Regex::new(rt.alloc(), nfa, backward, 50), input);
+    expect_by_whole(rt, nfa, backward, input, wanted.as_slice());
 }
 
 /// Compares all matches of an NFA that has no prefix, with their patterns and ends.
@@ -184,14 +187,17 @@ fn expect_memory<R: Abort>(rt: &R, regex: &OwnedRegex) {
     same(rt, regex.memory_usage(), forward.saturating_add(backward));
 }
 
-/// The memory of both caches after a search, and once they are cleared.
+/// Compares the memory of both caches after a search, and once they are cleared.
+fn expect_caches<R: Abort>(rt: &R, regex: &mut OwnedRegex) {
+    let found = regex.find(&Input::new(b"abcd e"));
+    holds(rt, found.expect(rt, "memory").is_some());
+    expect_memory(rt, regex);
+    regex.clear();
+    same(rt, regex.memory_usage(), 0);
+}
+
 #[test]
 fn memory_of_both_caches(rt: HostRuntime) {
     let made = OwnedRegex::from_nfa(rt.alloc(), nfa(&rt, WORDS), 100);
-    let mut regex = made.expect(&rt, "a regex");
-    let found = regex.find(&Input::new(b"abcd e"));
-    holds(&rt, found.expect(&rt, "memory").is_some());
-    expect_memory(&rt, &regex);
-    regex.clear();
-    same(&rt, regex.memory_usage(), 0);
+    expect_caches(&rt, &mut made.expect(&rt, "a regex"));
 }

@@ -1,11 +1,11 @@
 //! The bytes of each match of a text in pieces, which are kept until the search continues.
 
-use crate::tests::find::{Row, WORDS, backward_of, expect_matches, nfa};
+use crate::tests::find::{Row, Search, WORDS, backward_of, expect_matches, nfa};
+use crate::tests::trial::{Trial, fail_each_in_turn, succeed_if};
 use crate::tests::{holds, same};
 use determinize_below::PatternID;
 use determinize_find::{LazyRegex, Match, Pieces, Regex};
 use determinize_regex::Stream;
-use determinize_replay::failing_alloc::{FailingAllocator, Outcome, fail_each_allocation};
 use std::alloc::{AllocError, Allocator, Global};
 use std::process::Abort;
 
@@ -39,21 +39,7 @@ fn expect_bytes<R: Abort, A: Allocator + Copy>(
     same(rt, stream.bytes_of(found), text.get(found.range()));
 }
 
-/// Returns the next match, and makes a call that fails again, with what is left of the piece.
-fn next<B: Allocator, A: Allocator + Copy>(
-    stream: &mut Pieces<A>,
-    regex: &mut LazyRegex<'_, Global, B, A>,
-    piece: &mut &[u8],
-    is_sound: &mut bool,
-) -> Result<Option<Match>, AllocError> {
-    let Ok(next) = stream.advance(regex, piece) else {
-        *is_sound = false;
-        return stream.advance(regex, piece);
-    };
-    Ok(next)
-}
-
-/// Adds the matches that are certain after a piece.
+/// Adds the matches that are certain after a piece. A call that fails is made again, once.
 fn read_piece<R: Abort, B: Allocator, A: Allocator + Copy>(
     rt: &R,
     stream: &mut Pieces<A>,
@@ -64,11 +50,15 @@ fn read_piece<R: Abort, B: Allocator, A: Allocator + Copy>(
     is_sound: &mut bool,
 ) -> Result<(), AllocError> {
     for _ in 0..u64::MAX {
-        let Some(next) = next(stream, regex, &mut piece, is_sound)? else {
-            break;
-        };
-        expect_bytes(rt, stream, text, &next);
-        found.push(next)?;
+        match stream.advance(regex, &mut piece) {
+            Ok(Some(next)) => {
+                expect_bytes(rt, stream, text, &next);
+                found.push(next)?;
+            }
+            Ok(None) => break,
+            Err(_) if *is_sound => *is_sound = false,
+            Err(error) => return Err(error),
+        }
     }
     holds(rt, piece.is_empty());
     Ok(())
@@ -88,13 +78,13 @@ fn finish<R: Abort, B: Allocator, A: Allocator + Copy>(
         *is_sound = false;
         stream.finish(regex, found)?;
     }
-    for found in found.get(count..).unwrap_or(&[]) {
-        expect_bytes(rt, stream, text, found);
+    for index in count..found.len() {
+        expect_bytes(rt, stream, text, &found[index]);
     }
     Ok(())
 }
 
-/// Finds the matches of a row in pieces of this size. Returns whether no call failed.
+/// Finds the matches of a row in pieces, and returns an error if a call failed and was made again.
 fn read_row<R: Abort, B: Allocator, A: Allocator + Copy>(
     rt: &R,
     stream: &mut Pieces<A>,
@@ -102,44 +92,34 @@ fn read_row<R: Abort, B: Allocator, A: Allocator + Copy>(
     row: &Row,
     size: usize,
     found: &mut Vec<Match>,
-) -> Result<bool, AllocError> {
+) -> Result<(), AllocError> {
     let mut is_sound = true;
     for piece in row.haystack.chunks(size.max(1)) {
         read_piece(rt, stream, regex, row.haystack, piece, found, &mut is_sound)?;
     }
     finish(rt, stream, regex, row.haystack, found, &mut is_sound)?;
     expect_matches(rt, found, row.matches);
-    Ok(is_sound)
+    succeed_if(is_sound)
 }
 
-/// Finds the matches of a row while an allocation may fail, and returns whether none failed.
-fn has_run<R: Abort + AllocGlobal>(
+/// Finds the matches of a row in pieces of this size, and compares their bytes.
+pub fn read_pieces<R: Abort + AllocGlobal, B: Allocator, A: Allocator + Copy>(
     rt: &R,
-    heap: &FailingAllocator<Global>,
+    alloc: A,
+    regex: &mut LazyRegex<'_, Global, B, A>,
     row: &Row,
     size: usize,
-) -> Result<bool, AllocError> {
-    let nfa = nfa(rt, row.states);
-    let backward = backward_of(rt, &nfa);
-    let mut regex = Regex::new(heap, &nfa, &backward, 3);
-    let (mut stream, mut found) = (Pieces::new(heap), Vec::new(rt.alloc()));
-    heap.begin();
-    let outcome = read_row(rt, &mut stream, &mut regex, row, size, &mut found);
-    heap.end();
-    Ok(outcome.unwrap_or(false))
+) -> Result<(), AllocError> {
+    let (mut stream, mut found) = (Pieces::new(alloc), Vec::new(rt.alloc()));
+    read_row(rt, &mut stream, regex, row, size, &mut found)
 }
 
-/// Finds the matches of a row in pieces of this size, with each allocation failing in turn.
-fn expect_row<R: Abort + AllocGlobal>(rt: &R, row: &Row, size: usize) {
-    let outcome = fail_each_allocation(rt.alloc(), |heap| has_run(rt, heap, row, size));
-    same(rt, outcome.expect(rt, "no other error"), Outcome::Sound);
-}
-
+/// The bytes of each match, with each allocation failing in turn.
 #[test]
 fn bytes_of_each_match(rt: HostRuntime) {
     for row in &ROWS {
         for size in 1..=row.haystack.len() {
-            expect_row(&rt, row, size);
+            fail_each_in_turn(&rt, &Trial::Search(row, 3, &Search::Bytes(size)));
         }
     }
 }
@@ -185,35 +165,32 @@ fn dropped_bytes(rt: HostRuntime) {
     expect_sevens(&rt, &mut Pieces::new(rt.alloc()), &mut regex);
 }
 
-/// Compares the next match in a piece of a text, and its bytes, or that there is none.
-fn expect_next<R: Abort>(
-    rt: &R,
-    stream: &mut Stream<'_>,
-    piece: &mut &[u8],
-    wanted: Option<(usize, &[u8])>,
-) {
-    match (stream.advance(piece).expect(rt, "memory"), wanted) {
-        (Some(found), Some((start, bytes))) => {
-            same(rt, found.start, start);
-            same(rt, stream.bytes_of(&found), Some(bytes));
-        }
-        (found, wanted) => holds(rt, found.is_none() && wanted.is_none() && piece.is_empty()),
-    }
-}
+/// The start and the bytes of a word.
+type Word = (usize, &'static [u8]);
 
-/// Finds two words in a piece, and one that ends in the next piece.
-fn expect_words<R: Abort>(rt: &R, stream: &mut Stream<'_>) {
-    let mut first = b"ab, cd, e".as_slice();
-    expect_next(rt, stream, &mut first, Some((0, b"ab")));
-    expect_next(rt, stream, &mut first, Some((4, b"cd")));
-    expect_next(rt, stream, &mut first, None);
-    let mut second = b"f;".as_slice();
-    expect_next(rt, stream, &mut second, Some((8, b"ef")));
-    expect_next(rt, stream, &mut second, None);
+/// A text in two pieces, with the words that end in each.
+static PIECES: [(&[u8], &[Word]); 2] = [
+    (b"ab, cd, e", &[(0, b"ab"), (4, b"cd")]),
+    (b"f;", &[(8, b"ef")]),
+];
+
+/// Compares the words in a piece.
+fn expect_piece<R: Abort>(rt: &R, stream: &mut Stream<'_>, mut piece: &[u8], wanted: &[Word]) {
+    for &(start, bytes) in wanted {
+        let found = stream.advance(&mut piece).expect(rt, "memory");
+        let found = found.expect(rt, "a word");
+        same(rt, found.start, start);
+        same(rt, stream.bytes_of(&found), Some(bytes));
+    }
+    same(rt, stream.advance(&mut piece), Ok(None));
+    holds(rt, piece.is_empty());
 }
 
 #[test]
 fn bytes_of_patterns(rt: HostRuntime) {
     let regex = determinize_regex::Regex::new(rt.alloc(), "[a-z]+").expect(&rt, "a regex");
-    expect_words(&rt, &mut regex.stream(rt.alloc(), 100));
+    let mut stream = regex.stream(rt.alloc(), 100);
+    for &(piece, wanted) in &PIECES {
+        expect_piece(&rt, &mut stream, piece, wanted);
+    }
 }

@@ -115,18 +115,19 @@ fn split_and_replace_utf8(rt: HostRuntime) {
 /// The numbers and names in the text.
 static FOUND: [Ends; 3] = [(1, 0, 2), (0, 3, 7), (1, 8, 11)];
 
-/// Feeds a piece.
-fn feed<R: Abort>(rt: &R, stream: &mut Stream<'_>, piece: &[u8], found: &mut Vec<Match>) {
-    stream.feed(piece, found).expect(rt, "memory");
-}
+/// The text in two pieces, with those of them that are found after each. The year lies in both, and
+/// the last name may go on.
+static PIECES: [(&[u8], &[Ends]); 2] = [
+    (b"In 19", &[(1, 0, 2)]),
+    (b"84 Ada", &[(1, 0, 2), (0, 3, 7)]),
+];
 
-/// Feeds a text in two pieces. The year lies in both, and the last name may go on. It, the byte
-/// before it and the one before these are kept.
+/// Feeds the pieces. The last name, the byte before it and the one before these are kept.
 fn expect_pieces<R: Abort>(rt: &R, stream: &mut Stream<'_>, found: &mut Vec<Match>) {
-    feed(rt, stream, b"In 19", found);
-    expect_matches(rt, found, &FOUND[..1]);
-    feed(rt, stream, b"84 Ada", found);
-    expect_matches(rt, found, &FOUND[..2]);
+    for &(piece, wanted) in &PIECES {
+        stream.feed(piece, found).expect(rt, "memory");
+        expect_matches(rt, found, wanted);
+    }
     same(rt, (stream.bytes_read(), stream.bytes_kept()), (11, 5));
     stream.finish(found).expect(rt, "memory");
     expect_matches(rt, found, &FOUND);

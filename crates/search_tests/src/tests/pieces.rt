@@ -1,5 +1,9 @@
 //! A text in pieces: each match is found with its last byte, and few bytes are kept.
 
+ghost use Rattle.std.specs.Prelude.{◌≡◌, false};
+ghost use Rattle.determinize_find.specs.Prefix.{HasPrefix};
+ghost use Rattle.determinize_find.specs.Reversal.{IsReverseOf};
+
 use crate::tests::find::{Ends, WORDS, backward_of, expect_matches, nfa, same_end};
 use crate::tests::{dense, ended, holds, same};
 use determinize_below::{MatchKind, NFA};
@@ -17,6 +21,9 @@ const LINES: &[u8] = b"ab\n\nc d\n\n\ne";
 
 /// The same, line by line.
 static EACH_LINE: [&[u8]; 6] = [b"ab\n", b"\n", b"c d\n", b"\n", b"\n", b"e"];
+
+/// How many lines have ended after each number of bytes.
+static ENDED: [usize; 12] = [0, 0, 0, 1, 2, 2, 2, 2, 3, 4, 5, 5];
 
 /// The lines that end.
 const MATCHES: &[Ends] = &[(0, 0, 3), (0, 3, 4), (0, 4, 8), (0, 8, 9), (0, 9, 10)];
@@ -92,17 +99,6 @@ fn hundred_megabytes(rt: HostRuntime) {
     expect_words(&rt, &mut Regex::new(rt.alloc(), &nfa, &backward, 100));
 }
 
-/// Returns the number of lines that end in a piece.
-fn ended_lines(piece: &[u8]) -> usize {
-    let mut count = 0usize;
-    for byte in piece {
-        if *byte == b'\n' {
-            count = count.saturating_add(1);
-        }
-    }
-    count
-}
-
 /// Feeds a text in pieces. After each piece there must be a match for each line that has ended.
 fn feed_lines<R: Abort, B: Engine<Error = AllocError>>(
     rt: &R,
@@ -111,11 +107,11 @@ fn feed_lines<R: Abort, B: Engine<Error = AllocError>>(
     pieces: &[&[u8]],
     found: &mut Vec<Match>,
 ) {
-    let mut count = 0usize;
+    let mut read = 0usize;
     for piece in pieces {
         put(rt, stream, regex, piece, found);
-        count = count.saturating_add(ended_lines(piece));
-        same(rt, found.len(), count);
+        read = read.saturating_add(piece.len());
+        same(rt, Some(found.len()), ENDED.get(read).copied());
     }
     end(rt, stream, regex, found);
     expect_matches(rt, found, MATCHES);
@@ -143,14 +139,23 @@ fn expect_each<R: Abort + AllocGlobal, B: Engine<Error = AllocError>>(
     }
 }
 
+/// Finds the lines by a lazy DFA that finds the ends and a whole one that finds the starts.
+fn expect_by_whole<R: Abort + AllocGlobal>(rt: &R, nfa: &NFA, backward: &NFA)
+    requires forward { nfa.now.reverse ≡ false }
+    requires prefix { HasPrefix nfa.now }
+    requires reverse { IsReverseOf backward.now nfa.now }
+{
+    let starts = dense::dfa(rt, backward, MatchKind::All, 1000);
+    let ends = Lazy::new(rt.alloc(), nfa, MatchKind::LeftmostFirst, 100);
+    expect_each(rt, &mut Regex::from_engines(ends, WithAllocError(&starts)));
+}
+
 #[test]
 fn each_line_at_its_last_byte(rt: HostRuntime) {
     let nfa = nfa(&rt, LINE);
     let backward = backward_of(&rt, &nfa);
     expect_each(&rt, &mut Regex::new(rt.alloc(), &nfa, &backward, 100));
-    let starts = dense::dfa(&rt, &backward, MatchKind::All, 1000);
-    let ends = Lazy::new(rt.alloc(), &nfa, MatchKind::LeftmostFirst, 100);
-    expect_each(&rt, &mut Regex::from_engines(ends, WithAllocError(&starts)));
+    expect_by_whole(&rt, &nfa, &backward);
 }
 
 /// Feeds `b` to a scan of `a`, which another cache must not feed or finish.

@@ -4,14 +4,14 @@ ghost use Rattle.std.specs.Prelude.{◌≡◌, false};
 ghost use Rattle.determinize_below.specs.declared.search.MatchKind.TheVariants as kinds;
 ghost use Rattle.determinize_find.specs.Prefix.{HasPrefix};
 
-use crate::tests::find::{WORDS, backward_of, expect_same, expect_search, nfa};
+use crate::tests::find::{WORDS, backward_of, expect_same, nfa, same_end};
 use crate::tests::pieces::{end, put};
 use crate::tests::uses::over;
 use crate::tests::{dense, ended, holds, same};
-use determinize_below::{Anchored, HalfMatch, Input, Look, MatchKind, NFA, PatternID, StateID};
+use determinize_below::{Anchored, HalfMatch, Input, Look, MatchKind, NFA, StateID};
 use determinize_dense::Dfa;
 use determinize_find::{Builder, LazyRegex, Match, Pieces, Regex, plain};
-use determinize_lazy::{Lazy, Scan};
+use determinize_lazy::Lazy;
 use std::alloc::Global;
 use std::process::Abort;
 
@@ -57,23 +57,40 @@ fn add_three<R: Abort>(rt: &R, builder: &mut Builder<Global>) -> StateID {
     first.expect(rt, "memory")
 }
 
-/// A text that the last pattern matches.
-static RUN: [u8; 40] = [b'e'; 40];
+/// Texts, and the pattern and the end of the match at their start.
+static TEXTS: [(&[u8], Option<(usize, usize)>); 4] = [
+    (b"a", Some((0, 1))),
+    (b"d", Some((1, 1))),
+    (&[b'e'; 40], Some((2, 40))),
+    (b"xa", None),
+];
 
-/// Searches a text from its start, and compares the pattern and the end of the match.
-fn expect_match<R: Abort>(rt: &R, lazy: &mut Lazy<'_>, text: &[u8], wanted: Option<HalfMatch>) {
-    let input = Input::new(text).anchored(Anchored::Yes);
-    expect_search(rt, lazy, &input, wanted);
+/// A text that the last pattern matches, as pattern 0 of a reverse, and one that is too short.
+static RUNS: [(&[u8], Option<(usize, usize)>); 2] = [
+    (&[b'e'; 40], Some((0, 40))),
+    (&[b'e'; 39], None),
+];
+
+/// Searches texts from their starts, and compares the pattern and the end of the matches.
+fn expect_texts<R: Abort + AllocGlobal>(
+    rt: &R,
+    nfa: &NFA,
+    texts: &[(&[u8], Option<(usize, usize)>)],
+) {
+    let mut lazy = Lazy::new(rt.alloc(), nfa, MatchKind::LeftmostFirst, 100);
+    for &(text, wanted) in texts {
+        let input = Input::new(text).anchored(Anchored::Yes);
+        let found = lazy.search_input(&input).expect(rt, "memory");
+        same(rt, pattern_and_end(found), wanted);
+    }
 }
 
-/// Compares the pattern that matches at the start of each of four texts.
-fn expect_three<R: Abort + AllocGlobal>(rt: &R, nfa: &NFA) {
-    let mut lazy = Lazy::new(rt.alloc(), nfa, MatchKind::LeftmostFirst, 100);
-    let (second, third) = (PatternID::must(1), PatternID::must(2));
-    expect_match(rt, &mut lazy, b"a", ended(1));
-    expect_match(rt, &mut lazy, b"d", Some(HalfMatch::new(second, 1)));
-    expect_match(rt, &mut lazy, &RUN, Some(HalfMatch::new(third, 40)));
-    expect_match(rt, &mut lazy, b"xa", None);
+/// Returns the pattern and the end of a match.
+fn pattern_and_end(found: Option<HalfMatch>) -> Option<(usize, usize)> {
+    match found {
+        Some(half) => Some((half.pattern.as_usize(), half.offset)),
+        None => None,
+    }
 }
 
 /// The reverse of the reverse of an NFA reads forward, and a run of 40 letters matches as before,
@@ -82,18 +99,16 @@ fn expect_reversed<R: Abort + AllocGlobal>(rt: &R, nfa: &NFA) {
     let once = backward_of(rt, nfa);
     let twice = backward_of(rt, &once);
     same(rt, (once.is_reverse(), twice.is_reverse()), (true, false));
-    let mut lazy = Lazy::new(rt.alloc(), &twice, MatchKind::LeftmostFirst, 100);
-    expect_match(rt, &mut lazy, &RUN, ended(40));
-    expect_match(rt, &mut lazy, &RUN[..39], None);
+    expect_texts(rt, &twice, &RUNS);
 }
 
 /// Builds an NFA of these states without the usual prefix, and one with it.
 fn expect_built<R: Abort + AllocGlobal>(rt: &R, builder: &Builder<Global>, start: StateID) {
     let nfa = builder.build(start, StateID::ZERO).expect(rt, "an NFA");
-    expect_three(rt, &nfa);
+    expect_texts(rt, &nfa, &TEXTS);
     expect_reversed(rt, &nfa);
     let prefixed = builder.build_with_prefix(start).expect(rt, "an NFA");
-    expect_three(rt, &prefixed);
+    expect_texts(rt, &prefixed, &TEXTS);
 }
 
 #[test]
@@ -171,36 +186,16 @@ fn expect_plain<R: Abort + AllocGlobal>(rt: &R, lazy: &mut Lazy<'_>, text: &[u8]
     same(rt, plain::find(lazy, &Input::new(&[b' '; 40])), Ok(None));
 }
 
-/// Returns the last match of a scan whose text ends.
-fn finished<R: Abort>(rt: &R, lazy: &mut Lazy<'_>, scan: &Scan) -> Option<HalfMatch> {
-    lazy.finish(scan, None).expect(rt, "memory")
-}
-
-/// Returns the last match of a text by a scan that begins before it.
-fn fed<R: Abort>(rt: &R, lazy: &mut Lazy<'_>, text: &[u8]) -> Option<HalfMatch> {
-    let start = lazy.nfa().start_unanchored();
-    let mut scan = lazy.scan(start, None).expect(rt, "memory");
-    lazy.feed(&mut scan, text).expect(rt, "memory");
-    finished(rt, lazy, &scan)
-}
-
-/// Returns the last match of a text by a scan of it all.
-fn scanned<R: Abort>(rt: &R, lazy: &mut Lazy<'_>, text: &[u8]) -> Option<HalfMatch> {
-    let start = lazy.nfa().start_unanchored();
-    let scan = lazy.scan_text(start, None, text).expect(rt, "memory");
-    finished(rt, lazy, &scan)
-}
-
-/// Returns the number of states of a walk over a text.
-fn walked<R: Abort>(rt: &R, lazy: &mut Lazy<'_>, text: &[u8]) -> usize {
-    let start = lazy.nfa().start_unanchored();
-    lazy.walk(start, None, text).expect(rt, "memory").len()
-}
-
-/// Scans a text twice, and walks over it.
+/// Scans a text by a scan that begins before it and by one of it all, and walks over it.
 fn expect_scans<R: Abort>(rt: &R, lazy: &mut Lazy<'_>, text: &[u8]) {
-    same(rt, fed(rt, lazy, text), scanned(rt, lazy, text));
-    same(rt, walked(rt, lazy, text), text.len().saturating_add(2));
+    let start = lazy.nfa().start_unanchored();
+    let mut fed = lazy.scan(start, None).expect(rt, "memory");
+    lazy.feed(&mut fed, text).expect(rt, "memory");
+    let scanned = lazy.scan_text(start, None, text).expect(rt, "memory");
+    let found = lazy.finish(&fed, None).expect(rt, "memory");
+    same_end(rt, lazy.finish(&scanned, None), found);
+    let states = lazy.walk(start, None, text).expect(rt, "memory");
+    same(rt, states.len(), text.len().saturating_add(2));
 }
 
 /// Finds all words of a text, whole and in one piece.

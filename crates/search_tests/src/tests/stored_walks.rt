@@ -4,10 +4,12 @@
 ghost use Rattle.std.specs.Prelude.{◌≡◌, false, true};
 ghost use Rattle.determinize_below.specs.declared.search.MatchKind.TheVariants as kinds;
 ghost use Rattle.determinize_find.specs.Prefix.{HasPrefix};
+ghost use Rattle.determinize_find.specs.Reversal.{IsReverseOf};
 ghost use Rattle.determinize_engine.specs.Searches.{has_start};
 
 use crate::tests::find::{backward_of, expect_same};
-use crate::tests::{expect_text, same};
+use crate::tests::finders::expect_input;
+use crate::tests::{expect_text, holds, same};
 use determinize_below::nfa::State;
 use determinize_below::{Anchored, HalfMatch, Input, MatchKind, NFA, StateID, Transition};
 use determinize_find::{LazyRegex, Match, Regex, plain, prefix};
@@ -129,6 +131,12 @@ fn add_prefix<R: Abort>(rt: &R, states: &mut Vec<State>, start: StateID) -> Stat
     any
 }
 
+/// Returns the states of the NFA of a walk.
+fn states_of<R: Abort + AllocGlobal>(rt: &R, fields: &Fields<'_>) -> Vec<State> {
+    let states = states::states(rt.alloc(), fields.states.unwrap_or(""));
+    states.expect(rt, "states")
+}
+
 /// Returns the NFA of a walk for forward scans, with the usual prefix before its start.
 pub fn prefixed<R: Abort + AllocGlobal>(rt: &R, fields: &Fields<'_>) -> NFA
     ensures forward { result.reverse ≡ false }
@@ -136,12 +144,11 @@ pub fn prefixed<R: Abort + AllocGlobal>(rt: &R, fields: &Fields<'_>) -> NFA
 {
     let start = fields.start().expect(rt, "a start");
     let matcher = fields.matcher().expect(rt, "a line terminator");
-    let states = states::states(rt.alloc(), fields.states.unwrap_or(""));
-    let mut states = states.expect(rt, "states");
+    let mut states = states_of(rt, fields);
     let any = add_prefix(rt, &mut states, start);
     let nfa = NFA::from_parts(rt.alloc(), states, start, any, false, matcher);
     let nfa = nfa.expect(rt, "an NFA");
-    assert!(rt; prefix::has_prefix(&nfa));
+    holds(rt, prefix::has_prefix(&nfa));
     nfa
 }
 
@@ -200,14 +207,31 @@ fn expect_place<R: Abort + AllocGlobal>(
     first
 }
 
-/// Returns the match of the text of a walk by [`expect_place`], through new caches of its NFA with
-/// the usual prefix, and of the reverse.
+/// Returns the match of the text of a walk by [`expect_place`], through new caches. Asserts that
+/// each finder finds the same matches, anywhere and at the start of the text.
+fn expect_finders<R: Abort + AllocGlobal>(
+    rt: &R,
+    nfa: &NFA,
+    backward: &NFA,
+    place: &Place,
+) -> Option<Match>
+    requires forward { nfa.now.reverse ≡ false }
+    requires prefix { HasPrefix nfa.now }
+    requires reverse { IsReverseOf backward.now nfa.now }
+{
+    expect_input(rt, nfa, backward, &place.input(rt, Anchored::No));
+    expect_input(rt, nfa, backward, &place.input(rt, Anchored::Yes));
+    let mut lazy = Lazy::new(rt.alloc(), nfa, MatchKind::LeftmostFirst, 50);
+    let mut regex = Regex::new(rt.alloc(), nfa, backward, 50);
+    expect_place(rt, &mut lazy, &mut regex, place)
+}
+
+/// Returns the match of the text of a walk by [`expect_finders`], of its NFA with the usual prefix,
+/// and of the reverse.
 fn expect_walk<R: Abort + AllocGlobal>(rt: &R, fields: &Fields<'_>) -> Option<Match> {
     let nfa = prefixed(rt, fields);
     let backward = backward_of(rt, &nfa);
-    let mut lazy = Lazy::new(rt.alloc(), &nfa, MatchKind::LeftmostFirst, 50);
-    let mut regex = Regex::new(rt.alloc(), &nfa, &backward, 50);
-    expect_place(rt, &mut lazy, &mut regex, &Place::of(rt, fields))
+    expect_finders(rt, &nfa, &backward, &Place::of(rt, fields))
 }
 
 /// Asserts that the leftmost match that begins with the text is the last match of the walk. Under
@@ -231,6 +255,7 @@ fn expect_line<R: Abort + AllocGlobal>(rt: &R, line: &str) {
     expect_stored(rt, Job::read(job).expect(rt, "a job").fields(), last);
 }
 
+/// The matches of the 45 examples and of the stored walks.
 #[test]
 fn stored_walks(rt: HostRuntime) {
     for example in examples() {

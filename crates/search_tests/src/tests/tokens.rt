@@ -95,18 +95,34 @@ fn expect_bytes<R: Abort>(rt: &R, found: &[Match]) {
     }
 }
 
+/// Asserts that each of many bytes `a` is a token.
+fn expect_many<R: Abort + AllocGlobal>(rt: &R, dfa: &Dfa<'_>)
+    requires forward { dfa.now.nfa.reverse ≡ false }
+    requires kind { dfa.now.kind ≡ kinds.All }
+{
+    let text = Vec::from_elem(rt.alloc(), b'a', 20_000).expect(rt, "memory");
+    let found = tokens::tokens(rt.alloc(), dfa, &text).expect(rt, "memory");
+    same(rt, found.len(), 20_000);
+    expect_bytes(rt, &found);
+}
+
+/// Asserts that those of a few bytes are those that a cache finds.
+fn expect_few<R: Abort + AllocGlobal>(rt: &R, dfa: &Dfa<'_>)
+    requires forward { dfa.now.nfa.reverse ≡ false }
+    requires kind { dfa.now.kind ≡ kinds.All }
+{
+    let some = b"aaaaaaaaaa";
+    let found = tokens::tokens(rt.alloc(), dfa, some).expect(rt, "memory");
+    let mut lazy = Lazy::new(rt.alloc(), dfa.nfa(), MatchKind::All, 100);
+    let wanted = lexer::tokens(rt.alloc(), &mut lazy, some).expect(rt, "memory");
+    expect_same(rt, found.as_slice(), wanted.as_slice());
+}
+
 /// Of bytes `a` each is a token, behind which the others are read: there may be a `b`.
 #[test]
 fn quadratic_by_other_lexers(rt: HostRuntime) {
     let regex = Regex::new(rt.alloc(), "a|a*b").expect(&rt, "a pattern");
     let dfa = tokens::lexer_of(rt.alloc(), regex.nfa()).expect(&rt, "few states");
-    let text = Vec::from_elem(rt.alloc(), b'a', 20_000).expect(&rt, "memory");
-    let found = tokens::tokens(rt.alloc(), &dfa, &text).expect(&rt, "memory");
-    same(&rt, found.len(), 20_000);
-    expect_bytes(&rt, &found);
-    let some = b"aaaaaaaaaa";
-    let found = tokens::tokens(rt.alloc(), &dfa, some).expect(&rt, "memory");
-    let mut lazy = Lazy::new(rt.alloc(), regex.nfa(), MatchKind::All, 100);
-    let wanted = lexer::tokens(rt.alloc(), &mut lazy, some).expect(&rt, "memory");
-    expect_same(&rt, found.as_slice(), wanted.as_slice());
+    expect_many(&rt, &dfa);
+    expect_few(&rt, &dfa);
 }

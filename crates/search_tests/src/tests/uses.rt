@@ -20,7 +20,11 @@ use std::process::Abort;
 
 /// Compares the ids of a set, in their order.
 fn expect_ids<R: Abort>(rt: &R, set: &SparseSet, wanted: &[StateID]) {
-    holds(rt, set.iter().eq(wanted.iter().copied()));
+    let mut ids = set.iter();
+    for id in wanted {
+        same(rt, ids.next(), Some(*id));
+    }
+    same(rt, ids.next(), None);
 }
 
 /// Compares a set of assertions.
@@ -149,10 +153,14 @@ fn lines<A: Allocator + Copy>(alloc: A, has_prefix: bool) -> Result<NFA<A>, Buil
     build_lines(&mut builder, has_prefix)
 }
 
-/// Searches two texts, of which only the first has a line.
+/// Two texts, of which only the first has a line, and the ends of their matches.
+static LINES: [(&[u8], usize); 2] = [(b"b!;a", 2), (b"b!b", 0)];
+
+/// Searches these texts.
 fn search_lines<R: Abort, N: Allocator>(rt: &R, lazy: &mut Lazy<'_, N>) {
-    expect_search(rt, lazy, &Input::new(b"b!;a"), ended(2));
-    expect_search(rt, lazy, &Input::new(b"b!b"), ended(0));
+    for &(text, end) in &LINES {
+        expect_search(rt, lazy, &Input::new(text), ended(end));
+    }
 }
 
 /// Compares the number of states of an NFA, and searches with it.
