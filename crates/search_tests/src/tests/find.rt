@@ -291,9 +291,9 @@ fn advance_over<R: Abort, A: Allocator + Copy>(
 }
 
 /// Feeds a piece, and if that fails, the part of it that was not read.
-fn feed_piece<B: Allocator, A: Allocator + Copy>(
+fn feed_piece<A: Allocator + Copy>(
     stream: &mut Pieces<A>,
-    regex: &mut LazyRegex<'_, Global, B, A>,
+    regex: &mut LazyRegex<'_, Global, A, A>,
     piece: &[u8],
     found: &mut Vec<Match, A>,
     is_sound: &mut bool,
@@ -308,10 +308,10 @@ fn feed_piece<B: Allocator, A: Allocator + Copy>(
 }
 
 /// Feeds pieces and ends the text, and ends it again if that fails. Compares the matches.
-fn feed_all<R: Abort, B: Allocator, A: Allocator + Copy>(
+fn feed_all<R: Abort, A: Allocator + Copy>(
     rt: &R,
     stream: &mut Pieces<A>,
-    regex: &mut LazyRegex<'_, Global, B, A>,
+    regex: &mut LazyRegex<'_, Global, A, A>,
     pieces: &[&[u8]],
     found: &mut Vec<Match, A>,
     wanted: &[Ends],
@@ -330,10 +330,10 @@ fn feed_all<R: Abort, B: Allocator, A: Allocator + Copy>(
 
 /// Feeds a text in pieces, and makes each call that fails again, for the bytes that it did not
 /// read: no match is lost, and none is found twice.
-fn feed<R: Abort, B: Allocator, A: Allocator + Copy>(
+fn feed<R: Abort, A: Allocator + Copy>(
     rt: &R,
     alloc: A,
-    regex: &mut LazyRegex<'_, Global, B, A>,
+    regex: &mut LazyRegex<'_, Global, A, A>,
     pieces: &[&[u8]],
     wanted: &[Ends],
 ) -> Result<(), AllocError> {

@@ -40,10 +40,10 @@ fn expect_bytes<R: Abort, A: Allocator + Copy>(
 }
 
 /// Adds the matches that are certain after a piece. A call that fails is made again, once.
-fn read_piece<R: Abort, B: Allocator, A: Allocator + Copy>(
+fn read_piece<R: Abort, A: Allocator + Copy>(
     rt: &R,
     stream: &mut Pieces<A>,
-    regex: &mut LazyRegex<'_, Global, B, A>,
+    regex: &mut LazyRegex<'_, Global, A, A>,
     text: &[u8],
     mut piece: &[u8],
     found: &mut Vec<Match>,
@@ -65,10 +65,10 @@ fn read_piece<R: Abort, B: Allocator, A: Allocator + Copy>(
 }
 
 /// Adds the matches that are left, and makes a call that fails again.
-fn finish<R: Abort, B: Allocator, A: Allocator + Copy>(
+fn finish<R: Abort, A: Allocator + Copy>(
     rt: &R,
     stream: &Pieces<A>,
-    regex: &mut LazyRegex<'_, Global, B, A>,
+    regex: &mut LazyRegex<'_, Global, A, A>,
     text: &[u8],
     found: &mut Vec<Match>,
     is_sound: &mut bool,
@@ -85,10 +85,10 @@ fn finish<R: Abort, B: Allocator, A: Allocator + Copy>(
 }
 
 /// Finds the matches of a row in pieces, and returns an error if a call failed and was made again.
-fn read_row<R: Abort, B: Allocator, A: Allocator + Copy>(
+fn read_row<R: Abort, A: Allocator + Copy>(
     rt: &R,
     stream: &mut Pieces<A>,
-    regex: &mut LazyRegex<'_, Global, B, A>,
+    regex: &mut LazyRegex<'_, Global, A, A>,
     row: &Row,
     size: usize,
     found: &mut Vec<Match>,
@@ -103,10 +103,10 @@ fn read_row<R: Abort, B: Allocator, A: Allocator + Copy>(
 }
 
 /// Finds the matches of a row in pieces of this size, and compares their bytes.
-pub fn read_pieces<R: Abort + AllocGlobal, B: Allocator, A: Allocator + Copy>(
+pub fn read_pieces<R: Abort + AllocGlobal, A: Allocator + Copy>(
     rt: &R,
     alloc: A,
-    regex: &mut LazyRegex<'_, Global, B, A>,
+    regex: &mut LazyRegex<'_, Global, A, A>,
     row: &Row,
     size: usize,
 ) -> Result<(), AllocError> {
