@@ -1,12 +1,12 @@
 -- Marks at the bytes where something changes, and states with the same target on two bytes.
 -- Main statements: marks_like, marks_both, ranges_more, read_at, all_states.
--- Used by: `mark_ranges`, `mark_lines`, `mark_crlf`, `mark_word_bytes`, `boundaries_of`, `are_alike`.
+-- Used by: `mark_ranges`, `mark_lines`, `mark_crlf`, `mark_words`, `mark_changes`, `are_alike`, WordBytes.
 -- Idea: the first range that contains a byte is among the ranges so far, or it is the next one.
 use Rattle.determinize_below.proofs.Common.{arith, [], Bool, by_cases, cases_lt, Fail, get_or, length, List, nat_eq, nat_tests, Nfa, Node, None, refl, slice_get, Some, state_at, take, target_of, Transition, ℕ, ◌++◌, ◌+◌, ◌<◌, ◌∷◌, ◌≡◌, cond, option_or, take_more, get_or_from_slice_get, MarksChanges, matches, sparse_target}
 use Rattle.determinize_below.proofs.nfas.Edges.{state_past}
 use Rattle.determinize_below.specs.Semantics.{within}
 
--- marks of changes, of a function that changes only where this one does
+-- marks of the changes of a function are marks for each function that changes only where it does
 pub marks_like : {A B : Type 0} (f : ℕ → A) (g : ℕ → B) (old new : List Bool)
     → ((b c : ℕ) → f b ≡ f c → g b ≡ g c) → MarksChanges f old new → MarksChanges g old new
 marks_like f g old new like m = record {
@@ -14,7 +14,7 @@ marks_like f g old new like m = record {
   same = λ b low h. like b (b + 1) (m.same b low h);
 }
 
--- marks of changes, and then those of another function
+-- marks of the changes of two functions are marks for each function that changes only where one of them does
 pub marks_both : {A B C : Type 0} (f : ℕ → A) (g : ℕ → B) (both : ℕ → C) (old mid new : List Bool)
     → ((b c : ℕ) → f b ≡ f c → g b ≡ g c → both b ≡ both c)
     → MarksChanges f old mid → MarksChanges g mid new → MarksChanges both old new
@@ -23,7 +23,7 @@ marks_both f g both old mid new like first next = record {
   same = λ b low h. like b (b + 1) (first.same b low (next.was (b + 1) h)) (next.same b low h);
 }
 
--- the range of one byte contains this one
+-- the range of one byte contains only it
 pub within_one : (t b : ℕ) → within t t b ≡ nat_eq b t
 within_one t b = grind (arith, nat_tests)
 

@@ -1,11 +1,11 @@
 //! The classes of bytes that an NFA does not distinguish.
 //!
 //! Two bytes are alike if every state has the same target on both, and if no assertion of the NFA
-//! distinguishes them. First, one pass over the states marks each byte that may differ from the
-//! byte before it: the first byte of a range, the byte after its last one, a byte with another
-//! target in a dense state, and a byte that an assertion distinguishes. A byte without a mark is in
-//! the class of the byte before it. A marked byte is compared with the least byte of each class so
-//! far, since it may be alike to an earlier byte. So a mark too many costs only time.
+//! distinguishes them. First, each byte is marked that may differ from the byte before it: those
+//! that an assertion distinguishes and, in one pass over the states, the first byte of a range,
+//! the byte after its last one, and a byte with another target in a dense state. A byte without a
+//! mark is in the class of the byte before it. A marked byte is compared with the least byte of
+//! each class so far, since it may be alike to an earlier byte. So a mark too many costs only time.
 
 ghost use Rattle.std.specs.Prelude.{◌≡◌, ℕ, ◌+◌, ◌<◌, ◌≤◌, ◌&&◌, Some, false, length, nat_eq, slice_index, true};
 ghost use Rattle.std.specs.Bool.{Decides};
@@ -81,7 +81,7 @@ fn are_alike<A: Allocator>(nfa: &NFA<A>, b: u8, c: u8) -> bool
     true
 }
 
-/// Marks the first byte of the range, and the byte after its last.
+/// Marks `start`, and the byte after `end` if there is one.
 fn mark_between(start: u8, end: u8, marks: &mut [bool; 256])
     ensures { MarksChanges (within start end) marks.old marks.new }
 {
@@ -158,7 +158,7 @@ fn mark_crlf<A: Allocator>(nfa: &NFA<A>, marks: &mut [bool; 256])
     mark_between(b'\r', b'\r', marks);
 }
 
-/// Marks the word bytes before which there is none, and the others before which there is one.
+/// Marks the first byte of each range of word bytes, and the byte after its last.
 fn mark_word_bytes(marks: &mut [bool; 256])
     ensures { MarksChanges semantics.is_word_byte marks.old marks.new }
 {

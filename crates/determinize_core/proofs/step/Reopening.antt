@@ -1,6 +1,6 @@
 -- Whether a unit reopens the closure of the recorded states, and under which assertions.
 -- Main statements: reopens, not_reopened, unneeded, words_decide, reopened_under.
--- Used by: `reopens`, `stays_closed`, `reopened_under`, `redo_law`, StepLaws.
+-- Used by: `reopens`, `stays_closed`, `reopened_under`, `redo_law`, StepLaws, and the crates above.
 -- Idea: by the members of the sets.
 use Rattle.determinize_core.proofs.Common.{ap, arith, Assertion, Bool, each_look, false, fun_ext, has, IfNone, IfSome}
 use Rattle.determinize_core.proofs.Common.{is_reopened, IsReopened, list_any, Nfa, not, opened_by, Option, refl, sym}
@@ -42,14 +42,14 @@ pub unneeded : (nfa : Nfa) (v : Value) (u : Option ℕ) → v.look_need ≡ 0 �
 unneeded nfa v u e = list_any_unmet (λ l. opened_by nfa v u l && has v.look_need l && not (has v.look_have l)) each_look
     (λ l. rw e (grind (arith, has-empty l)))
 
--- a haystack or line assertion that is satisfied is among the six
+-- each haystack or line assertion that a unit satisfies is in LINES
 lined : (t : Tables) (half : Bool) (u : Option ℕ) (l : Assertion)
     → (line_opened t half u l || has LINES l) ≡ has LINES l
 unfolding has line_opened
 lined t half u Start = refl
 lined t half u l = grind arith
 
--- if no unit could satisfy more than the word assertions found and these six, they decide
+-- if the word assertions found, with all of LINES, reopen nothing, what the unit satisfies reopens nothing
 pub words_decide : (t : Tables) (f half : Bool) (u : Option ℕ) (found have need : ℕ)
     → ((l : Assertion) → has found l ≡ word_opened f (is_word u) l)
     → is_redone (has (union found LINES)) have need ≡ false → is_redone (opened t f half u) have need ≡ false

@@ -1,6 +1,6 @@
 -- The parts of a step make the step.
 -- Main statements: step_tries, entered_by, tries_are, left-none, tries-none, stepped.
--- Used by: `transition`, `reopen`.
+-- Used by: `enter_targets`, `step_over`, `reopen`.
 -- Idea: flags depend on whether a state is entered, and that on whether there is a target.
 use Rattle.determinize_core.proofs.Common.{[], add-one, added, added_one, AllResolve, ap, append_assoc, arith}
 use Rattle.determinize_core.proofs.Common.{Assertion, begun, Bool, by_test, edges_in_all, false, fold, from_word_after}
@@ -45,14 +45,14 @@ pub step_tries : (nfa : Nfa) → IsAccepted nfa → (kind : MatchKind) (v : Valu
 step_tries nfa accepted kind v u inside =
     tries_are_few nfa accepted kind v u (member-below (length nfa.states) v.states inside)
 
--- recording leaves look-have
+-- recording does not change look-have
 pub have_left : (nfa : Nfa) (v now : Value) (xs : List ℕ) → now ≡ fold (added_one nfa) v xs
     → now.look_have ≡ v.look_have
 have_left nfa v now xs e = ap (λ (w : Value). w.look_have) (e ∙ fold-added nfa v xs)
 
 module _ (nfa : Nfa) (u : Option ℕ) (have : ℕ) (have_is : have ≡ have_after (tables_of nfa) u) (held row : List ℕ)
     (held_is : held ≡ []) where
-  -- what is recorded from a target or more, with this look-have, is what the unit leaves
+  -- what is recorded from one or more targets, with this look-have, is what the unit leaves
   pub entered_by : (flagged now : Value) (patterns : List ℕ)
       → flagged ≡ begun (from_word_after (tables_of nfa) u) (half_crlf_after (tables_of nfa) u) 0 patterns
       → is_nonempty row ≡ true → now ≡ fold (added_one nfa) flagged (reach_past nfa (has have) held row)
@@ -74,12 +74,12 @@ module _ (nfa : Nfa) (u : Option ℕ) (have : ℕ) (have_is : have ≡ have_afte
   tries_are = rw (held_is, tries_left-empty, have_is) refl
 
 module _ (nfa : Nfa) (holds : Assertion → Bool) where
-  -- without targets nothing is entered
+  -- without targets the value has its patterns only
   pub left-none : (u : Option ℕ) (patterns : List ℕ)
       → left_by nfa u patterns (reach nfa holds []) ≡ begun false false 0 patterns
   left-none u patterns = rw reach-none refl
 
-  -- and nothing is tried
+  -- without targets nothing is tried
   pub tries-none : tries_of nfa holds [] ≡ 0
   tries-none = rw reach-none refl
 

@@ -2,7 +2,8 @@
 //!
 //! The recorded states are closed under look-have. If the unit satisfies a further assertion of
 //! look-need, their closure is reopened: computed again, with that assertion. Most units satisfy
-//! none, and a short test shows it unless a haystack or line assertion is needed.
+//! none. A short test shows this if the assertions of look-need that are not in look-have are all
+//! on words.
 
 ghost use Rattle.std.specs.Prelude.{◌≡◌, Bool, IsTrue, false, IfNone, IfSome};
 ghost use Rattle.determinize_below.specs.Look.{has};
@@ -33,7 +34,8 @@ const LINES: u32 = Look::Start as u32
     | Look::EndCRLF as u32;
 
 /// Returns true only if the unit satisfies no assertion of look-need that is not in look-have. May
-/// return false although it satisfies none, since it takes all of `LINES` for satisfied.
+/// return false although it satisfies none, since it assumes that the unit satisfies all of
+/// `LINES`.
 #[tactic(auto, using(crate::proofs::step::Reopening::words_decide))]
 fn stays_closed(from_word: bool, unit: Unit, have: LookSet, need: LookSet) -> bool
     ensures { (tables : Tables) (half_crlf : Bool) → IsTrue result → is_redone

@@ -1,8 +1,8 @@
 //! One transition: from a DFA state over a unit of input to the next state.
 //!
 //! The first pass over the working list adds the patterns and pushes the targets. If there are any
-//! targets, their closure adds the NFA states, and the look-behind is set from the unit. The order
-//! is for speed: many transitions enter no state.
+//! targets, the look-behind is computed from the unit, and their closure adds the NFA states. Many
+//! transitions enter no state, and then no look-behind is computed.
 
 ghost use Rattle.std.specs.Prelude.{◌≡◌, ◌+◌, ◌*◌, ◌<◌, ◌≤◌, [], false, IsTrue, length, IfOk, OnOk};
 ghost use Rattle.determinize_below.specs.Edges.{reach};
@@ -39,7 +39,7 @@ fn set_flags<A: Allocator>(look_behind: LookBehind, builder: &mut StateBuilderNF
 }
 
 /// Sets look-have if look-need is not empty, so that states do not differ in assertions that
-/// nothing tests. Look-have is empty before.
+/// nothing tests. Look-have must be empty before the call.
 fn set_look_have<A: Allocator>(looks: LookSet, builder: &mut StateBuilderNFA<A>)
     requires { builder.old.look_have ≡ 0 }
     ensures { builder.new ≡ settled (record builder.old { look_have = looks }) }
@@ -49,8 +49,9 @@ fn set_look_have<A: Allocator>(looks: LookSet, builder: &mut StateBuilderNFA<A>)
     }
 }
 
-/// Adds the closure of the targets on the stack to a builder without NFA states, and sets the
-/// look-behind after the unit. On error the stack is not cleared.
+/// Adds the closure of the targets on the stack to a builder that has nothing but patterns, and
+/// sets the look-behind after the unit. The set may have any contents before. On error the stack
+/// is not cleared.
 ///
 /// Without targets the builder is unchanged: nothing uses a look-behind then, and setting it would
 /// give states that differ in flags only, such as a second dead state.

@@ -77,7 +77,8 @@ fn reopen<N: Allocator, A: Allocator, C: Counter>(
 }
 
 /// Reads the working list: adds its patterns to the builder and pushes its targets, under
-/// `MatchKind::LeftmostFirst` up to the first match. The sets are cleared before they are used.
+/// `MatchKind::LeftmostFirst` up to the first match. The sets may have any contents before, and
+/// each is cleared before it is used.
 #[inline(always)]
 pub(crate) fn read_working_list<N: Allocator, A: Allocator, C: Counter>(
     nfa: &NFA<N>,

@@ -86,9 +86,11 @@ impl<A: Allocator> StateBuilderEmpty<A> {
     }
 }
 
-/// Returns empty bytes with an empty header appended. On error they are dropped.
+/// Returns the bytes, which must be empty, with the header of a state with nothing set. On error
+/// they are dropped.
 ///
-/// It is given the bytes by value, so `into_matches` keeps those with a header in registers.
+/// They are passed by value: if their address were, `into_matches` would keep them in memory on
+/// both paths.
 #[cold]
 #[inline(never)]
 fn with_header<A: Allocator>(bytes: Vec<u8, A>) -> Result<Vec<u8, A>, AllocError>
@@ -100,7 +102,7 @@ fn with_header<A: Allocator>(bytes: Vec<u8, A>) -> Result<Vec<u8, A>, AllocError
     Ok(bytes)
 }
 
-/// Returns the same as `with_header`. Inlined, so a result is passed in memory on this path only.
+/// Returns the result of `with_header`. It is inlined, so only this path has one in memory.
 #[inline(always)]
 fn first_bytes<A: Allocator>(bytes: Vec<u8, A>) -> Result<Vec<u8, A>, AllocError>
     requires { bytes.items ≡ [] }

@@ -1,7 +1,7 @@
 use Rattle.determinize_below.proofs.Common.{◌≡◌, ◌&&◌, ◌+◌, Bool, true, false, false≢true}
 use Rattle.determinize_below.proofs.nfa.byte_classes.tested_bytes.Goals as goal
 
--- what is tested, where there is a test
+-- two tests that are equal under a condition are equal where it is true
 tested : (x p q : Bool) → (x && p) ≡ (x && q) → x ≡ true → p ≡ q
 tested true p q e h = e
 tested false p q e h = absurd (false≢true h)

@@ -3,7 +3,7 @@ use Rattle.std.proofs.lemmas.Result.{on_ok_weaker}
 use Rattle.determinize_core.proofs.step.ReopenedClosure.{reopened_list, reopened_tries}
 use Rattle.determinize_core.proofs.determinize.working_list.read_working_list.Goals as goal
 
--- a cleared set
+-- a cleared set has no ids
 cleared : {set : Members} {n : ℕ} → set ≡ record { ids = []; capacity = n } → set.ids ≡ []
 cleared e = ap (λ (m : Members). m.ids) e
 
