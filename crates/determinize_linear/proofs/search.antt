@@ -1,10 +1,12 @@
 pub mod Choices
+pub mod Collected
 pub mod Counted
 pub mod Ends
 pub mod InTurn
 pub mod Left
 pub mod Marks
 pub mod Matches
+pub mod Passing
 pub mod Pending
 pub mod Skipping
 pub mod Targets

@@ -1,3 +1,4 @@
+pub mod Cursors
 pub mod Laws
 pub mod Private
 pub mod Tokens

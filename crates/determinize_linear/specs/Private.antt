@@ -4,6 +4,8 @@ pub mod Left
 pub mod Marks
 pub mod Paid
 pub mod RowMarks
+pub mod Searchers
 pub mod Spent
 pub mod Starts
+pub mod Turns
 pub mod Walks

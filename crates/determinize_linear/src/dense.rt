@@ -12,6 +12,7 @@
 //! marks nothing, and neither does the last one of a walk that reads the whole text.
 
 ghost use Rattle.std.specs.Prelude.{◌≡◌, ℕ, ◌*◌, ◌<◌, ◌≤◌, ◌-◌, ◌+◌, ◌^◌, All, IfOk, IsTrue, None, Some, false, length, true};
+ghost use Rattle.std.specs.Option.{IfNone, IfSome};
 ghost use Rattle.determinize_below.specs.Nfa.{IsAccepted};
 ghost use Rattle.determinize_below.specs.Semantics.{before_at};
 ghost use Rattle.determinize_below.specs.Truth.{IsUnit};
@@ -21,8 +22,9 @@ ghost use Rattle.determinize_dense.specs.Dfa.{IsDfaOf};
 ghost use Rattle.determinize_dense.specs.Reading.{IsDead};
 ghost use Rattle.determinize_dense.specs.Table.{start_row};
 ghost use Rattle.determinize_engine.specs.Searches.{has_start};
+ghost use Rattle.determinize_find.specs.Cursors.{after_match};
 ghost use Rattle.determinize_find.specs.LeftmostIn.{is_anchored};
-ghost use Rattle.determinize_find.specs.Matches.{AreMatches};
+ghost use Rattle.determinize_find.specs.Matches.{AreMatches, IsNext};
 ghost use Rattle.determinize_linear.specs.Private.Found.{IsFoundAt};
 ghost use Rattle.determinize_linear.specs.Private.Following.{IsWalkable, following, steps_left, unmarked};
 ghost use Rattle.determinize_linear.specs.Private.Paid.{end_of};
@@ -31,7 +33,7 @@ ghost use Rattle.determinize_linear.specs.Private.Starts.{BeginAlike};
 ghost use Rattle.determinize_linear.specs.Private.Walks.{HasStepped, HasWalked, IsWalked};
 ghost use Rattle.determinize_linear.specs.Tries.{most_steps};
 
-use crate::in_turn::find_all_by;
+use crate::in_turn::{Cursor, find_all_by};
 use crate::matcher::Matcher;
 use crate::row_marks::RowMarks;
 use crate::starts::{begin_alike, start_at};
@@ -39,7 +41,8 @@ use crate::tries::{Counter, Tries};
 use determinize_below::{HalfMatch, Input, Match, NFA};
 use determinize_dense::{Dfa, RowId, Walker};
 use determinize_engine::text::Text;
-use std::alloc::{AllocError, Allocator};
+use std::alloc::{AllocError, Allocator, Global};
+use std::convert::Infallible;
 use std::marker::Model;
 use std::sync::ledger::Ledger;
 
@@ -239,6 +242,10 @@ struct Walks<'d, 'n, N: Allocator, M: Allocator, A: Allocator> {
 }
 
 impl<'d, 'n, M: Allocator + Copy, D: Allocator, A: Allocator> Matcher for Walks<'d, 'n, D, M, A> {
+    type Error = Infallible;
+
+    ghost dfa = { λ w. Some w.dfa.now };
+
     ghost is_ready = { λ w nfa text k. (w.dfa.now.kind ≡ kinds.LeftmostFirst)
         × (w.begin_alike ≡ true → BeginAlike w.dfa.now text)
         × IsWalkable w.dfa.now w.marks nfa text k };
@@ -256,9 +263,134 @@ impl<'d, 'n, M: Allocator + Copy, D: Allocator, A: Allocator> Matcher for Walks<
         text: &Text<'_>,
         from: usize,
         counter: &mut C,
-    ) -> Result<Option<HalfMatch>, AllocError> {
+    ) -> Result<Option<HalfMatch>, Infallible> {
         let (dfa, begin_alike) = (self.dfa, self.begin_alike);
         Ok(walk_from(dfa, text, from, begin_alike, &mut self.marks, counter))
+    }
+}
+
+/// A cursor over the matches of an input, in their order, which are those of [`find_all`].
+#[derive(Drop)]
+pub struct Searcher<
+    'd,
+    'n,
+    'h,
+    N: Allocator = Global,
+    M: Allocator = Global,
+    A: Allocator = Global,
+> {
+    walks: Walks<'d, 'n, N, M, A>,
+    cursor: Cursor<'h>,
+}
+
+impl<'d, 'n, 'h, N: Allocator, M: Allocator, A: Allocator> Model for Searcher<'d, 'n, 'h, N, M, A> {
+    ghost use Rattle.std.specs.Prelude.{◌+◌};
+    ghost use Rattle.determinize_linear.specs.Cursors.{SearcherValue};
+    ghost use Rattle.determinize_linear.specs.Private.Following.{steps_left};
+    ghost use Rattle.determinize_linear.specs.Private.Searchers.{IsSearcher};
+    ghost use Rattle.determinize_linear.specs.Private.Turns.{index_of, most_left, place_of};
+
+    ghost Value = { SearcherValue };
+
+    ghost view = { λ s. record {
+      dfa = s.walks.dfa.now;
+      cursor = place_of s.cursor;
+      next = index_of s.cursor;
+      left = most_left (steps_left s.walks.dfa.now.table s.cursor.text s.walks.marks) 3 s.cursor;
+    } };
+
+    ghost invariant = { λ s.
+        IsSearcher s.walks.dfa.now s.walks.marks s.walks.begin_alike s.cursor };
+}
+
+impl<'d, 'n, 'h, N: Allocator, M: Allocator + Copy, A: Allocator> Searcher<'d, 'n, 'h, N, M, A> {
+    /// Returns a cursor before the first match of an input, with the marks that its searches need:
+    /// no later call allocates.
+    ///
+    /// The DFA must be for `MatchKind::LeftmostFirst`, and its NFA must read forward, as for
+    /// [`find_all`].
+    pub fn new(
+        alloc: A,
+        dfa: &'d Dfa<'n, N, M>,
+        input: &Input<'h>,
+    ) -> Result<Searcher<'d, 'n, 'h, N, M, A>, AllocError>
+        requires forward { dfa.now.nfa.reverse ≡ false }
+        requires kind { dfa.now.kind ≡ kinds.LeftmostFirst }
+        requires start { has_start input.now.anchored ≡ true }
+        ensures dfa { IfOk result (λ s. s.dfa ≡ dfa.now) }
+        ensures first { IfOk result
+            (λ s. s.cursor ≡ record { asked = input.now; before = None }) }
+        ensures next { input.now.start ≤ input.now.end
+            → IfOk result (λ s. s.next ≡ input.now.start) }
+        ensures linear { IfOk result
+            (λ s. s.left ≤ most_steps dfa.now.table (input.now.end - input.now.start)) }
+    {
+        let cursor = Cursor::new(dfa.nfa(), input);
+        let text = cursor.text();
+        let begin_alike = begin_alike(dfa, &text);
+        let marks = new_marks(alloc, dfa, &text)?;
+        let walks = Walks {
+            dfa,
+            marks,
+            begin_alike,
+        };
+        Ok(Searcher { walks, cursor })
+    }
+
+    /// Returns the next match, and moves the cursor behind it, counted or not.
+    #[inline(always)]
+    fn advance_with<C: Counter>(&mut self, counter: &mut C) -> Option<Match>
+        ensures next { IsNext self.old.dfa.nfa self.old.cursor.asked self.old.cursor.before result }
+        ensures after { self.new.cursor ≡ after_match self.old.cursor result }
+        ensures dfa { self.new.dfa ≡ self.old.dfa }
+        ensures linear { IsTrue C.counts
+            → C.total counter.new + self.new.left ≤ C.total counter.old + self.old.left }
+        ensures more { IsTrue C.counts → C.total counter.old ≤ C.total counter.new }
+        ensures counted { IsTrue C.counts → IfSome result (λ m.
+            (C.total counter.old + (m.end + 1 - self.old.next) ≤ C.total counter.new)
+            × (self.new.next ≤ m.end + 1)) }
+        ensures past { IsTrue C.counts
+            → is_anchored self.old.dfa.nfa self.old.cursor.asked.anchored ≡ false
+            → IfNone result (C.total counter.old + (self.old.cursor.asked.end + 1 - self.old.next)
+            ≤ C.total counter.new) }
+    {
+        let nfa = self.walks.dfa.nfa();
+        let Ok(found) = self.cursor.advance(&mut self.walks, nfa, counter);
+        found
+    }
+
+    /// Returns the next match, and moves the cursor behind it. After the last match the result is
+    /// `None`, and the cursor does not move. The matches are those of [`find_all`], in their order.
+    ///
+    /// All calls together take a number of steps that is linear in the length of the range, as
+    /// `advance_counted` says. One of them may take most of these.
+    pub fn advance(&mut self) -> Option<Match>
+        ensures next { IsNext self.old.dfa.nfa self.old.cursor.asked self.old.cursor.before result }
+        ensures after { self.new.cursor ≡ after_match self.old.cursor result }
+        ensures dfa { self.new.dfa ≡ self.old.dfa }
+    {
+        self.advance_with(&mut ())
+    }
+
+    /// Returns the same as `advance`, and counts the steps from one row to the next. `left` of the
+    /// cursor falls by at least the number of the steps, and is at most `(rows + 4) * (bytes + 2)`
+    /// before the first match. The steps are at least one for each index from `next`, where the
+    /// search continues, to the end of the match or, if there is none and the input is not
+    /// anchored, to the end of the range.
+    pub fn advance_counted<L: Ledger>(&mut self, steps: &mut Tries<L>) -> Option<Match>
+        ensures next { IsNext self.old.dfa.nfa self.old.cursor.asked self.old.cursor.before result }
+        ensures after { self.new.cursor ≡ after_match self.old.cursor result }
+        ensures dfa { self.new.dfa ≡ self.old.dfa }
+        ensures linear { steps.new + self.new.left ≤ steps.old + self.old.left }
+        ensures more { steps.old ≤ steps.new }
+        ensures counted { IfSome result (λ m.
+            (steps.old + (m.end + 1 - self.old.next) ≤ steps.new)
+            × (self.new.next ≤ m.end + 1)) }
+        ensures past { is_anchored self.old.dfa.nfa self.old.cursor.asked.anchored ≡ false
+            → IfNone result (steps.old + (self.old.cursor.asked.end + 1 - self.old.next)
+            ≤ steps.new) }
+    {
+        self.advance_with(steps)
     }
 }
 

@@ -1,17 +1,20 @@
 //! All matches by searches from one position after another, which a [`Matcher`] makes.
 
 ghost use Rattle.std.specs.Prelude.{[], ◌≡◌, ◌∷◌, ◌++◌, ◌<◌, ◌≤◌, ◌-◌, ◌+◌, ◌*◌, ◌^◌, ℕ, All, IfOk, IsTrue, None, OnOk, false, length, true};
+ghost use Rattle.std.specs.Option.{IfNone, IfSome};
 ghost use Rattle.determinize_below.specs.Nfa.{IsAccepted};
 ghost use Rattle.determinize_engine.specs.Searches.{has_start, text_of};
 ghost use Rattle.determinize_find.specs.LeftmostIn as inputs;
 ghost use Rattle.determinize_find.specs.Matches.{AreMatches};
 ghost use Rattle.determinize_linear.specs.Private.Paid.{in_haystack};
+ghost use Rattle.determinize_linear.specs.Private.Turns.{HasMoved, IsCursor, ends_at, index_of, most_left, passed, taken};
 
 use crate::matcher::Matcher;
 use crate::tries::Counter;
 use determinize_below::{Anchored, HalfMatch, Input, Match, NFA};
 use determinize_engine::text::Text;
 use std::alloc::{AllocError, Allocator};
+use std::marker::Model;
 
 /// Returns whether a match may begin only where the search starts.
 fn is_anchored<N: Allocator>(nfa: &NFA<N>, input: &Input<'_>) -> bool
@@ -22,6 +25,37 @@ fn is_anchored<N: Allocator>(nfa: &NFA<N>, input: &Input<'_>) -> bool
         Anchored::No => nfa.start_unanchored() == nfa.start_anchored(),
         Anchored::Yes => true,
         Anchored::Pattern(_) => unreachable!(),
+    }
+}
+
+/// Returns a copy of an input.
+fn copied<'h>(input: &Input<'h>) -> Input<'h>
+    ensures { result ≡ input.now }
+{
+    Input::new(input.haystack())
+        .range(input.start()..input.end())
+        .anchored(input.get_anchored())
+}
+
+/// Returns the text of a range, or an empty one if the range starts past its end.
+fn text_of_range<'h>(input: &Input<'h>) -> Text<'h>
+    ensures text { input.now.start ≤ input.now.end → result ≡ text_of false input.now }
+    ensures count { length result.bytes ≡ input.now.end - input.now.start }
+{
+    if input.start() > input.end() {
+        return Text::new(None, &[], None);
+    }
+    Text::of_input(input, false)
+}
+
+/// Returns whether a match ended at this index.
+#[inline(always)]
+fn is_end(last_match_end: Option<usize>, index: usize) -> bool
+    ensures { result ≡ ends_at last_match_end index }
+{
+    match last_match_end {
+        Some(end) => end == index,
+        None => false,
     }
 }
 
@@ -47,10 +81,152 @@ pub(crate) fn push_moved<A: Allocator>(
     Ok(())
 }
 
+/// A cursor over the matches of an input, in their order.
+#[derive(Drop)]
+pub(crate) struct Cursor<'h> {
+    input: Input<'h>,
+    /// The text of the range, or an empty one if the range starts past its end.
+    text: Text<'h>,
+    /// Whether a match may begin only where the search starts.
+    is_anchored: bool,
+    last_match_end: Option<usize>,
+    /// The position of the next search. Behind the end of the text there is none.
+    at: usize,
+}
+
+impl<'h> Model for Cursor<'h> {
+    ghost use Rattle.determinize_linear.specs.Private.Turns.{CursorValue};
+
+    ghost Value = { CursorValue };
+
+    ghost view = { λ c. record {
+      asked = c.input;
+      text = c.text;
+      is_anchored = c.is_anchored;
+      before = c.last_match_end;
+      at = c.at;
+    } };
+}
+
+impl<'h> Cursor<'h> {
+    /// Returns a cursor before the first match of an input.
+    pub(crate) fn new<N: Allocator>(nfa: &NFA<N>, input: &Input<'h>) -> Cursor<'h>
+        requires { has_start input.now.anchored ≡ true }
+        ensures cursor { IsCursor nfa.now result }
+        ensures asked { result.asked ≡ input.now }
+        ensures before { result.before ≡ None }
+        ensures at { input.now.start ≤ input.now.end → result.at ≡ 0 }
+    {
+        Cursor {
+            input: copied(input),
+            text: text_of_range(input),
+            is_anchored: is_anchored(nfa, input),
+            last_match_end: None,
+            // 1 if the range starts past its end, and so behind the end of the text.
+            at: input.start().saturating_sub(input.end()),
+        }
+    }
+
+    /// Returns the text of the range.
+    #[inline(always)]
+    pub(crate) fn text(&self) -> Text<'h>
+        ensures { result ≡ self.now.text }
+    {
+        self.text.copied()
+    }
+
+    /// Returns the position of the next search.
+    #[inline(always)]
+    fn position(&self) -> usize
+        ensures { result ≡ self.now.at }
+    {
+        self.at
+    }
+
+    /// Moves behind what the search from its position found, and returns it as a match in the
+    /// haystack. An empty match where the one before ended is skipped, and the result is then
+    /// `None`.
+    ///
+    /// An empty match would be found again where it ends. So the search continues one byte further.
+    #[inline(always)]
+    fn pass(&mut self, found: Option<HalfMatch>) -> Option<Match>
+        requires at { self.old.at < 2 ^ 63 }
+        requires text { length self.old.text.bytes < 2 ^ 63 }
+        requires start { self.old.asked.start + self.old.at < 2 ^ 64 }
+        requires end { IfSome found (λ m. self.old.asked.start + m.offset < 2 ^ 64) }
+        ensures passed { self.new ≡ passed self.old found }
+        ensures taken { result ≡ taken self.old found }
+    {
+        let at = self.at;
+        let Some(HalfMatch { pattern, offset }) = found else {
+            self.at = if self.is_anchored {
+                self.text.len() + 1
+            } else {
+                at + 1
+            };
+            return None;
+        };
+        let (start, end) = (self.input.start() + at, self.input.start() + offset);
+        if offset > at {
+            self.at = offset;
+        } else {
+            self.at = at + 1;
+            if is_end(self.last_match_end, start) {
+                return None;
+            }
+        }
+        self.last_match_end = Some(end);
+        Some(Match {
+            pattern,
+            start,
+            end,
+        })
+    }
+
+    /// Returns the next match, if any, and moves behind it.
+    #[inline(always)]
+    pub(crate) fn advance<S: Matcher, N: Allocator, C: Counter>(
+        &mut self,
+        search: &mut S,
+        nfa: &NFA<N>,
+        counter: &mut C,
+    ) -> Result<Option<Match>, S::Error>
+        requires accepted { IsAccepted nfa.now }
+        requires forward { nfa.now.reverse ≡ false }
+        requires cursor { IsCursor nfa.now self.old }
+        requires ready { (k : ℕ) → self.old.at ≤ k
+            → S.is_ready search.old nfa.now self.old.text k }
+        ensures dfa { S.dfa search.new ≡ S.dfa search.old }
+        ensures moved { IfOk result (λ found. HasMoved nfa.now self.old found self.new) }
+        ensures ready { IfOk result (λ found. (k : ℕ) → self.new.at ≤ k
+            → S.is_ready search.new nfa.now self.old.text k) }
+        ensures paid { IsTrue C.counts → IfOk result (λ found. C.total counter.new + most_left
+            (S.left search.new nfa.now self.old.text) (S.most nfa.now + S.extra) self.new
+            ≤ C.total counter.old + most_left
+            (S.left search.old nfa.now self.old.text) (S.most nfa.now + S.extra) self.old) }
+        ensures bounded { IsTrue C.counts → C.total counter.new ≤ C.total counter.old + most_left
+            (S.left search.old nfa.now self.old.text) (S.most nfa.now + S.extra) self.old }
+        ensures more { IsTrue C.counts
+            → IfOk result (λ _. C.total counter.old ≤ C.total counter.new) }
+        ensures counted { IsTrue C.counts → IfOk result (λ found. IfSome found (λ m.
+            (C.total counter.old + (m.end + 1 - index_of self.old) ≤ C.total counter.new)
+            × (index_of self.new ≤ m.end + 1))) }
+        ensures past { IsTrue C.counts → self.old.is_anchored ≡ false
+            → IfOk result (λ found. IfNone found (C.total counter.old
+            + (length self.old.text.bytes + 1 - self.old.at) ≤ C.total counter.new)) }
+    {
+        let text = self.text();
+        while self.position() <= text.len() {
+            let found = search.search_from(nfa, &text, self.position(), counter)?;
+            if let Some(next) = self.pass(found) {
+                return Ok(Some(next));
+            }
+        }
+        Ok(None)
+    }
+}
+
 /// Returns all matches of an input, by searches of the text of its range.
-///
-/// An empty match would be found again where it ends. So the search continues one byte further. An
-/// empty match where the one before ended is skipped, too, if that one was not empty.
 #[inline(always)]
 pub(crate) fn find_all_by<S: Matcher, N: Allocator, A: Allocator, C: Counter>(
     alloc: A,
@@ -63,8 +239,6 @@ pub(crate) fn find_all_by<S: Matcher, N: Allocator, A: Allocator, C: Counter>(
     requires accepted { IsAccepted nfa.now }
     requires forward { nfa.now.reverse ≡ false }
     requires text { text.now ≡ text_of false input.now }
-    requires haystack { input.now.end ≤ length input.now.haystack }
-    requires limit { input.now.end < 2 ^ 64 }
     requires mode { has_start input.now.anchored ≡ true }
     requires order { input.now.start ≤ input.now.end }
     requires ready { (k : ℕ) → S.is_ready search.old nfa.now text.now k }
@@ -78,32 +252,13 @@ pub(crate) fn find_all_by<S: Matcher, N: Allocator, A: Allocator, C: Counter>(
     ensures ends { IsTrue C.counts → IfOk result (λ found. All (λ m. C.total counter.old
         + (m.end + 1 - input.now.start) ≤ C.total counter.new) found.items) }
 {
-    let is_anchored = is_anchored(nfa, input);
-    let base = input.start();
     let mut found = Vec::new(alloc);
-    let (mut at, mut touches) = (0, false);
-    while at <= text.len() {
-        match search.search_from(nfa, text, at, counter)? {
-            Some(next) if next.offset > at => {
-                push_moved(&mut found, base, at, &next)?;
-                at = next.offset;
-                touches = true;
-            }
-            Some(next) => {
-                if !touches {
-                    push_moved(&mut found, base, at, &next)?;
-                }
-                at += 1;
-                touches = false;
-            }
-            None => {
-                if is_anchored {
-                    return Ok(found);
-                }
-                at += 1;
-                touches = false;
-            }
+    let mut cursor = Cursor::new(nfa, input);
+    loop {
+        match cursor.advance(search, nfa, counter) {
+            Ok(Some(next)) => found.push(next)?,
+            Ok(None) => return Ok(found),
+            Err(_) => return Err(AllocError),
         }
     }
-    Ok(found)
 }

@@ -87,6 +87,10 @@ struct DepthFirst<A: Allocator> {
 }
 
 impl<A: Allocator> Matcher for DepthFirst<A> {
+    type Error = AllocError;
+
+    ghost dfa = { λ s. None };
+
     ghost is_ready = { λ s nfa text k. HasPlaces nfa text s.visited
         × IsSpent nfa text k s.visited };
 

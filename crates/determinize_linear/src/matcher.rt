@@ -1,21 +1,28 @@
 //! A search of one text from one position after another: after a match none begins before its end,
 //! and else none before the last one began.
 
-ghost use Rattle.std.specs.Prelude.{◌≡◌, ◌≤◌, ◌+◌, ℕ, IfOk, IsTrue, false, length, option_map};
+ghost use Rattle.std.specs.Prelude.{◌≡◌, ◌≤◌, ◌+◌, ℕ, IfOk, IsTrue, Option, false, length, option_map};
 ghost use Rattle.std.specs.Option.{IfNone, IfSome};
 ghost use Rattle.determinize_below.specs.Nfa.{IsAccepted};
 ghost use Rattle.determinize_below.specs.Semantics as semantics;
+ghost use Rattle.determinize_dense.specs.Table.{DfaValue};
 ghost use Rattle.determinize_find.specs.Private.BestAt.{IsBestAt, from_index};
 ghost use Rattle.determinize_linear.specs.Private.Paid.{IsPaid, end_of};
 
 use crate::tries::Counter;
 use determinize_below::{HalfMatch, NFA};
 use determinize_engine::text::Text;
-use std::alloc::{AllocError, Allocator};
+use std::alloc::Allocator;
 
 /// A search of one text from positions that never go back: after a match from where it ends on, and
 /// else from where the search before it began on.
 pub(crate) trait Matcher {
+    /// The error of a search: `AllocError`, or `Infallible` if no search fails.
+    type Error: Drop;
+
+    /// The DFA by which it searches, if there is one.
+    ghost dfa: { Self → Option DfaValue };
+
     /// Whether it may search a text of an NFA from a position.
     ghost is_ready: { Self → semantics.Nfa → semantics.Text → ℕ → Type 0 };
 
@@ -36,11 +43,12 @@ pub(crate) trait Matcher {
         text: &Text<'_>,
         from: usize,
         counter: &mut C,
-    ) -> Result<Option<HalfMatch>, AllocError>
+    ) -> Result<Option<HalfMatch>, Self::Error>
         requires accepted { IsAccepted nfa.now }
         requires forward { nfa.now.reverse ≡ false }
         requires within { from ≤ length text.now.bytes }
         requires ready { is_ready self.old nfa.now text.now from }
+        ensures dfa { dfa self.new ≡ dfa self.old }
         ensures best { IfOk result
             (λ found. IsBestAt nfa.now text.now from (option_map (from_index from) found)) }
         ensures within { IfOk result

@@ -5,9 +5,7 @@
 use Rattle.std.proofs.Common.{◌≤◌, ◌+◌, ◌-◌, ◌++◌, ◌∷◌, ℕ, List, [], arith}
 use Rattle.std.specs.List.{All}
 use Rattle.std.proofs.lemmas.List.Elements.{All-push, All-weaker}
-use Rattle.determinize_below.specs.declared.search.HalfMatch.{HalfMatch}
 use Rattle.determinize_below.specs.declared.search.Match.{Match}
-use Rattle.determinize_linear.specs.Private.Paid.{in_haystack}
 
 -- of each match the steps so far are at least one for each index from the start of the range to its end
 abbrev pub AreCounted : ℕ → ℕ → ℕ → List Match → Type 0
@@ -18,7 +16,6 @@ pub counted_more : (start before total new : ℕ) (ms : List Match) → total �
 counted_more start before total new ms l all = All-weaker (λ m. before + (m.end + 1 - start) ≤ total)
     (λ m. before + (m.end + 1 - start) ≤ new) (λ m h. omega (arith, h, l)) ms all
 
-pub counted_push : (start before total at : ℕ) (ms : List Match) (m : HalfMatch) → AreCounted start before total ms
-    → before + (m.offset + 1) ≤ total → AreCounted start before total (ms ++ in_haystack start at m ∷ [])
-counted_push start before total at ms m all l = All-push (λ m. before + (m.end + 1 - start) ≤ total) ms
-    (in_haystack start at m) all (omega (arith, l))
+pub counted_push : (start before total : ℕ) (ms : List Match) (m : Match) → AreCounted start before total ms
+    → before + (m.end + 1 - start) ≤ total → AreCounted start before total (ms ++ m ∷ [])
+counted_push start before total ms m all l = All-push (λ n. before + (n.end + 1 - start) ≤ total) ms m all l

@@ -1,14 +1,15 @@
 -- All matches by searches from one index after another.
--- Main statements: begins, best_found, best_order, turned_none, turned_longer, turned_empty, turned_touching,
--- turned_end, turned_anchored, turn_pays.
--- Used by: `find_all_by`.
+-- Main statements: begins, best_found, best_order, next_longer, next_empty, next_none, next_past, turned_none,
+-- turned_longer, turned_empty, turned_touching, turn_pays.
+-- Used by: Passing, `Cursor::new` and `Cursor::advance`.
 -- Idea: the search from where an empty match ends finds it again, so the next match is the leftmost one from one byte
 -- further on.
-use Rattle.std.specs.Prelude.{option_map}
-use Rattle.std.proofs.Common.{◌≡◌, ◌<◌, ◌≤◌, ◌*◌, ◌+◌, ◌-◌, ◌++◌, ◌∷◌, ◌∙◌, ℕ, Bool, List, None, Option, Some, []}
-use Rattle.std.proofs.Common.{arith, cond, false, refl, subst, suc, sym, true}
-use Rattle.std.proofs.lemmas.Bool.{cases_lt, true≢false}
+use Rattle.std.specs.Prelude.{nat_eq, option_map}
+use Rattle.std.proofs.Common.{◌≡◌, ◌<◌, ◌≤◌, ◌*◌, ◌+◌, ◌-◌, ◌∙◌, ℕ, None, Option, Some}
+use Rattle.std.proofs.Common.{ap, arith, cond, false, refl, subst, suc, sym, true}
+use Rattle.std.proofs.lemmas.Bool.{cases_lt, eqb-true, true≢false}
 use Rattle.std.proofs.lemmas.Bool.Decides.{nat_tests}
+use Rattle.std.proofs.lemmas.Option.{none-some}
 use Rattle.std.proofs.Math.Nat.{mul-le-mul_left}
 use Rattle.determinize_below.specs.Search.{Asked}
 use Rattle.determinize_below.specs.Semantics.{Nfa, Text}
@@ -16,14 +17,15 @@ use Rattle.determinize_below.specs.declared.search.HalfMatch.{HalfMatch}
 use Rattle.determinize_below.specs.declared.search.Match.{Match}
 use Rattle.determinize_engine.specs.Searches.{text_of}
 use Rattle.determinize_find.specs.LeftmostIn.{IsLeftmostIn, is_anchored, moved}
-use Rattle.determinize_find.specs.Matches.{AreMatches, IsNext, IsTaken, from, touches}
+use Rattle.determinize_find.specs.Matches.{IsNext, IsTaken, from, touches}
 use Rattle.determinize_find.specs.Private.BestAt.{IsBestAt, IsBestIn, from_index}
 use Rattle.determinize_find.proofs.leftmost.SearchInTurn.{NothingBefore, found_here, found_last, found_past}
 use Rattle.determinize_find.proofs.leftmost.SearchInTurn.{latest_is, more_nothing}
-use Rattle.determinize_find.proofs.matches.NextMatch.{AreFirst, all_found, next_plain, one_more}
+use Rattle.determinize_find.proofs.matches.NextMatch.{next_plain}
 use Rattle.determinize_nfa.proofs.runs.Shifts.{each_run_reads_forward}
 use Rattle.ordered_reach.proofs.Cases.{by_cases, by_test, some_injective}
 use Rattle.determinize_linear.specs.Private.Paid.{in_haystack}
+use Rattle.determinize_linear.specs.Private.Turns.{IsTurned, ends_at, rest_of}
 use Rattle.determinize_linear.proofs.search.Matches.{best_rest}
 
 -- what is found at a position of the text of an input
@@ -48,31 +50,24 @@ pub best_order : (nfa : Nfa) (text : Text) (at : ℕ) (m : HalfMatch) → IsBest
 best_order nfa text at m best =
     each_run_reads_forward nfa text at nfa.start_anchored best.1.0 m.offset m.pattern best.1.1.accepts
 
-module _ (nfa : Nfa) (asked : Asked) where
-  -- all matches so far, where the next search begins at an index; `is_after`: the last match ended there and was not
-  -- empty
-  pub record HasTurned (at : ℕ) (is_after : Bool) (ms : List Match) : Type 0 where
-    pub start : ℕ
-    pub before : Option ℕ
-    pub inside : asked.start ≤ start
-    pub low : start ≤ at
-    pub first : AreFirst nfa asked None start before ms
-    pub nothing : NothingBefore nfa (from asked start) at
-    pub anchored : is_anchored nfa asked.anchored ≡ true → at ≡ start
-    pub touched : is_after ≡ true → (start ≡ at) × (before ≡ Some at)
-    pub untouched : is_after ≡ false → (end : ℕ) → before ≡ Some end → end < at
+-- what the test of the last end says
+last_is : (before : Option ℕ) (at : ℕ) → ends_at before at ≡ true → before ≡ Some at
+last_is None at e = absurd (true≢false (sym e))
+last_is (Some end) at e = ap Some (eqb-true end at e)
 
-  pub begins : HasTurned asked.start false []
+module _ (nfa : Nfa) (asked : Asked) where
+  pub begins : IsTurned nfa asked None asked.start
   begins = record {
     start = asked.start;
-    before = None;
+    last = None;
     inside = omega arith;
     low = omega arith;
-    first = λ rest h. h;
+    same = λ found h. h;
     nothing = λ k l. absurd (omega arith);
     anchored = λ e. refl;
-    touched = λ e. absurd (true≢false (sym e));
-    untouched = λ e end k. absurd (cc);
+    touched = λ e. absurd (none-some asked.start e);
+    untouched = λ end e. absurd (none-some end e);
+    passed = λ end e. absurd (none-some end e);
   }
 
   -- where no match begins before an index, the best one there is the leftmost
@@ -100,96 +95,94 @@ module _ (nfa : Nfa) (asked : Asked) where
         one None x e = subst (λ f. IsLeftmostIn nfa (from asked (at + 1)) f) (sym e) x
         one (Some n) x e = subst (λ f. IsLeftmostIn nfa (from asked (at + 1)) f) (sym (e.1 refl)) x
 
-    all_further : (rest : List Match) → AreMatches nfa (from asked (at + 1)) None rest
-        → AreMatches nfa (from asked at) (Some at) rest
-    all_further [] h = further None h
-    all_further (n ∷ ns) h = (further (Some n) h.0, h.1)
-
-    skipped : (ms : List Match) → AreFirst nfa asked None at (Some at) ms → AreFirst nfa asked None (at + 1) None ms
-    skipped ms first = λ rest h. first rest (all_further rest h)
-
-  -- after a match that is skipped
-  after_skip : (at : ℕ) (ms : List Match) → asked.start ≤ at → AreFirst nfa asked None (at + 1) None ms
-      → HasTurned (at + 1) false ms
-  after_skip at ms inside first = record {
+  -- after a match that ended at an index, where an empty one begins
+  after_skip : (before : Option ℕ) (at : ℕ) → asked.start ≤ at → before ≡ Some at
+      → ((found : Option Match) → IsNext nfa (from asked (at + 1)) None found
+      → IsNext nfa (rest_of asked before) before found) → IsTurned nfa asked before (at + 1)
+  after_skip before at inside is same = record {
     start = at + 1;
-    before = None;
+    last = None;
     inside = omega arith;
     low = omega arith;
-    first = first;
+    same = same;
     nothing = λ k l. absurd (omega arith);
     anchored = λ e. refl;
-    touched = λ e. absurd (true≢false (sym e));
-    untouched = λ e end k. absurd (cc);
+    touched = λ e. let z : at ≡ at + 1 = some_injective at (at + 1) (sym is ∙ e) in absurd (omega (arith, z));
+    untouched = λ end e. absurd (none-some end e);
+    passed = λ end e. let z : at ≡ end = some_injective at end (sym is ∙ e) in omega (arith, z);
   }
 
-  module _ (at : ℕ) (is_after : Bool) (ms : List Match) (turned : HasTurned at is_after ms) (high : at ≤ asked.end) where
+  module _ (before : Option ℕ) (at : ℕ) (turned : IsTurned nfa asked before at) (high : at ≤ asked.end) where
     module _ (m : Match) (best : IsBestIn nfa asked at (Some m)) (starts : m.start ≡ at) where
-      here : IsLeftmostIn nfa (from asked turned.start) (Some m)
-      here = leftmost turned.start at m turned.inside turned.low high turned.nothing turned.anchored best
-
       again : IsLeftmostIn nfa (from asked at) (Some m)
       again = leftmost at at m (omega (arith, turned.inside, turned.low)) (omega arith) high (λ k l. absurd (omega arith))
           (λ e. refl) best
 
-      one : touches turned.before m ≡ false → AreFirst nfa asked None m.end (Some m.end) (ms ++ m ∷ [])
-      one apart = one_more None nfa nfa asked (from asked turned.start) turned.start turned.before ms m refl refl
-          turned.first (next_plain nfa (from asked turned.start) turned.before (Some m) here apart)
+      one : touches turned.last m ≡ false → IsNext nfa (rest_of asked before) before (Some m)
+      one apart = turned.same (Some m) (next_plain nfa (from asked turned.start) turned.last (Some m)
+          (leftmost turned.start at m turned.inside turned.low high turned.nothing turned.anchored best) apart)
 
-      pub turned_longer : at < m.end → HasTurned m.end true (ms ++ m ∷ [])
-      turned_longer l = record {
-        start = m.end;
-        before = Some m.end;
-        inside = omega (arith, turned.inside, turned.low);
-        low = omega arith;
-        first = one (apart turned.before);
-        nothing = λ k j. absurd (omega arith);
-        anchored = λ e. refl;
-        touched = λ e. (refl, refl);
-        untouched = λ e. absurd (true≢false e);
-      }
+      pub next_longer : at < m.end → IsNext nfa (rest_of asked before) before (Some m)
+      next_longer l = one (apart turned.last)
         where
           apart : (o : Option ℕ) → touches o m ≡ false
           apart None = refl
           apart (Some end) = grind (arith, nat_tests, starts, l)
 
-      pub turned_empty : m.end ≡ at → is_after ≡ false → HasTurned (at + 1) false (ms ++ m ∷ [])
-      turned_empty ends new = after_skip at (ms ++ m ∷ []) (omega (arith, turned.inside, turned.low))
-          (skipped at m again (grind (arith, nat_tests, starts, ends)) (ms ++ m ∷ [])
-          (subst (λ n. AreFirst nfa asked None n (Some n) (ms ++ m ∷ [])) ends (one (apart turned.before (turned.untouched new)))))
+      pub next_empty : m.end ≡ at → ends_at before at ≡ false → IsNext nfa (rest_of asked before) before (Some m)
+      next_empty ends new = one (apart turned.last turned.untouched)
         where
-          apart : (o : Option ℕ) → ((end : ℕ) → o ≡ Some end → end < at) → touches o m ≡ false
+          apart : (o : Option ℕ) → ((end : ℕ) → o ≡ Some end → before ≡ Some end) → touches o m ≡ false
           apart None h = refl
-          apart (Some end) h = grind (arith, nat_tests, starts, ends, h end refl)
+          apart (Some end) h =
+              let other : nat_eq end at ≡ false = rw (h end refl) at new in
+              grind (arith, nat_tests, starts, ends, other)
 
-      pub turned_touching : m.end ≡ at → is_after ≡ true → HasTurned (at + 1) false ms
+      pub turned_longer : at < m.end → IsTurned nfa asked (Some m.end) m.end
+      turned_longer l = record {
+        start = m.end;
+        last = Some m.end;
+        inside = omega (arith, turned.inside, turned.low, l);
+        low = omega arith;
+        same = λ found h. h;
+        nothing = λ k j. absurd (omega arith);
+        anchored = λ e. refl;
+        touched = λ e. (refl, refl);
+        untouched = λ end e. e;
+        passed = λ end e. let z : m.end ≡ end = some_injective m.end end e in omega (arith, z);
+      }
+
+      pub turned_empty : m.end ≡ at → IsTurned nfa asked (Some m.end) (at + 1)
+      turned_empty ends = after_skip (Some m.end) at (omega (arith, turned.inside, turned.low)) (ap Some ends)
+          (λ found h. rw ends (further at m again (grind (arith, nat_tests, starts, ends)) found h))
+
+      pub turned_touching : m.end ≡ at → ends_at before at ≡ true → IsTurned nfa asked before (at + 1)
       turned_touching ends old =
-          let was = turned.touched old in
-          after_skip at ms (omega (arith, turned.inside, turned.low))
-          (skipped at m again (grind (arith, nat_tests, starts, ends)) ms
-          (rw was.0 at (rw was.1 at turned.first)))
+          let is = last_is before at old in
+          let was = turned.touched is in
+          after_skip before at (omega (arith, turned.inside, turned.low)) is
+          (λ found h. turned.same found (rw (was.0, was.1) (further at m again (grind (arith, nat_tests, starts, ends)) found h)))
 
     module _ (none : IsBestIn nfa asked at None) where
-      pub turned_none : is_anchored nfa asked.anchored ≡ false → HasTurned (at + 1) false ms
+      pub turned_none : is_anchored nfa asked.anchored ≡ false → IsTurned nfa asked before (at + 1)
       turned_none free = record {
         start = turned.start;
-        before = turned.before;
+        last = turned.last;
         inside = turned.inside;
-        first = turned.first;
         low = omega (arith, turned.low);
+        same = turned.same;
         nothing = more_nothing nfa nfa (from asked turned.start) at refl turned.low turned.nothing
             (best_rest nfa asked turned.start at None turned.inside turned.low high none);
         anchored = λ e. absurd (true≢false (sym e ∙ free));
-        touched = λ e. absurd (true≢false (sym e));
-        untouched = λ e end k. by_test is_after
-            (λ t. let z : end ≡ at = some_injective end at (sym k ∙ (turned.touched t).1) in omega arith)
-            (λ f. omega (arith, turned.untouched f end k));
+        touched = λ e. absurd (omega (arith, turned.passed (at + 1) e));
+        untouched = turned.untouched;
+        passed = λ end e. omega (arith, turned.passed end e);
       }
 
-      pub turned_anchored : is_anchored nfa asked.anchored ≡ true → AreMatches nfa asked None ms
-      turned_anchored e =
+      pub next_none : is_anchored nfa asked.anchored ≡ true → IsNext nfa (rest_of asked before) before None
+      next_none e =
           let z : at ≡ turned.start = turned.anchored e in
-          all_found None nfa nfa asked (from asked turned.start) turned.start turned.before ms refl refl turned.first (
+          turned.same None (
             None,
             found_last nfa nfa (from asked turned.start) at turned.start None refl
                 (latest_is nfa (from asked turned.start) turned.start nfa (omega (arith, turned.low)) refl (rw e refl))
@@ -198,11 +191,9 @@ module _ (nfa : Nfa) (asked : Asked) where
             refl,
           )
 
-  pub turned_end : (at : ℕ) (is_after : Bool) (ms : List Match) → HasTurned at is_after ms → asked.end < at
-      → AreMatches nfa asked None ms
-  turned_end at is_after ms turned past =
-      all_found None nfa nfa asked (from asked turned.start) turned.start turned.before ms refl refl turned.first
-      (None, none, refl)
+  pub next_past : (before : Option ℕ) (at : ℕ) → IsTurned nfa asked before at → asked.end < at
+      → IsNext nfa (rest_of asked before) before None
+  next_past before at turned past = turned.same None (None, none, refl)
     where
       none : IsLeftmostIn nfa (from asked turned.start) None
       none = by_cases (cases_lt asked.end turned.start)

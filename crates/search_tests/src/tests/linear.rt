@@ -83,8 +83,31 @@ static ANCHORED: [Case; 4] = [
     (&[r"\B[ab]", r"\b"], b"-ab-", 2, 4, &[(0, 2, 3)]),
 ];
 
-/// Asserts that a whole DFA finds these matches of an input in a linear number of steps, and so
-/// does its NFA.
+/// Asserts that a cursor over the matches of an input returns these, one at a time, and then none.
+fn expect_in_turn<R: Abort + AllocGlobal>(
+    rt: &R,
+    dfa: &Dfa<'_>,
+    input: &Input<'_>,
+    wanted: &[Match],
+)
+    requires forward { dfa.now.nfa.reverse ≡ false }
+    requires kind { dfa.now.kind ≡ kinds.LeftmostFirst }
+    requires start { has_start input.now.anchored ≡ true }
+{
+    let mut searcher = by_dfa::Searcher::new(rt.alloc(), dfa, input).expect(rt, "memory");
+    let mut found = Vec::new(rt.alloc());
+    for _ in 0..=wanted.len() {
+        let Some(next) = searcher.advance() else {
+            break;
+        };
+        found.push(next).expect(rt, "memory");
+    }
+    expect_same(rt, found.as_slice(), wanted);
+    assert!(rt; searcher.advance().is_none());
+}
+
+/// Asserts that a whole DFA finds these matches of an input in a linear number of steps, in a list
+/// and one at a time, and so does its NFA.
 pub fn expect_linear<R: Abort + AllocGlobal>(
     rt: &R,
     dfa: &Dfa<'_>,
@@ -97,6 +120,7 @@ pub fn expect_linear<R: Abort + AllocGlobal>(
 {
     let found = by_dfa::find_all(rt.alloc(), dfa, input).expect(rt, "memory");
     expect_same(rt, found.as_slice(), wanted);
+    expect_in_turn(rt, dfa, input, wanted);
     let found = find_all(rt.alloc(), dfa.nfa(), input).expect(rt, "memory");
     expect_same(rt, found.as_slice(), wanted);
 }

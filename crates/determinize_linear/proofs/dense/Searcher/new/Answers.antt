@@ -1,0 +1,27 @@
+use Rattle.std.proofs.Common.{◌≡◌, ◌*◌, ◌≤◌, ◌-◌, ◌+◌, arith, length}
+use Rattle.determinize_linear.specs.Private.Following.{unmarked}
+use Rattle.determinize_linear.proofs.walks.Walked.{steps_enough}
+use Rattle.determinize_linear.proofs.dense.Searcher.new.Goals as goal
+
+pub returns-clause-linear : goal.returns-clause-linear
+returns-clause-linear g c =
+    let count : length c.new-cursor.result.text.bytes ≡ c.args.input.now.end - c.args.input.now.start
+    = rw c.new-cursor.ensures.asked at c.new-cursor.ensures.cursor.count in
+    let few : unmarked c.args.dfa.now.table c.new-cursor.result.text c.in_ok-marks.marks
+    ≤ (c.args.input.now.end - c.args.input.now.start + 1) * length c.args.dfa.now.table.patterns
+    = rw (← count, ← c.text-text.ensures) c.in_ok-marks.ensures.few in
+    omega (
+      arith,
+      few,
+      count,
+      steps_enough (length c.args.dfa.now.table.patterns) (c.args.input.now.end - c.args.input.now.start),
+    )
+
+pub invariant_of-result : goal.invariant_of-result
+invariant_of-result g c = record {
+  forward = c.requires.forward;
+  kind = c.requires.kind;
+  alike = rw c.text-text.ensures at c.begin_alike-begin_alike.ensures.alike;
+  walkable = λ k l. rw c.text-text.ensures at (c.in_ok-marks.ensures.walkable k);
+  cursor = rw c.nfa.ensures.value at c.new-cursor.ensures.cursor;
+}

@@ -1,0 +1,111 @@
+-- All matches by a cursor, one after another.
+-- Main statements: HasCollected, collected_none, collected_more, collected_less, collected_all, collected_past,
+-- collected_most.
+-- Used by: `find_all_by`.
+-- Idea: each match is the next one after those before it, and what the cursor costs is paid by what it had left.
+use Rattle.std.proofs.Common.{◌≡◌, ◌<◌, ◌≤◌, ◌*◌, ◌+◌, ◌-◌, ◌++◌, ◌∷◌, ◌∙◌, ℕ, List, None, Some, [], ap, arith, false}
+use Rattle.std.proofs.Common.{length, refl}
+use Rattle.std.proofs.lemmas.List.Elements.{All-nil}
+use Rattle.std.proofs.lemmas.Option.{none-some}
+use Rattle.determinize_below.specs.Search.{Asked}
+use Rattle.determinize_below.specs.Semantics.{Nfa, Text}
+use Rattle.determinize_below.specs.declared.search.Match.{Match}
+use Rattle.determinize_find.specs.Cursors.{SearcherValue}
+use Rattle.determinize_find.specs.LeftmostIn.{is_anchored}
+use Rattle.determinize_find.specs.Matches.{AreMatches}
+use Rattle.determinize_find.specs.Private.Left.{left}
+use Rattle.determinize_find.proofs.matches.NextMatch.{IsAfter, IsOneMore, after_all, after_one}
+use Rattle.determinize_linear.specs.Private.Turns.{CursorValue, HasMoved, IsCursor, index_of, most_left, place_of}
+use Rattle.determinize_linear.proofs.search.Ends.{AreCounted, counted_more, counted_push}
+
+-- a cursor behind these matches, and what they cost
+pub record HasCollected (nfa : Nfa) (asked : Asked) (text : Text) (Ready : ℕ → Type 0) (first now : ℕ → ℕ)
+    (each : ℕ) (Counts : Type 0) (before total : ℕ) (c : CursorValue) (ms : List Match) : Type 0 where
+  pub after : IsAfter nfa asked None (place_of c) ms
+  pub is : IsCursor nfa c
+  pub same_asked : c.asked ≡ asked
+  pub same_text : c.text ≡ text
+  pub ready : (k : ℕ) → c.at ≤ k → Ready k
+  pub paid : Counts → total + most_left now each c ≤ before + (first 0 + each * (asked.end - asked.start + 1))
+  pub counted : Counts → before + c.at ≤ total
+  pub ended : Counts → AreCounted asked.start before total ms
+
+-- before the first match
+pub collected_none : (nfa : Nfa) (asked : Asked) (text : Text) (Ready : ℕ → Type 0) (first : ℕ → ℕ) (each : ℕ)
+    (Counts : Type 0) (before : ℕ) (c : CursorValue) → IsCursor nfa c → c.asked ≡ asked → c.before ≡ None → c.at ≡ 0
+    → c.text ≡ text → ((k : ℕ) → Ready k)
+    → HasCollected nfa asked text Ready first first each Counts before before c []
+collected_none nfa asked text Ready first each Counts before c is a b z t ready =
+    let count : length c.text.bytes ≡ asked.end - asked.start = rw (← a) is.count in record {
+      after = rw place record { rest = refl; last = λ end e. absurd (none-some end e); first = λ rest h. h };
+      is = is;
+      same_asked = a;
+      same_text = t;
+      ready = λ k l. ready k;
+      paid = λ k. paid count;
+      counted = λ k. omega (arith, z);
+      ended = λ k. All-nil _;
+    }
+  where
+    whole : SearcherValue
+    whole = record { asked = asked; before = None }
+
+    place : place_of c ≡ whole
+    place = rw (b, a) refl
+
+    paid : length c.text.bytes ≡ asked.end - asked.start
+        → before + most_left first each c ≤ before + (first 0 + each * (asked.end - asked.start + 1))
+    paid count =
+        let all : asked.end - asked.start + 1 - 0 ≡ asked.end - asked.start + 1 = omega arith in
+        rw (z, count, all) (omega arith)
+
+module _ (nfa : Nfa) (asked : Asked) (text : Text) (Ready : ℕ → Type 0) (first left_now : ℕ → ℕ) (each : ℕ)
+    (Counts : Type 0) (before total : ℕ) (c : CursorValue) (ms : List Match)
+    (h : HasCollected nfa asked text Ready first left_now each Counts before total c ms) where
+  -- one more
+  module _ (new : CursorValue) (m : Match) (moved : HasMoved nfa c (Some m) new) where
+    one : IsOneMore nfa asked None (place_of c) (place_of new) ms m
+    one = after_one nfa asked (place_of c) (place_of new) ms m (rw (← h.same_asked) h.is.haystack) h.after moved.next
+        moved.after
+
+    pub collected_less : left asked.end (place_of new).asked.start new.before
+        < left asked.end (place_of c).asked.start c.before
+    collected_less = one.1
+
+    pub collected_more : (Next : ℕ → Type 0) (left_new : ℕ → ℕ) (sum : ℕ) → ((k : ℕ) → new.at ≤ k → Next k)
+        → (Counts → sum + most_left left_new each new ≤ total + most_left left_now each c)
+        → (Counts → total ≤ sum)
+        → (Counts → (total + (m.end + 1 - index_of c) ≤ sum) × (index_of new ≤ m.end + 1))
+        → HasCollected nfa asked text Next first left_new each Counts before sum new (ms ++ m ∷ [])
+    collected_more Next left_new sum ready pays more counts =
+        let start : c.asked.start ≡ asked.start = ap (λ (a : Asked). a.start) h.same_asked in
+        let same : new.asked.start ≡ c.asked.start = ap (λ (a : Asked). a.start) moved.asked in record {
+          after = one.0;
+          is = moved.is;
+          same_asked = moved.asked ∙ h.same_asked;
+          same_text = moved.text ∙ h.same_text;
+          ready = ready;
+          paid = λ k. omega (arith, pays k, h.paid k);
+          counted = λ k. omega (arith, (counts k).0, (counts k).1, h.counted k, same);
+          ended = λ k. counted_push asked.start before sum ms m
+              (counted_more asked.start before total sum ms (more k) (h.ended k))
+              (omega (arith, (counts k).0, (counts k).1, h.counted k, same, start));
+        }
+
+  -- and no more
+  module _ (new : CursorValue) (moved : HasMoved nfa c None new) where
+    pub collected_all : AreMatches nfa asked None ms
+    collected_all = after_all nfa asked (place_of c) ms h.after moved.next
+
+  -- at the end of a range in which a match may begin anywhere
+  pub collected_past : is_anchored nfa asked.anchored ≡ false → (sum : ℕ)
+      → (Counts → c.is_anchored ≡ false → total + (length c.text.bytes + 1 - c.at) ≤ sum)
+      → Counts → before + (asked.end - asked.start) + 1 ≤ sum
+  collected_past free sum past k =
+      let size : length c.text.bytes ≡ asked.end - asked.start = rw (← h.same_asked) h.is.count in
+      let free : c.is_anchored ≡ false = h.is.anchored ∙ rw h.same_asked free in
+      omega (arith, past k free, h.counted k, size)
+
+  pub collected_most : (sum : ℕ) → (Counts → sum ≤ total + most_left left_now each c) → Counts
+      → sum ≤ before + (first 0 + each * (asked.end - asked.start + 1))
+  collected_most sum bounded k = omega (arith, bounded k, h.paid k)

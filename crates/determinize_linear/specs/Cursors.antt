@@ -1,0 +1,12 @@
+-- What a `Searcher` is seen as.
+use Rattle.std.specs.Prelude.{ℕ}
+use Rattle.determinize_dense.specs.Table.{DfaValue}
+use Rattle.determinize_find.specs.Cursors as find
+
+-- a cursor over all matches by a DFA: the rest of the input, and where the match before it ended
+-- (`cursor`), the index from which the next call searches, and the most steps of all calls to come
+pub record SearcherValue : Type 0 where
+  pub dfa : DfaValue
+  pub cursor : find.SearcherValue
+  pub next : ℕ
+  pub left : ℕ
