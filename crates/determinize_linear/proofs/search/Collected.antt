@@ -1,9 +1,8 @@
 -- All matches by a cursor, one after another.
--- Main statements: HasCollected, collected_none, collected_more, collected_less, collected_all, collected_past,
--- collected_most.
+-- Main statements: HasCollected, collected_none, collected_more, collected_less, collected_all.
 -- Used by: `find_all_by`.
 -- Idea: each match is the next one after those before it, and what the cursor costs is paid by what it had left.
-use Rattle.std.proofs.Common.{◌≡◌, ◌<◌, ◌≤◌, ◌*◌, ◌+◌, ◌-◌, ◌++◌, ◌∷◌, ◌∙◌, ℕ, List, None, Some, [], ap, arith, false}
+use Rattle.std.proofs.Common.{◌≡◌, ◌<◌, ◌≤◌, ◌*◌, ◌+◌, ◌-◌, ◌++◌, ◌∷◌, ◌∙◌, ℕ, List, None, Some, [], ap, arith}
 use Rattle.std.proofs.Common.{length, refl}
 use Rattle.std.proofs.lemmas.List.Elements.{All-nil}
 use Rattle.std.proofs.lemmas.Option.{none-some}
@@ -11,7 +10,6 @@ use Rattle.determinize_below.specs.Search.{Asked}
 use Rattle.determinize_below.specs.Semantics.{Nfa, Text}
 use Rattle.determinize_below.specs.declared.search.Match.{Match}
 use Rattle.determinize_find.specs.Cursors.{SearcherValue}
-use Rattle.determinize_find.specs.LeftmostIn.{is_anchored}
 use Rattle.determinize_find.specs.Matches.{AreMatches}
 use Rattle.determinize_find.specs.Private.Left.{left}
 use Rattle.determinize_find.proofs.matches.NextMatch.{IsAfter, IsOneMore, after_all, after_one}
@@ -96,16 +94,3 @@ module _ (nfa : Nfa) (asked : Asked) (text : Text) (Ready : ℕ → Type 0) (fir
   module _ (new : CursorValue) (moved : HasMoved nfa c None new) where
     pub collected_all : AreMatches nfa asked None ms
     collected_all = after_all nfa asked (place_of c) ms h.after moved.next
-
-  -- at the end of a range in which a match may begin anywhere
-  pub collected_past : is_anchored nfa asked.anchored ≡ false → (sum : ℕ)
-      → (Counts → c.is_anchored ≡ false → total + (length c.text.bytes + 1 - c.at) ≤ sum)
-      → Counts → before + (asked.end - asked.start) + 1 ≤ sum
-  collected_past free sum past k =
-      let size : length c.text.bytes ≡ asked.end - asked.start = rw (← h.same_asked) h.is.count in
-      let free : c.is_anchored ≡ false = h.is.anchored ∙ rw h.same_asked free in
-      omega (arith, past k free, h.counted k, size)
-
-  pub collected_most : (sum : ℕ) → (Counts → sum ≤ total + most_left left_now each c) → Counts
-      → sum ≤ before + (first 0 + each * (asked.end - asked.start + 1))
-  collected_most sum bounded k = omega (arith, bounded k, h.paid k)

@@ -1,10 +1,9 @@
 -- A cursor over matches, and a search from its position.
--- Main statements: cursor_new, IsSought, next_further, sought_moved, sought_ready, sought_paid, sought_grows,
--- sought_counted, sought_more, sought_none, sought_past, sought_most.
+-- Main statements: cursor_new, IsSought, next_further, sought_moved, sought_paid, sought_more, sought_none, sought_past.
 -- Used by: `Cursor::new` and `Cursor::advance`.
 -- Idea: what a search found is the next match or is skipped, and either way the next search begins further on.
-use Rattle.std.specs.Prelude.{nat_lt, not, option_map}
-use Rattle.std.proofs.Common.{◌≡◌, ◌<◌, ◌≤◌, ◌+◌, ◌-◌, ◌^◌, ◌∙◌, ◌||◌, ℕ, Bool, None, Option, Some}
+use Rattle.std.specs.Prelude.{nat_lt, option_map}
+use Rattle.std.proofs.Common.{◌≡◌, ◌<◌, ◌≤◌, ◌+◌, ◌-◌, ◌^◌, ◌∙◌, ℕ, Bool, None, Option, Some}
 use Rattle.std.proofs.Common.{ap, arith, cond, false, length, refl, subst, sym, true}
 use Rattle.std.specs.Option.{IfNone, IfSome}
 use Rattle.std.proofs.lemmas.Bool.{ltb-false, ltb-true, true≢false}
@@ -18,7 +17,7 @@ use Rattle.determinize_find.specs.Cursors.{SearcherValue, after_match}
 use Rattle.determinize_find.specs.LeftmostIn.{is_anchored}
 use Rattle.determinize_find.specs.Matches.{IsNext}
 use Rattle.determinize_find.specs.Private.BestAt.{IsBestAt, IsBestIn, from_index}
-use Rattle.ordered_reach.proofs.Cases.{by_test, some_injective}
+use Rattle.ordered_reach.proofs.Cases.{by_test}
 use Rattle.determinize_linear.specs.Private.Paid.{IsPaid, end_of, in_haystack}
 use Rattle.determinize_linear.specs.Private.Turns.{CursorValue, HasMoved, IsCursor, IsTurned, ends_at, index_of}
 use Rattle.determinize_linear.specs.Private.Turns.{most_left, next_at, passed, place_of, rest_of, taken}
@@ -185,7 +184,7 @@ module _ (c : CursorValue) (l : c.at ≤ length c.text.bytes) where
       (λ t. rw t (omega (arith, ltb-true c.at m.offset t)))
       (λ f. rw f (omega arith))
 
-  pub next_late : (found : Option HalfMatch) → IfSome found (λ m. c.at ≤ m.offset)
+  next_late : (found : Option HalfMatch) → IfSome found (λ m. c.at ≤ m.offset)
       → end_of c.at found ≤ next_at c found
   next_late None low = omega (arith, next_further None)
   next_late (Some m) low = by_test (nat_lt c.at m.offset)
@@ -193,7 +192,7 @@ module _ (c : CursorValue) (l : c.at ≤ length c.text.bytes) where
       (λ f. rw f (omega (arith, ltb-false c.at m.offset f)))
 
   -- what the search costs
-  pub pass_pays : (left new : ℕ → ℕ) (most extra before total : ℕ) (found : Option HalfMatch)
+  pass_pays : (left new : ℕ → ℕ) (most extra before total : ℕ) (found : Option HalfMatch)
       → IfSome found (λ m. c.at ≤ m.offset)
       → IfSome found (λ m. IsPaid new most (left c.at) c.at m.offset extra before total)
       → IfNone found ((k : ℕ) → c.at ≤ k → total + new k ≤ before + extra + left c.at)
@@ -219,7 +218,7 @@ module _ (c : CursorValue) (l : c.at ≤ length c.text.bytes) where
       )))
 
   -- a search counts a try for each position
-  pub pass_counts : (before total : ℕ) (found : Option HalfMatch) → IfSome found (λ m. c.at ≤ m.offset)
+  pass_counts : (before total : ℕ) (found : Option HalfMatch) → IfSome found (λ m. c.at ≤ m.offset)
       → before + end_of c.at found + 1 ≤ total + c.at
       → (c.is_anchored ≡ true → next_at c found ≤ length c.text.bytes) → before + next_at c found ≤ total + c.at
   pass_counts before total None low counted free = by_test c.is_anchored
@@ -228,22 +227,6 @@ module _ (c : CursorValue) (l : c.at ≤ length c.text.bytes) where
   pass_counts before total (Some m) low counted free = by_test (nat_lt c.at m.offset)
       (λ t. rw t (omega (arith, counted)))
       (λ f. rw f (omega (arith, counted, low)))
-
-  pub pass_counted : (before total : ℕ) (found : Option HalfMatch) (m : Match) → IfSome found (λ h. c.at ≤ h.offset)
-      → taken c found ≡ Some m → before + end_of c.at found + 1 ≤ total + c.at
-      → (before + (m.end + 1) ≤ total + index_of c) × (index_of (passed c found) ≤ m.end + 1)
-  pass_counted before total None m low e counted = absurd (none-some m e)
-  pass_counted before total (Some h) m low e counted =
-      let end : m.end ≡ c.asked.start + h.offset = ends (nat_lt c.at h.offset || not (ends_at c.before (index_of c))) e in (
-        omega (arith, counted, end),
-        by_test (nat_lt c.at h.offset)
-            (λ t. rw t (omega (arith, end)))
-            (λ f. rw f (omega (arith, end, low))),
-      )
-    where
-      ends : (b : Bool) → cond b (Some (in_haystack c.asked.start c.at h)) None ≡ Some m → m.end ≡ c.asked.start + h.offset
-      ends true e = ap (λ (n : Match). n.end) (sym (some_injective (in_haystack c.asked.start c.at h) m e))
-      ends false e = absurd (none-some m e)
 
 -- a cursor whose searches since it was `old` found no match that is taken: what they cost, and that they count a try
 -- for each position
@@ -282,7 +265,7 @@ module _ (nfa : Nfa) (text : Text) (Ready : ℕ → Type 0) (first left : ℕ �
   pub sought_moved : (m : Match) → taken c found ≡ Some m → HasMoved nfa old (Some m) (passed c found)
   sought_moved m e = moved_some nfa old c found m s.same e is_passed
 
-  pub sought_ready : (Next : ℕ → Type 0) → ((k : ℕ) → end_of at found ≤ k → Next k)
+  sought_ready : (Next : ℕ → Type 0) → ((k : ℕ) → end_of at found ≤ k → Next k)
       → (k : ℕ) → next_at c found ≤ k → Next k
   sought_ready Next ready k l = ready k (rw here (omega (arith, l, next_late c within found low)))
 
@@ -290,7 +273,7 @@ module _ (nfa : Nfa) (text : Text) (Ready : ℕ → Type 0) (first left : ℕ �
       (pays : Counts → IfSome found (λ m. IsPaid new most (left at) at m.offset extra total sum))
       (unpaid : Counts → IfNone found ((k : ℕ) → at ≤ k → sum + new k ≤ total + extra + left at))
       (counts : Counts → total + end_of at found + 1 ≤ sum + at) where
-    pub sought_grows : Counts → before ≤ sum
+    sought_grows : Counts → before ≤ sum
     sought_grows k =
         let counted : total + end_of c.at found + 1 ≤ sum + c.at = rw here at (counts k) in
         omega (arith, s.more k, counted, ends found low)
@@ -306,13 +289,6 @@ module _ (nfa : Nfa) (text : Text) (Ready : ℕ → Type 0) (first left : ℕ �
       s.paid k,
       pass_pays c within left new most extra total sum found low (rw here at (pays k)) (rw here at (unpaid k)),
     )
-
-    pub sought_counted : Counts → (m : Match) → taken c found ≡ Some m
-        → (before + (m.end + 1 - index_of old) ≤ sum) × (index_of (passed c found) ≤ m.end + 1)
-    sought_counted k m e =
-        let start : c.asked.start ≡ old.asked.start = ap (λ (d : CursorValue). d.asked.start) s.same in
-        let one = pass_counted c within total sum found m low e (rw here at (counts k)) in
-        (omega (arith, one.0, start, s.counted k (λ t. within), sought_grows k), one.1)
 
     pub sought_more : (Next : ℕ → Type 0) → ((k : ℕ) → end_of at found ≤ k → Next k) → taken c found ≡ None
         → IsSought nfa text Next first new most extra Counts before sum old (passed c found)
@@ -343,19 +319,3 @@ module _ (nfa : Nfa) (text : Text) (Ready : ℕ → Type 0) (first left : ℕ �
       let size : length c.text.bytes ≡ length old.text.bytes = ap (λ (d : CursorValue). length d.text.bytes) s.same in
       let far : length c.text.bytes < c.at = rw (← s.same_text) past in
       omega (arith, far, size, s.more k, s.counted k (λ t. absurd (true≢false (sym t ∙ is ∙ free))))
-
--- an error of a search
-pub sought_most : (nfa : Nfa) (text : Text) (Ready : ℕ → Type 0) (first left : ℕ → ℕ) (most extra : ℕ)
-    (Counts : Type 0) (before total : ℕ) (old c : CursorValue)
-    → IsSought nfa text Ready first left most extra Counts before total old c → (at sum : ℕ) → at ≡ c.at
-    → at ≤ length text.bytes → (Counts → sum ≤ total + extra + left at) → Counts
-    → sum ≤ before + most_left first (most + extra) old
-sought_most nfa text Ready first left most extra Counts before total old c s at sum here high bounded k =
-    let within : c.at ≤ length c.text.bytes = rw (← s.same_text, ← here) high in
-    let one : sum ≤ total + extra + left c.at = rw here at (bounded k) in
-    omega (
-      arith,
-      one,
-      s.paid k,
-      turn_pays (most + extra) 0 (length c.text.bytes + 1 - c.at) (omega (arith, within)),
-    )
