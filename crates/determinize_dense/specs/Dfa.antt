@@ -21,7 +21,7 @@ abbrev pub is_anchored : Anchored → Bool
 is_anchored No = false
 is_anchored _ = true
 
--- the value after a start behind a byte or behind nothing, and units
+-- the value after a start that follows a byte or nothing, and units
 abbrev pub value_from : Nfa → MatchKind → Bool → Option ℕ → List (Option ℕ) → Value
 value_from nfa kind anchored p us = value_after nfa kind
     (start_value nfa (start_in nfa anchored) p) us

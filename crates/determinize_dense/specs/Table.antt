@@ -36,7 +36,7 @@ abbrev pub row_after : Table → ℕ → List (Option ℕ) → ℕ
 row_after d r [] = r
 row_after d r (u ∷ us) = row_after d (row_over d r u) us
 
--- the row of a start behind a byte
+-- the row of a start after a byte, or after nothing
 abbrev pub start_row : Nfa → Table → Bool → Option ℕ → ℕ
 start_row nfa d anchored p = slice_index d.starts
     (slot_number (slot_of anchored (start_kind_of nfa.terminator p)))

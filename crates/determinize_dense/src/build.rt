@@ -342,8 +342,8 @@ impl<'n, N: Allocator, A: Allocator + Copy> Builder<'n, N, A> {
         Some(self.next[base.row * self.classes.alphabet_len() + column])
     }
 
-    /// Returns the entry of a row in a column. Often it is the entry of the base, or that of the
-    /// column before; the one above is only a guess.
+    /// Returns the entry of a row in a column. Often it is that of the base, or that of the column
+    /// before. Else the step is computed, and the entry above is the row that is compared first.
     ///
     /// - `base` is that of the row, and `changes` are those of its state.
     fn entry(

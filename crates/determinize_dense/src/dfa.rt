@@ -77,7 +77,7 @@ impl<'n, N: Allocator, A: Allocator> Model for Dfa<'n, N, A> {
 }
 
 impl<'n, N: Allocator, A: Allocator + Copy> Dfa<'n, N, A> {
-    /// Builds the DFA of an NFA, with all its start states: anchored and unanchored, behind each
+    /// Builds the DFA of an NFA, with all its start states: anchored and unanchored, after each
     /// kind of byte.
     ///
     /// - `limit` is the greatest number of states, and there are never more than 16647160.
@@ -202,7 +202,7 @@ impl<'n, N: Allocator, A: Allocator + Copy> Dfa<'n, N, A> {
         bytes
     }
 
-    /// Returns the offset of the row of a start behind a byte, or behind nothing.
+    /// Returns the offset of the row of a start after a byte, or after nothing.
     pub(crate) fn start_row(&self, is_anchored: bool, look_behind: Option<u8>) -> usize
         ensures value { result ≡ offset_of self.now.table
             (start_row self.now.nfa self.now.table is_anchored look_behind) }

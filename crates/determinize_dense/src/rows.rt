@@ -18,7 +18,7 @@ use determinize_engine::state_table::MAX_STATES;
 use std::alloc::{AllocError, Allocator, Global};
 use std::marker::Model;
 
-/// The least number of bytes, of all 256, that do not leave a row for a search to scan out of it.
+/// The least number of the 256 bytes that must lead a row to itself, so that a search scans there.
 const STAYING: usize = 64;
 
 /// The rows of a DFA, in any order, except that row 0 is that of the dead state.

@@ -106,8 +106,8 @@ impl<'n, N: Allocator, A: Allocator + Copy> Rows<'n, N, A> {
         leaving
     }
 
-    /// Returns the tables of row `first` and the rows after it, at most four and up to `last`; the
-    /// others are all 1.
+    /// Returns the tables of up to four rows: row `first` and those after it, up to `last`. A table
+    /// without a row is all 1.
     pub(crate) fn all_leaving(&self, first: usize, last: usize) -> [[u8; 256]; TABLES]
         requires first { first ≤ MAX_STATES }
         requires last { last < length self.now.table.patterns }
@@ -140,7 +140,7 @@ impl<'n, N: Allocator, A: Allocator + Copy> Dfa<'n, N, A> {
         Some(&self.leaving[number - self.first_scanned])
     }
 
-    /// Returns the index of the first byte that leaves a row, but at most `until`.
+    /// Returns the index of the first byte from `read` on that leaves a row, but at most `until`.
     ///
     /// - `row` is the offset of the row, and `read` the number of bytes read before.
     #[inline(always)]
@@ -157,8 +157,9 @@ impl<'n, N: Allocator, A: Allocator + Copy> Dfa<'n, N, A> {
         read
     }
 
-    /// Returns the index of the first byte that leaves a row, or less: eight bytes are read at a
-    /// time, for as long as none of the eight leaves the row by its table.
+    /// Returns the index of the first byte that leaves a row, or a smaller index: eight bytes are
+    /// read at a time, for as long as none of the eight leaves the row by its table. Without a
+    /// table it is `read`.
     ///
     /// - `row` is the offset of the row, and `read` the number of bytes read before.
     #[inline(always)]
@@ -191,7 +192,8 @@ impl<'n, N: Allocator, A: Allocator + Copy> Dfa<'n, N, A> {
         self.scan_upto(row, text, read, text.len())
     }
 
-    /// Returns the index of the first byte that leaves a row, or the length of the text.
+    /// Returns the index of the first byte from `read` on that leaves a row, or the length of the
+    /// text.
     ///
     /// - `row` is the offset of the row, and `read` the number of bytes read before.
     ///

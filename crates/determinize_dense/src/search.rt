@@ -106,7 +106,7 @@ impl<'n, N: Allocator, A: Allocator + Copy> Dfa<'n, N, A> {
         ensures { (r : ℕ) → IsRowAt self.now.table offset r
             → result ≡ is_nonempty (patterns_at self.now.table r) }
     {
-        // Of 0 the difference is the greatest number, so one test serves for both bounds.
+        // For offset 0 the difference wraps to the greatest number, so one test serves for both.
         offset.wrapping_sub(1) < self.last_match
     }
 
@@ -165,9 +165,10 @@ impl<'n, N: Allocator, A: Allocator + Copy> Dfa<'n, N, A> {
     /// Reads a text up to an index, without scans. Stops within `GROUP` bytes once the search is
     /// over: in row 0 or, if `is_earliest`, with a match.
     ///
-    /// Whether it is over is tested once for `GROUP` bytes. With a test for each byte a search
-    /// takes up to a fifth longer on some processors if the jump lies across a boundary of 32
-    /// bytes, and where it lies depends on how the program is linked.
+    /// Whether it is over is tested once for `GROUP` bytes, and after each of the fewer that are
+    /// left. With a test for each byte a search takes up to a fifth longer on some processors if
+    /// the jump lies across a boundary of 32 bytes, and where it lies depends on how the program is
+    /// linked.
     #[inline(always)]
     fn read_block(&self, text: &Text<'_>, from: Reached, until: usize, is_earliest: bool) -> Reached
         requires row { IsOffset self.now.table from.row }
@@ -196,8 +197,9 @@ impl<'n, N: Allocator, A: Allocator + Copy> Dfa<'n, N, A> {
         at
     }
 
-    /// Searches a text. The search ends at row 0 and, if `is_earliest`, at the first row that lists
-    /// a pattern. Returns the last match of the rows that it enters.
+    /// Searches a text. The search ends within `GROUP` bytes of row 0 or, if `is_earliest`, of the
+    /// first row that lists a pattern. Returns the last match of the rows that it enters: if
+    /// `is_earliest`, it only says whether there is one.
     ///
     /// A row is known by its offset. The match of the last row that lists patterns is looked up at
     /// the end. The first bytes are read here, without scans.
@@ -228,7 +230,8 @@ impl<'n, N: Allocator, A: Allocator + Copy> Dfa<'n, N, A> {
 
     /// Searches the rest of a text as `search_rest` does, from where a search has come to.
     ///
-    /// Lends a copy of the text, so that a search that ends before keeps its text in registers.
+    /// Lends `search_rest` a copy of the text, so that a search that ends before it keeps its text
+    /// in registers.
     #[inline(always)]
     fn search_on(&self, text: &Text<'_>, from: Reached, is_earliest: bool) -> Option<HalfMatch>
         requires row { IsOffset self.now.table from.row }
@@ -247,8 +250,8 @@ impl<'n, N: Allocator, A: Allocator + Copy> Dfa<'n, N, A> {
         )
     }
 
-    /// Reads a text in blocks, without scans, as long as matches are near. Stops at row 0, at the
-    /// end of the text, and after some blocks without a match.
+    /// Reads a text in blocks, without scans, as long as matches are near. Stops within
+    /// `GROUP` bytes of row 0, at the end of the text, and after some blocks without a match.
     fn read_blocks(&self, text: &Text<'_>, from: Reached) -> Reached
         requires row { IsOffset self.now.table from.row }
         requires matched { IsOffset self.now.table from.matched }
@@ -378,8 +381,8 @@ impl<'n, N: Allocator, A: Allocator + Copy> Dfa<'n, N, A> {
     /// under `MatchKind::All` that of the best run at the last position where any run accepts.
     /// `None` means that no run accepts.
     ///
-    /// The text is in reading order: for a reverse NFA from the last byte on. The search stops at
-    /// most three bytes after the dead state, since no match can follow it. Does not allocate.
+    /// The text is in reading order: for a reverse NFA from the last byte on. The search stops
+    /// within four bytes of the dead state, since no match can follow it. Does not allocate.
     pub fn search(
         &self,
         anchored: Anchored,
@@ -426,9 +429,9 @@ impl<'n, N: Allocator, A: Allocator + Copy> Dfa<'n, N, A> {
     /// Returns whether an input has a match, under both match kinds: whether some run over what
     /// `search_input` reads accepts.
     ///
-    /// Stops at most three bytes after the first match state or the dead state. If the range starts
-    /// past its end, nothing is read and the result is `false`. `Anchored::Pattern` is not
-    /// accepted. Does not allocate.
+    /// Stops within four bytes of the first match state or the dead state. If the range starts past
+    /// its end, nothing is read and the result is `false`. `Anchored::Pattern` is not accepted.
+    /// Does not allocate.
     pub fn is_match(&self, input: &Input<'_>) -> bool
         requires { has_start input.now.anchored ≡ true }
         ensures accepts { is_done input.now ≡ false

@@ -243,8 +243,8 @@ impl<F: Engine, B: Engine<Error = F::Error>> Regex<F, B> {
         }))
     }
 
-    /// Returns whether an input has a match. Stops where the end of one is found. If the range
-    /// starts past its end, the result is `Ok(false)`.
+    /// Returns whether an input has a match. Stops where the end of one is found, or a few bytes
+    /// later by a whole DFA. If the range starts past its end, the result is `Ok(false)`.
     pub fn is_match(&mut self, input: &Input<'_>) -> Result<bool, F::Error>
         requires start { has_start input.now.anchored ≡ true }
         ensures found { IfOk result

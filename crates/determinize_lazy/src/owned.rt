@@ -286,8 +286,8 @@ impl<N: Allocator, A: Allocator + Copy> OwnedLazy<N, A> {
 
     /// Continues a search as `search_rest` does.
     ///
-    /// Lends a copy of the text, so that a search that only reads the cache keeps its text in
-    /// registers.
+    /// Lends `search_rest` a copy of the text, so that a search that only reads the cache keeps its
+    /// text in registers.
     #[inline(always)]
     fn search_on(
         &mut self,

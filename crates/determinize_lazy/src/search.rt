@@ -209,8 +209,8 @@ impl<'n, N: Allocator, A: Allocator + Copy> Lazy<'n, N, A> {
 
     /// Continues a search as `search_rest` does.
     ///
-    /// Lends a copy of the text, so that a search that only reads the cache keeps its text in
-    /// registers.
+    /// Lends `search_rest` a copy of the text, so that a search that only reads the cache keeps its
+    /// text in registers.
     #[inline(always)]
     fn search_on(
         &mut self,

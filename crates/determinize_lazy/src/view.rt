@@ -200,8 +200,8 @@ impl<'v, N: Allocator, A: Allocator + Copy> View<'v, N, A> {
         };
         let at = self.follow_to_end(id, text, earliest);
         let tag = self.table.tag(at.id);
-        // An equation, since the compiler does not know that the sum is greater than the length. So
-        // a search that has just read the unit ahead has no test of it.
+        // An equation, not `>`: after the step over the unit ahead `at.read` is this sum, and the
+        // compiler then leaves out the test. It does not know that the sum is above the length.
         if at.read == text.len() + 1 || tag.is_last(earliest) {
             return Reached::End(at.last.or_match(tag, at.read).get());
         }

@@ -99,7 +99,7 @@ pub record Stays (old new : Building) : Type 0 where
   pub values : (i : ℕ) (v : Value) → slice_get old.values i ≡ Some v → slice_get new.values i
       ≡ Some v
 
--- this is the row of the start of a slot, for any byte of its kind behind it
+-- this is the row of the start of a slot, for any byte of its kind before it
 abbrev pub IsStart : Nfa → List Value → StartSlot → ℕ → Type 0
 IsStart nfa values slot r = (p : Option ℕ) → IsUnit p → start_kind_of nfa.terminator p ≡ slot.kind
     → slice_get values r ≡ Some (start_value nfa (start_in nfa slot.is_anchored) p)
@@ -111,7 +111,8 @@ pub record AreStarts (nfa : Nfa) (values : List Value) (n : ℕ) (starts : List 
   pub rows : (slot : StartSlot) → slot_number slot < n
       → IsStart nfa values slot (slice_index starts (slot_number slot))
 
--- as many rows as states are reached, at most the limit
+-- of the NFA and the kind of the builder, with a row for each state that is reached, at most its
+-- limit
 pub record IsBuilt (b : Building) (rows : DfaValue) : Type 0 where
   pub nfa : rows.nfa ≡ b.nfa
   pub kind : rows.kind ≡ b.kind
