@@ -162,7 +162,7 @@ fn walk_bytes<N: Allocator, M: Allocator + Copy, A: Allocator, C: Counter>(
     requires below { walk.old.row < length walk.old.dfa.table.patterns }
     requires start { walk.old.found ≡ None }
     ensures walked { IsWalked text.now walk.old marks.old marks.new walk.new 1
-        (IsTrue C.counts) (C.total counter.old) (C.total counter.new) }
+        (C.total counter.old) (C.total counter.new) }
     ensures within { walk.new.at ≤ length text.now.bytes }
     ensures ends { walk.new.at < length text.now.bytes
         → following walk.old.dfa.table text.now walk.new.at walk.new.row ≡ None }
@@ -202,7 +202,7 @@ pub(crate) fn walk_from<N: Allocator, M: Allocator + Copy, A: Allocator, C: Coun
     requires walkable { IsWalkable dfa.now marks.old dfa.now.nfa text.now from }
     ensures found { IsFoundAt dfa.now text.now from result }
     ensures walked { HasWalked dfa.now text.now from marks.old marks.new result
-        (IsTrue C.counts) (C.total counter.old) (C.total counter.new) }
+        (C.total counter.old) (C.total counter.new) }
     ensures counted { IsTrue C.counts
         → C.total counter.old + end_of from result + 1 ≤ C.total counter.new + from }
 {
@@ -284,7 +284,6 @@ pub struct Searcher<
 }
 
 impl<'d, 'n, 'h, N: Allocator, M: Allocator, A: Allocator> Model for Searcher<'d, 'n, 'h, N, M, A> {
-    ghost use Rattle.std.specs.Prelude.{◌+◌};
     ghost use Rattle.determinize_linear.specs.Cursors.{SearcherValue};
     ghost use Rattle.determinize_linear.specs.Private.Following.{steps_left};
     ghost use Rattle.determinize_linear.specs.Private.Searchers.{IsSearcher};
@@ -343,8 +342,11 @@ impl<'d, 'n, 'h, N: Allocator, M: Allocator + Copy, A: Allocator> Searcher<'d, '
         ensures next { IsNext self.old.dfa.nfa self.old.cursor.asked self.old.cursor.before result }
         ensures after { self.new.cursor ≡ after_match self.old.cursor result }
         ensures dfa { self.new.dfa ≡ self.old.dfa }
-        ensures linear { IsTrue C.counts
-            → C.total counter.new + self.new.left ≤ C.total counter.old + self.old.left }
+        ensures further { IfSome result (λ m.
+            (m.start < m.end → self.new.next ≡ m.end)
+            × (m.start ≡ m.end → self.new.next ≡ m.end + 1)) }
+        ensures done { IfNone result (self.old.cursor.asked.end < self.new.next) }
+        ensures linear { C.total counter.new + self.new.left ≤ C.total counter.old + self.old.left }
         ensures more { IsTrue C.counts → C.total counter.old ≤ C.total counter.new }
         ensures counted { IsTrue C.counts → IfSome result (λ m.
             (C.total counter.old + (m.end + 1 - self.old.next) ≤ C.total counter.new)
@@ -368,6 +370,11 @@ impl<'d, 'n, 'h, N: Allocator, M: Allocator + Copy, A: Allocator> Searcher<'d, '
         ensures next { IsNext self.old.dfa.nfa self.old.cursor.asked self.old.cursor.before result }
         ensures after { self.new.cursor ≡ after_match self.old.cursor result }
         ensures dfa { self.new.dfa ≡ self.old.dfa }
+        ensures further { IfSome result (λ m.
+            (m.start < m.end → self.new.next ≡ m.end)
+            × (m.start ≡ m.end → self.new.next ≡ m.end + 1)) }
+        ensures done { IfNone result (self.old.cursor.asked.end < self.new.next) }
+        ensures linear { self.new.left ≤ self.old.left }
     {
         self.advance_with(&mut ())
     }
@@ -381,6 +388,10 @@ impl<'d, 'n, 'h, N: Allocator, M: Allocator + Copy, A: Allocator> Searcher<'d, '
         ensures next { IsNext self.old.dfa.nfa self.old.cursor.asked self.old.cursor.before result }
         ensures after { self.new.cursor ≡ after_match self.old.cursor result }
         ensures dfa { self.new.dfa ≡ self.old.dfa }
+        ensures further { IfSome result (λ m.
+            (m.start < m.end → self.new.next ≡ m.end)
+            × (m.start ≡ m.end → self.new.next ≡ m.end + 1)) }
+        ensures done { IfNone result (self.old.cursor.asked.end < self.new.next) }
         ensures linear { steps.new + self.new.left ≤ steps.old + self.old.left }
         ensures more { steps.old ≤ steps.new }
         ensures counted { IfSome result (λ m.
@@ -424,7 +435,7 @@ fn find_all_with<N: Allocator, M: Allocator + Copy, A: Allocator + Copy, C: Coun
         marks,
         begin_alike,
     };
-    find_all_by(alloc, &mut walks, dfa.nfa(), input, &text, counter)
+    find_all_by(alloc, &mut walks, dfa.nfa(), input, counter)
 }
 
 /// Returns all matches of an input, in their order: the same as [`crate::find_all`] of the NFA.

@@ -200,12 +200,17 @@ impl<'h> Cursor<'h> {
         ensures moved { IfOk result (λ found. HasMoved nfa.now self.old found self.new) }
         ensures ready { IfOk result (λ found. (k : ℕ) → self.new.at ≤ k
             → S.is_ready search.new nfa.now self.old.text k) }
-        ensures paid { IsTrue C.counts → IfOk result (λ found. C.total counter.new + most_left
+        ensures paid { IfOk result (λ found. C.total counter.new + most_left
             (S.left search.new nfa.now self.old.text) (S.most nfa.now + S.extra) self.new
             ≤ C.total counter.old + most_left
             (S.left search.old nfa.now self.old.text) (S.most nfa.now + S.extra) self.old) }
-        ensures bounded { IsTrue C.counts → C.total counter.new ≤ C.total counter.old + most_left
+        ensures bounded { C.total counter.new ≤ C.total counter.old + most_left
             (S.left search.old nfa.now self.old.text) (S.most nfa.now + S.extra) self.old }
+        ensures further { IfOk result (λ found. IfSome found (λ m.
+            (m.start < m.end → index_of self.new ≡ m.end)
+            × (m.start ≡ m.end → index_of self.new ≡ m.end + 1))) }
+        ensures done { IfOk result
+            (λ found. IfNone found (self.old.asked.end < index_of self.new)) }
         ensures more { IsTrue C.counts
             → IfOk result (λ _. C.total counter.old ≤ C.total counter.new) }
         ensures counted { IsTrue C.counts → IfOk result (λ found. IfSome found (λ m.
@@ -233,18 +238,16 @@ pub(crate) fn find_all_by<S: Matcher, N: Allocator, A: Allocator, C: Counter>(
     search: &mut S,
     nfa: &NFA<N>,
     input: &Input<'_>,
-    text: &Text<'_>,
     counter: &mut C,
 ) -> Result<Vec<Match, A>, AllocError>
     requires accepted { IsAccepted nfa.now }
     requires forward { nfa.now.reverse ≡ false }
-    requires text { text.now ≡ text_of false input.now }
     requires mode { has_start input.now.anchored ≡ true }
     requires order { input.now.start ≤ input.now.end }
-    requires ready { (k : ℕ) → S.is_ready search.old nfa.now text.now k }
+    requires ready { (k : ℕ) → S.is_ready search.old nfa.now (text_of false input.now) k }
     ensures all { IfOk result (λ found. AreMatches nfa.now input.now None found.items) }
     ensures linear { IsTrue C.counts → C.total counter.new ≤ C.total counter.old
-        + S.left search.old nfa.now text.now 0
+        + S.left search.old nfa.now (text_of false input.now) 0
         + (S.most nfa.now + S.extra) * (input.now.end - input.now.start + 1) }
     ensures counted { IsTrue C.counts → inputs.is_anchored nfa.now input.now.anchored ≡ false
         → IfOk result (λ _. C.total counter.old + (input.now.end - input.now.start) + 1

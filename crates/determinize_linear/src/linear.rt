@@ -52,14 +52,14 @@ fn search_from<N: Allocator, A: Allocator, C: Counter>(
     ensures places { OnOk result (HasPlaces nfa.now text.now visited.new) }
     ensures spent { IfOk result
         (λ found. IsSpent nfa.now text.now (end_of from found) visited.new) }
-    ensures paid { IsTrue C.counts → IfOk result (λ found. IfSome found (λ m.
+    ensures paid { IfOk result (λ found. IfSome found (λ m.
         IsPaid (λ k. left nfa.now text.now k visited.new) (most_choices nfa.now)
         (left nfa.now text.now from visited.old) from m.offset 1
         (C.total counter.old) (C.total counter.new))) }
-    ensures unpaid { IsTrue C.counts → IfOk result (λ found. IfNone found
+    ensures unpaid { IfOk result (λ found. IfNone found
         (C.total counter.new + left nfa.now text.now from visited.new
         ≤ C.total counter.old + 1 + left nfa.now text.now from visited.old)) }
-    ensures bounded { IsTrue C.counts → C.total counter.new
+    ensures bounded { C.total counter.new
         ≤ C.total counter.old + 1 + left nfa.now text.now from visited.old }
     ensures counted { IsTrue C.counts → IfOk result
         (λ found. C.total counter.old + end_of from found + 1 ≤ C.total counter.new + from) }
@@ -137,7 +137,7 @@ fn find_all_with<N: Allocator, A: Allocator + Copy, C: Counter>(
         visited: Visited::new(alloc, text.len() + 1, nfa.len())?,
         stack: Vec::new(alloc),
     };
-    find_all_by(alloc, &mut search, nfa, input, &text, counter)
+    find_all_by(alloc, &mut search, nfa, input, counter)
 }
 
 /// Returns all matches of an input, in their order, as `plain::find_all` of `determinize_find`.

@@ -55,14 +55,14 @@ pub(crate) trait Matcher {
             (λ found. IfSome found (λ m. m.offset ≤ length text.now.bytes)) }
         ensures ready { IfOk result (λ found. (k : ℕ) → end_of from found ≤ k
             → is_ready self.new nfa.now text.now k) }
-        ensures paid { IsTrue C.counts → IfOk result (λ found. IfSome found (λ m.
+        ensures paid { IfOk result (λ found. IfSome found (λ m.
             IsPaid (left self.new nfa.now text.now) (most nfa.now)
             (left self.old nfa.now text.now from) from m.offset extra
             (C.total counter.old) (C.total counter.new))) }
-        ensures unpaid { IsTrue C.counts → IfOk result (λ found. IfNone found ((k : ℕ) → from ≤ k
+        ensures unpaid { IfOk result (λ found. IfNone found ((k : ℕ) → from ≤ k
             → C.total counter.new + left self.new nfa.now text.now k
             ≤ C.total counter.old + extra + left self.old nfa.now text.now from)) }
-        ensures bounded { IsTrue C.counts → C.total counter.new
+        ensures bounded { C.total counter.new
             ≤ C.total counter.old + extra + left self.old nfa.now text.now from }
         ensures counted { IsTrue C.counts → IfOk result
             (λ found. C.total counter.old + end_of from found + 1 ≤ C.total counter.new + from) };

@@ -4,7 +4,7 @@
 //! A search counts each try by a [`Counter`]: [`Tries`] in the calls whose names end in `_counted`,
 //! and `()`, which counts nothing, in the others.
 
-ghost use Rattle.std.specs.Prelude.{◌≡◌, ℕ, ◌+◌, ◌<◌, Bool, true, false, IsTrue};
+ghost use Rattle.std.specs.Prelude.{◌≡◌, ℕ, ◌+◌, ◌<◌, ◌≤◌, Bool, true, false, IsTrue};
 
 use std::marker::Model;
 use std::sync::ledger::{Blank, Book, Ledger, Share};
@@ -49,7 +49,8 @@ pub(crate) trait Counter {
 
     /// Counts one more try, if `counts`.
     fn count(&mut self)
-        ensures { IsTrue counts → total self.new ≡ total self.old + 1 };
+        ensures most { total self.new ≤ total self.old + 1 }
+        ensures counted { IsTrue counts → total self.new ≡ total self.old + 1 };
 }
 
 impl<L: Ledger> Counter for Tries<L> {

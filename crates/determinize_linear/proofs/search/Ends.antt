@@ -1,6 +1,6 @@
 -- The least number of steps up to the ends of matches.
 -- Main statements: AreCounted, counted_more, counted_push.
--- Used by: `find_all_by`.
+-- Used by: Collected.
 -- Idea: the steps up to the end of a match were counted when it was found, and a count is never smaller later.
 use Rattle.std.proofs.Common.{◌≤◌, ◌+◌, ◌-◌, ◌++◌, ◌∷◌, ℕ, List, [], arith}
 use Rattle.std.specs.List.{All}

@@ -1,7 +1,7 @@
 -- All matches by searches from one index after another.
--- Main statements: begins, best_found, best_order, next_longer, next_empty, next_none, next_past, turned_none,
+-- Main statements: best_found, best_order, next_longer, next_empty, next_none, next_past, turned_none,
 -- turned_longer, turned_empty, turned_touching, turn_pays.
--- Used by: Passing, `Cursor::new` and `Cursor::advance`.
+-- Used by: Passing.
 -- Idea: the search from where an empty match ends finds it again, so the next match is the leftmost one from one byte
 -- further on.
 use Rattle.std.specs.Prelude.{nat_eq, option_map}
@@ -56,20 +56,6 @@ last_is None at e = absurd (true≢false (sym e))
 last_is (Some end) at e = ap Some (eqb-true end at e)
 
 module _ (nfa : Nfa) (asked : Asked) where
-  pub begins : IsTurned nfa asked None asked.start
-  begins = record {
-    start = asked.start;
-    last = None;
-    inside = omega arith;
-    low = omega arith;
-    same = λ found h. h;
-    nothing = λ k l. absurd (omega arith);
-    anchored = λ e. refl;
-    touched = λ e. absurd (none-some asked.start e);
-    untouched = λ end e. absurd (none-some end e);
-    passed = λ end e. absurd (none-some end e);
-  }
-
   -- where no match begins before an index, the best one there is the leftmost
   leftmost : (start at : ℕ) (m : Match) → asked.start ≤ start → start ≤ at → at ≤ asked.end
       → NothingBefore nfa (from asked start) at → (is_anchored nfa asked.anchored ≡ true → at ≡ start)

@@ -179,7 +179,7 @@ module _ (nfa : Nfa) (text : Text) where
 
   -- where a search stops at a match
   pub paid_match : (from at : ℕ) (before rows after : List (List Bool)) (total stack old new : ℕ)
-      → after ≡ without_marks rows at → at < length rows → from ≤ at → 0 < stack → new ≡ total + 1
+      → after ≡ without_marks rows at → at < length rows → from ≤ at → 0 < stack → new ≤ total + 1
       → total + stack + left nfa text from rows ≤ old + 1 + left nfa text from before
       → IsPaid (λ k. left nfa text k after) (most_choices nfa) (left nfa text from before) from at 1 old new
   paid_match from at before rows after total stack old new is l low some one paid = rw is record {

@@ -1,9 +1,9 @@
 -- A cursor over matches, and a search from its position.
--- Main statements: cursor_new, IsSought, next_further, sought_moved, sought_paid, sought_more, sought_none, sought_past.
--- Used by: `Cursor::new` and `Cursor::advance`.
+-- Main statements: IsSought, next_further, sought_moved, sought_paid, sought_more, sought_none, sought_past.
+-- Used by: `Cursor::advance`.
 -- Idea: what a search found is the next match or is skipped, and either way the next search begins further on.
 use Rattle.std.specs.Prelude.{nat_lt, option_map}
-use Rattle.std.proofs.Common.{◌≡◌, ◌<◌, ◌≤◌, ◌+◌, ◌-◌, ◌^◌, ◌∙◌, ℕ, Bool, None, Option, Some}
+use Rattle.std.proofs.Common.{◌≡◌, ◌<◌, ◌≤◌, ◌+◌, ◌-◌, ◌∙◌, ℕ, Bool, None, Option, Some}
 use Rattle.std.proofs.Common.{ap, arith, cond, false, length, refl, subst, sym, true}
 use Rattle.std.specs.Option.{IfNone, IfSome}
 use Rattle.std.proofs.lemmas.Bool.{ltb-false, ltb-true, true≢false}
@@ -12,43 +12,16 @@ use Rattle.determinize_below.specs.Search.{Asked}
 use Rattle.determinize_below.specs.Semantics.{Nfa, Text}
 use Rattle.determinize_below.specs.declared.search.HalfMatch.{HalfMatch}
 use Rattle.determinize_below.specs.declared.search.Match.{Match}
-use Rattle.determinize_engine.specs.Searches.{text_of}
 use Rattle.determinize_find.specs.Cursors.{SearcherValue, after_match}
-use Rattle.determinize_find.specs.LeftmostIn.{is_anchored}
 use Rattle.determinize_find.specs.Matches.{IsNext}
 use Rattle.determinize_find.specs.Private.BestAt.{IsBestAt, IsBestIn, from_index}
 use Rattle.ordered_reach.proofs.Cases.{by_test}
 use Rattle.determinize_linear.specs.Private.Paid.{IsPaid, end_of, in_haystack}
 use Rattle.determinize_linear.specs.Private.Turns.{CursorValue, HasMoved, IsCursor, IsTurned, ends_at, index_of}
 use Rattle.determinize_linear.specs.Private.Turns.{most_left, next_at, passed, place_of, rest_of, taken}
-use Rattle.determinize_find.proofs.leftmost.SearchInTurn.{found_past}
-use Rattle.determinize_linear.proofs.search.InTurn.{begins, best_found, best_order, next_empty, next_longer, next_none}
+use Rattle.determinize_linear.proofs.search.InTurn.{best_found, best_order, next_empty, next_longer, next_none}
 use Rattle.determinize_linear.proofs.search.InTurn.{next_past, turn_pays, turned_empty, turned_longer, turned_none}
 use Rattle.determinize_linear.proofs.search.InTurn.{turned_touching}
-
--- a cursor before the first match
-pub cursor_new : (nfa : Nfa) (asked : Asked) (text : Text) (anchored : Bool) → asked.end ≤ length asked.haystack
-    → asked.end < 2 ^ 64 → anchored ≡ is_anchored nfa asked.anchored
-    → (asked.start ≤ asked.end → text ≡ text_of false asked) → length text.bytes ≡ asked.end - asked.start
-    → IsCursor nfa record {
-      asked = asked;
-      text = text;
-      is_anchored = anchored;
-      before = None;
-      at = asked.start - asked.end;
-    }
-cursor_new nfa asked text anchored haystack limit same is count = record {
-  haystack = haystack;
-  limit = limit;
-  count = count;
-  order = λ l. omega (arith, l, count);
-  text = is;
-  anchored = same;
-  turned = λ l.
-      let here : asked.start + (asked.start - asked.end) ≡ asked.start = omega (arith, l, count) in
-      rw here (begins nfa asked);
-  done = λ l. (None, found_past nfa asked (omega (arith, l, count)), refl);
-}
 
 -- the cursor, and the next match if it is taken
 abbrev pub IsPassed : Nfa → CursorValue → Option HalfMatch → Type 0
@@ -236,7 +209,7 @@ pub record IsSought (nfa : Nfa) (text : Text) (Ready : ℕ → Type 0) (first le
   pub same_text : text ≡ c.text
   pub same : c ≡ record old { at = c.at }
   pub ready : (k : ℕ) → c.at ≤ k → Ready k
-  pub paid : Counts → total + most_left left (most + extra) c ≤ before + most_left first (most + extra) old
+  pub paid : total + most_left left (most + extra) c ≤ before + most_left first (most + extra) old
   pub counted : Counts → (c.is_anchored ≡ true → c.at ≤ length c.text.bytes) → before + c.at ≤ total + old.at
   pub more : Counts → before ≤ total
 
@@ -270,8 +243,8 @@ module _ (nfa : Nfa) (text : Text) (Ready : ℕ → Type 0) (first left : ℕ �
   sought_ready Next ready k l = ready k (rw here (omega (arith, l, next_late c within found low)))
 
   module _ (new : ℕ → ℕ) (sum : ℕ)
-      (pays : Counts → IfSome found (λ m. IsPaid new most (left at) at m.offset extra total sum))
-      (unpaid : Counts → IfNone found ((k : ℕ) → at ≤ k → sum + new k ≤ total + extra + left at))
+      (pays : IfSome found (λ m. IsPaid new most (left at) at m.offset extra total sum))
+      (unpaid : IfNone found ((k : ℕ) → at ≤ k → sum + new k ≤ total + extra + left at))
       (counts : Counts → total + end_of at found + 1 ≤ sum + at) where
     sought_grows : Counts → before ≤ sum
     sought_grows k =
@@ -282,12 +255,12 @@ module _ (nfa : Nfa) (text : Text) (Ready : ℕ → Type 0) (first left : ℕ �
         ends None l = omega arith
         ends (Some m) l = l
 
-    pub sought_paid : Counts → sum + most_left new (most + extra) (passed c found)
+    pub sought_paid : sum + most_left new (most + extra) (passed c found)
         ≤ before + most_left first (most + extra) old
-    sought_paid k = omega (
+    sought_paid = omega (
       arith,
-      s.paid k,
-      pass_pays c within left new most extra total sum found low (rw here at (pays k)) (rw here at (unpaid k)),
+      s.paid,
+      pass_pays c within left new most extra total sum found low (rw here at pays) (rw here at unpaid),
     )
 
     pub sought_more : (Next : ℕ → Type 0) → ((k : ℕ) → end_of at found ≤ k → Next k) → taken c found ≡ None

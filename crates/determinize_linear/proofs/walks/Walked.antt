@@ -1,7 +1,7 @@
 -- A walk from a position, with its marks and the number of steps.
 -- Main statements: walked_start, walked_more, walked_listing, walked_mark, none_follows, none_past, walked_all, has_walked,
 -- has_bit_here, ends_before, cost_some, cost_none, cost_most, steps_enough.
--- Used by: `walk_bytes`, `walk_from`, `search_from` and `find_all_with`.
+-- Used by: `walk_bytes`, `walk_from`, `search_from`, `find_all_with` and `Searcher::new`.
 -- Idea: a step finds a match at its position, or it marks a pair, or it is the first or the last one.
 use Rattle.std.proofs.Common.{◌≡◌, ◌<◌, ◌≤◌, ◌*◌, ◌+◌, ◌∙◌, ℕ, Bool, List, None, Option, Some, [], ◌∷◌, arith, false}
 use Rattle.std.proofs.Common.{length, refl, slice_get, subst, suc, sym, true, zero}
@@ -38,9 +38,9 @@ lists_none : (ps : List ℕ) → false ≡ is_nonempty ps → ps ≡ []
 lists_none ps e = grind arith
 
 module _ (text : Text) (first : WalkValue) (old : RowMarks)
-    (can : IsWalkable first.dfa old first.dfa.nfa text first.at) (Counts : Type 0) (before : ℕ) where
+    (can : IsWalkable first.dfa old first.dfa.nfa text first.at) (before : ℕ) where
   abbrev Walked : RowMarks → WalkValue → ℕ → ℕ → Type 0
-  Walked m now more total = IsWalked text first old m now more Counts before total
+  Walked m now more total = IsWalked text first old m now more before total
 
   more_steps : (m : RowMarks) (now : WalkValue) (some more total : ℕ) → some ≤ more → Walked m now some total
       → Walked m now more total
@@ -52,7 +52,7 @@ module _ (text : Text) (first : WalkValue) (old : RowMarks)
     within = w.within;
     span = w.span;
     words = w.words;
-    cost = λ k. omega (arith, w.cost k, l);
+    cost = omega (arith, w.cost, l);
   }
 
   pub walked_start : first.row < length first.dfa.table.patterns → first.found ≡ None → Walked old first 0 before
@@ -64,7 +64,7 @@ module _ (text : Text) (first : WalkValue) (old : RowMarks)
     within = rw none tt;
     span = refl;
     words = refl;
-    cost = λ k. rw none (omega arith);
+    cost = rw none (omega arith);
   }
 
   module _ (m : RowMarks) (now : WalkValue) (more total : ℕ) (is : Walked m now more total) where
@@ -80,7 +80,7 @@ module _ (text : Text) (first : WalkValue) (old : RowMarks)
     -- a step over a unit
     module _ (u : Option ℕ) (next : WalkValue) (is_match : Bool) (step : HasStepped now u next is_match) (sum : ℕ)
         (unit : slice_get (units text) now.at ≡ Some u) (are : All IsUnit (units text)) (l : now.at ≤ length text.bytes)
-        (counts : Counts → sum ≡ total + 1) where
+        (counts : sum ≤ total + 1) where
       goes : next.row ≡ row_over first.dfa.table now.row u
       goes = rw is.dfa at step.row
 
@@ -102,7 +102,7 @@ module _ (text : Text) (first : WalkValue) (old : RowMarks)
         within = within ps e;
         span = is.span;
         words = is.words;
-        cost = λ k. cost ps e (is.cost k) (counts k);
+        cost = cost ps e is.cost counts;
       }
         where
           is_found : (ps : List ℕ) → patterns_at first.dfa.table next.row ≡ ps
@@ -121,7 +121,7 @@ module _ (text : Text) (first : WalkValue) (old : RowMarks)
 
           cost : (ps : List ℕ) → patterns_at first.dfa.table next.row ≡ ps
               → total + unmarked first.dfa.table text m
-              ≤ before + unmarked first.dfa.table text old + matched first.at now.found + more → sum ≡ total + 1
+              ≤ before + unmarked first.dfa.table text old + matched first.at now.found + more → sum ≤ total + 1
               → sum + unmarked first.dfa.table text m
               ≤ before + unmarked first.dfa.table text old + matched first.at next.found + (extra ps + more)
           cost [] e c n = rw (is_found [] e) (omega (arith, c, n))
@@ -161,9 +161,9 @@ module _ (text : Text) (first : WalkValue) (old : RowMarks)
             within = w.within;
             span = mark.span ∙ is.span;
             words = mark.words ∙ is.words;
-            cost = λ k. omega (
+            cost = omega (
               arith,
-              w.cost k,
+              w.cost,
               unset-with first.dfa.table (length text.bytes + 1) m new now.at now.row bits mark (omega arith) is.below
                   free,
             );
@@ -183,7 +183,7 @@ module _ (text : Text) (first : WalkValue) (old : RowMarks)
       pub walked_all : now.found ≡ following first.dfa.table text first.at first.row
       walked_all = followed_all first.dfa.table text m first.at now.at now.row now.found _ is.followed none
 
-      pub has_walked : more ≤ 2 → HasWalked first.dfa text first.at old m now.found Counts before total
+      pub has_walked : more ≤ 2 → HasWalked first.dfa text first.at old m now.found before total
       has_walked few = record {
         order = is.followed.order;
         within = is.within;
@@ -194,7 +194,7 @@ module _ (text : Text) (first : WalkValue) (old : RowMarks)
           none = λ p r i n b e. followed_end first.dfa.table text m first.at now.at now.row now.found _ is.followed none p
               r (omega arith) n b e;
         };
-        cost = λ k. omega (arith, is.cost k, few);
+        cost = omega (arith, is.cost, few);
       }
 
 -- a walk that took a step is further on than the end of its match
@@ -204,11 +204,11 @@ ends_before from at None a b c = omega arith
 ends_before from at (Some f) a b c = omega (arith, b, c)
 
 -- what a walk cost
-module _ (dfa : DfaValue) (text : Text) (from : ℕ) (old m : RowMarks) (found : Option HalfMatch) (Counts : Type 0)
-    (before total : ℕ) (is : HasWalked dfa text from old m found Counts before total) (counts : Counts) where
+module _ (dfa : DfaValue) (text : Text) (from : ℕ) (old m : RowMarks) (found : Option HalfMatch)
+    (before total : ℕ) (is : HasWalked dfa text from old m found before total) where
   pub cost_some : IfSome found (λ f. IsPaid (steps_left dfa.table text m) 0 (steps_left dfa.table text old from) from
       f.offset 3 before total)
-  cost_some = go found is.order is.within (is.cost counts)
+  cost_some = go found is.order is.within is.cost
     where
       go : (o : Option HalfMatch) → from ≤ end_of from o → IfSome o (λ f. f.offset ≤ length text.bytes)
           → total + unmarked dfa.table text m ≤ before + unmarked dfa.table text old + matched from o + 2
@@ -223,7 +223,7 @@ module _ (dfa : DfaValue) (text : Text) (from : ℕ) (old m : RowMarks) (found :
 
   pub cost_none : IfNone found ((k : ℕ) → from ≤ k
       → total + steps_left dfa.table text m k ≤ before + 3 + steps_left dfa.table text old from)
-  cost_none = go found (is.cost counts)
+  cost_none = go found is.cost
     where
       go : (o : Option HalfMatch)
           → total + unmarked dfa.table text m ≤ before + unmarked dfa.table text old + matched from o + 2
@@ -233,7 +233,7 @@ module _ (dfa : DfaValue) (text : Text) (from : ℕ) (old m : RowMarks) (found :
       go (Some f) c = tt
 
   pub cost_most : total ≤ before + 3 + steps_left dfa.table text old from
-  cost_most = go found is.order is.within (is.cost counts)
+  cost_most = go found is.order is.within is.cost
     where
       go : (o : Option HalfMatch) → from ≤ end_of from o → IfSome o (λ f. f.offset ≤ length text.bytes)
           → total + unmarked dfa.table text m ≤ before + unmarked dfa.table text old + matched from o + 2

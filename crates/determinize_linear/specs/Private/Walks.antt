@@ -43,11 +43,11 @@ abbrev pub matched : ℕ → Option HalfMatch → ℕ
 matched from None = 0
 matched from (Some m) = m.offset + 1 - from
 
--- a walk that began where `first` is, with the marks at its start and now and, if steps count,
--- their number: each finds a match at one of the positions up to the last match, or it marks a
+-- a walk that began where `first` is, with the marks at its start and now and the most steps that
+-- were counted: each finds a match at one of the positions up to the last match, or it marks a
 -- pair, or it is one of `more` that do neither
 pub record IsWalked (text : Text) (first : WalkValue) (old m : RowMarks) (now : WalkValue)
-    (more : ℕ) (Counts : Type 0) (before total : ℕ) : Type 0 where
+    (more : ℕ) (before total : ℕ) : Type 0 where
   pub dfa : now.dfa ≡ first.dfa
   pub followed : IsFollowed first.dfa.table text m first.at now.at now.row now.found
       (following first.dfa.table text first.at first.row)
@@ -56,15 +56,15 @@ pub record IsWalked (text : Text) (first : WalkValue) (old m : RowMarks) (now : 
   pub within : IfSome now.found (λ f. f.offset ≤ length text.bytes)
   pub span : m.span ≡ old.span
   pub words : length m.words ≡ length old.words
-  pub cost : Counts → total + unmarked first.dfa.table text m
+  pub cost : total + unmarked first.dfa.table text m
       ≤ before + unmarked first.dfa.table text old + matched first.at now.found + more
 
 -- the walk from a position found this match, and left these marks; two of its steps found none and
 -- marked no pair
 pub record HasWalked (dfa : DfaValue) (text : Text) (from : ℕ) (old m : RowMarks)
-    (found : Option HalfMatch) (Counts : Type 0) (before total : ℕ) : Type 0 where
+    (found : Option HalfMatch) (before total : ℕ) : Type 0 where
   pub order : from ≤ end_of from found
   pub within : IfSome found (λ f. f.offset ≤ length text.bytes)
   pub walkable : (k : ℕ) → end_of from found ≤ k → IsWalkable dfa m dfa.nfa text k
-  pub cost : Counts → total + unmarked dfa.table text m
+  pub cost : total + unmarked dfa.table text m
       ≤ before + unmarked dfa.table text old + matched from found + 2

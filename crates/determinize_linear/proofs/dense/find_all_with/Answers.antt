@@ -9,8 +9,8 @@ use Rattle.determinize_linear.proofs.dense.find_all_with.Goals as goal
 pub find_all_by-requires-clause-ready : goal.find_all_by-requires-clause-ready
 find_all_by-requires-clause-ready g c = λ k. (
   c.requires.kind,
-  c.begin_alike-begin_alike.ensures.alike,
-  rw c.nfa.ensures.value (c.in_ok-marks.ensures.walkable k),
+  rw c.of_input-text.ensures at c.begin_alike-begin_alike.ensures.alike,
+  rw c.nfa.ensures.value (rw c.of_input-text.ensures at (c.in_ok-marks.ensures.walkable k)),
 )
 
 pub returns-clause-linear : goal.returns-clause-linear
@@ -27,6 +27,8 @@ returns-clause-linear g c = λ k.
       c.find_all_by.ensures.linear k,
       most,
       count,
+      ap (λ (t : Text). length t.bytes) c.of_input-text.ensures,
+      ap (λ (t : Text). unmarked c.args.dfa.now.table t c.in_ok-marks.marks) c.of_input-text.ensures,
       steps_enough (length c.args.dfa.now.table.patterns) (c.args.input.now.end - c.args.input.now.start),
     )
 

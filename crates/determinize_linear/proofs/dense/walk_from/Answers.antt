@@ -1,4 +1,4 @@
-use Rattle.std.proofs.Common.{◌≡◌, ◌<◌, ◌∙◌, IsTrue, None, Option, Some, ap, arith, length, sym}
+use Rattle.std.proofs.Common.{◌≡◌, ◌<◌, ◌∙◌, None, Option, Some, ap, arith, length, sym}
 use Rattle.determinize_below.specs.declared.search.HalfMatch.{HalfMatch}
 use Rattle.determinize_engine.proofs.Texts.{unit-last}
 use Rattle.determinize_linear.specs.Private.Following.{IsWalkable, following}
@@ -30,30 +30,30 @@ returns-then-walk-len-clause-found g c =
     let at : c.walk.inside.at ≡ c.walk_bytes.new.walk.at = ap (λ (w : WalkValue). w.at) c.walk.view_is in
     let none = c.walk_bytes.ensures.ends (omega (arith, at, c.if-walk-len.true, c.len.ensures.value)) in
     last_found g l c.found.result (c.found.ensures ∙ walked_all c.args.text.now c.new-walk.result c.args.marks.now (can g l)
-    (IsTrue g.C.Counter.counts) (g.C.Counter.total c.args.counter.now) c.walk_bytes.new.marks c.walk_bytes.new.walk 1 _
+    (g.C.Counter.total c.args.counter.now) c.walk_bytes.new.marks c.walk_bytes.new.walk 1 _
     c.walk_bytes.ensures.walked none)
 
 -- the walk with its last step
 last : (g : Over) (c : After-step g) → IsWalked c.args.text.now c.new-walk.result c.args.marks.now c.walk_bytes.new.marks
-    c.step.new.self 2 (IsTrue g.C.Counter.counts) (g.C.Counter.total c.args.counter.now)
+    c.step.new.self 2 (g.C.Counter.total c.args.counter.now)
     (g.C.Counter.total c.count.new.self)
 last g c =
     let at : c.walk.inside.at ≡ c.walk_bytes.new.walk.at = ap (λ (w : WalkValue). w.at) c.walk.view_is in
     let end : c.walk_bytes.new.walk.at ≡ length c.args.text.now.bytes
     = omega (arith, at, c.if-walk-len.false, c.len.ensures.value, c.walk_bytes.ensures.within) in
     walked_more c.args.text.now c.new-walk.result c.args.marks.now (rw c.new-walk.ensures.value c.requires.walkable)
-    (IsTrue g.C.Counter.counts) (g.C.Counter.total c.args.counter.now) c.walk_bytes.new.marks c.walk_bytes.new.walk 1 _
+    (g.C.Counter.total c.args.counter.now) c.walk_bytes.new.marks c.walk_bytes.new.walk 1 _
     c.walk_bytes.ensures.walked c.ahead.result c.step.new.self c.step.result c.step.ensures
     (g.C.Counter.total c.count.new.self)
     (unit-last c.args.text.now c.walk_bytes.new.walk.at end ∙ ap Some (sym c.ahead.ensures)) c.len.ensures.units
-    c.walk_bytes.ensures.within c.count.ensures
+    c.walk_bytes.ensures.within c.count.ensures.most
 
 none : (g : Over) (c : After-step g) → following c.new-walk.result.dfa.table c.args.text.now c.step.new.self.at
     c.step.new.self.row ≡ None
 none g c =
     let at : c.walk.inside.at ≡ c.walk_bytes.new.walk.at = ap (λ (w : WalkValue). w.at) c.walk.view_is in
     none_past c.args.text.now c.new-walk.result c.args.marks.now (rw c.new-walk.ensures.value c.requires.walkable)
-    (IsTrue g.C.Counter.counts) (g.C.Counter.total c.args.counter.now) c.walk_bytes.new.marks c.step.new.self 2 _
+    (g.C.Counter.total c.args.counter.now) c.walk_bytes.new.marks c.step.new.self 2 _
     (last g c) (omega (arith, at, c.if-walk-len.false, c.len.ensures.value, c.step.ensures.at))
 
 pub returns-then-walk-len-clause-counted : goal.returns-then-walk-len-clause-counted
@@ -75,7 +75,7 @@ returns-clause-found g c =
     let s = (goal.at.returns-clause-found g c).After-step in
     let l = (goal.at.returns-clause-found g c).After-len in
     last_found g l c.found-2.result (c.found-2.ensures ∙ walked_all c.args.text.now c.new-walk.result c.args.marks.now (can g l)
-    (IsTrue g.C.Counter.counts) (g.C.Counter.total c.args.counter.now) c.walk_bytes.new.marks c.step.new.self 2 _
+    (g.C.Counter.total c.args.counter.now) c.walk_bytes.new.marks c.step.new.self 2 _
     (last g s) (none g s))
 
 pub returns-clause-walked : goal.returns-clause-walked
@@ -84,7 +84,7 @@ returns-clause-walked g c =
     let l = (goal.at.returns-clause-walked g c).After-len in
     rw c.found-2.ensures (rw c.new-walk.ensures.value at
     (has_walked c.args.text.now c.new-walk.result c.args.marks.now (can g l)
-    (IsTrue g.C.Counter.counts) (g.C.Counter.total c.args.counter.now) c.walk_bytes.new.marks c.step.new.self 2 _
+    (g.C.Counter.total c.args.counter.now) c.walk_bytes.new.marks c.step.new.self 2 _
     (last g s) (none g s) (omega arith)))
 
 pub returns-clause-counted : goal.returns-clause-counted
@@ -98,7 +98,7 @@ returns-clause-counted g c = λ k.
       arith,
       start,
       c.step.ensures.at,
-      c.count.ensures k,
+      c.count.ensures.counted k,
       c.walk_bytes.ensures.counted k,
       ends_before c.args.from c.step.new.self.at c.step.new.self.found more
           (rw start at (last g s).followed.order) (rw start at (last g s).passed),

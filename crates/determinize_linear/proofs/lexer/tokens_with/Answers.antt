@@ -49,7 +49,7 @@ loop-at-preserved g c =
           c.in-Some.next (c.in-Some.ensures.found.longest c.requires.kind) c.if-next-at.true));
       high = c.in-Some.ensures.walked.within;
       walkable = c.in-Some.ensures.walked.walkable;
-      paid = λ k. omega (arith, c.in-Some.ensures.walked.cost k, c.loop-at.invariant.paid k, c.if-next-at.true);
+      paid = λ k. omega (arith, c.in-Some.ensures.walked.cost, c.loop-at.invariant.paid k, c.if-next-at.true);
       last = rw items (end_of_last-push c.args.input.now.start c.loop-at.found.items
           (in_haystack c.args.input.now.start c.loop-at.at c.in-Some.next));
       counted = λ k. rw items (omega (

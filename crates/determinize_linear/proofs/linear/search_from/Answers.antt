@@ -35,7 +35,7 @@ loop-at-init g c =
           (sym items) (begun c.args.nfa.now c.requires.accepted c.args.text.now c.args.from c.args.visited.now
           c.requires.within start c.requires.spent);
       places = c.requires.places;
-      paid = λ k. omega (arith, ap (λ (l : List (ℕ × ℕ)). length l) items);
+      paid = omega (arith, ap (λ (l : List (ℕ × ℕ)). length l) items);
       counted = λ k. rw items
           (counted_start (g.C.Counter.total c.args.counter.now) c.args.from c.args.nfa.now.start_anchored);
     }
@@ -80,7 +80,7 @@ returns-in-Match-clause-spent g c =
     (c.in-Some.at, c.in-Some.id) (reverse c.pop.new.self.items) t.way t.row))
 
 pub returns-in-Match-clause-paid : goal.returns-in-Match-clause-paid
-returns-in-Match-clause-paid g c = λ k.
+returns-in-Match-clause-paid g c =
     let t : IsTop c.args.nfa.now c.args.text.now c.args.from c.loop-at.visited (reverse c.loop-at.stack.items)
     (c.in-Some.at, c.in-Some.id) (reverse c.pop.new.self.items)
     = on_top c.args.nfa.now c.args.text.now c.args.from c.loop-at.visited c.loop-at.stack.items c.pop.new.self.items
@@ -95,7 +95,7 @@ returns-in-Match-clause-paid g c = λ k.
     (paid_match c.args.nfa.now c.args.text.now c.args.from c.in-Some.at c.args.visited.now c.loop-at.visited
     c.clear-in-Match.new.self (g.C.Counter.total c.loop-at.counter) (length c.loop-at.stack.items)
     (g.C.Counter.total c.args.counter.now) (g.C.Counter.total c.count.new.self) c.clear-in-Match.ensures t.row
-    t.way.falls.0 (omega arith) (c.count.ensures k) (c.loop-at.invariant.paid k))
+    t.way.falls.0 (omega arith) c.count.ensures.most c.loop-at.invariant.paid)
 
 pub returns-in-Match-clause-counted : goal.returns-in-Match-clause-counted
 returns-in-Match-clause-counted g c = λ k.
@@ -105,7 +105,7 @@ returns-in-Match-clause-counted g c = λ k.
     (c.in-Some.at, c.in-Some.id) c.in-Some.ensures.items c.loop-at.invariant.way c.loop-at.invariant.places in
     omega (
       arith,
-      c.count.ensures k,
+      c.count.ensures.counted k,
       ap (λ (h : HalfMatch). h.offset) c.new.ensures,
       counted_here _ _ _ (c.in-Some.at, c.in-Some.id) (reverse c.pop.new.self.items)
           (rw t.top at (c.loop-at.invariant.counted k)),
@@ -160,7 +160,7 @@ loop-at-preserved-in-Continue-branch-2 g c =
       places = subst (λ (rows : List (List Bool)). HasPlaces c.args.nfa.now c.args.text.now rows) (sym more)
           (places_with c.args.nfa.now c.args.text.now c.loop-at.visited c.in-Some.at c.in-Some.id t.row
           c.loop-at.invariant.places);
-      paid = λ k.
+      paid =
           let pushed : length c.push_choices.new.stack.items ≡ length c.pop.new.self.items
           + length (choices c.args.nfa.now c.args.text.now (c.in-Some.at, c.in-Some.id))
           = ap (λ (l : List (ℕ × ℕ)). length l) items ∙ length-append c.pop.new.self.items _
@@ -171,15 +171,15 @@ loop-at-preserved-in-Continue-branch-2 g c =
           ∙ length-append c.pop.new.self.items ((c.in-Some.at, c.in-Some.id) ∷ []) in
           omega (
             arith,
-            c.count.ensures k,
-            c.loop-at.invariant.paid k,
+            c.count.ensures.most,
+            c.loop-at.invariant.paid,
             pushed,
             popped,
             left_marked c.args.nfa.now c.args.text.now c.args.from c.loop-at.visited (c.in-Some.at, c.in-Some.id)
                 t.way.falls.0 t.way.falls.1 t.way.falls.2 t.row t.mark new,
             ap (λ (rows : List (List Bool)). left c.args.nfa.now c.args.text.now c.args.from rows) more,
           );
-      counted = λ k. rw (c.count.ensures k, after) (counted_entered _ _ _ (c.in-Some.at, c.in-Some.id)
+      counted = λ k. rw (c.count.ensures.counted k, after) (counted_entered _ _ _ (c.in-Some.at, c.in-Some.id)
           (reverse c.pop.new.self.items) (rw t.top at (c.loop-at.invariant.counted k)) c.args.nfa.now c.args.text.now);
     }
 
@@ -214,18 +214,18 @@ loop-at-preserved g c =
           (c.in-Some.at, c.in-Some.id) (reverse c.pop.new.self.items) t.way old);
       places = subst (λ (rows : List (List Bool)). HasPlaces c.args.nfa.now c.args.text.now rows) (sym more)
           c.loop-at.invariant.places;
-      paid = λ k.
+      paid =
           let popped : length c.loop-at.stack.items ≡ length c.pop.new.self.items + 1
           = ap (λ (l : List (ℕ × ℕ)). length l) c.in-Some.ensures.items
           ∙ length-append c.pop.new.self.items ((c.in-Some.at, c.in-Some.id) ∷ []) in
           omega (
             arith,
-            c.count.ensures k,
-            c.loop-at.invariant.paid k,
+            c.count.ensures.most,
+            c.loop-at.invariant.paid,
             popped,
             ap (λ (rows : List (List Bool)). left c.args.nfa.now c.args.text.now c.args.from rows) more,
           );
-      counted = λ k. rw (c.count.ensures k) (counted_skipped _ _ _ (c.in-Some.at, c.in-Some.id)
+      counted = λ k. rw (c.count.ensures.counted k) (counted_skipped _ _ _ (c.in-Some.at, c.in-Some.id)
           (reverse c.pop.new.self.items) (rw t.top at (c.loop-at.invariant.counted k)));
     }
 

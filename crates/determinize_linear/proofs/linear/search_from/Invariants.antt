@@ -14,7 +14,7 @@ abbrev pub invariant-loop-at : goal.invariant-loop-at
 invariant-loop-at g l = record {
   way : IsUnderWay l.nfa l.text l.from l.visited (reverse l.stack.items);
   places : HasPlaces l.nfa l.text l.visited;
-  paid : IsTrue g.C.Counter.counts → g.C.Counter.total l.counter + length l.stack.items
+  paid : g.C.Counter.total l.counter + length l.stack.items
       + left l.nfa l.text l.from l.visited
       ≤ g.C.Counter.total l.initial.counter + 1 + left l.nfa l.text l.from l.initial.visited;
   counted : IsTrue g.C.Counter.counts → IsCounted (g.C.Counter.total l.initial.counter)

@@ -1,4 +1,4 @@
-use Rattle.std.proofs.Common.{IsTrue, subst, sym}
+use Rattle.std.proofs.Common.{subst, sym}
 use Rattle.std.specs.Prelude.{option_map}
 use Rattle.determinize_below.specs.Semantics.{Nfa}
 use Rattle.determinize_find.specs.Private.BestAt.{IsBestAt, from_index}
@@ -31,16 +31,16 @@ returns-clause-ready g c = λ k l. (
 )
 
 pub returns-clause-paid : goal.returns-clause-paid
-returns-clause-paid g c = λ t. cost_some c.args.self.now.dfa.now c.args.text.now c.args.from c.args.self.now.marks
-    c.walk_from.new.marks c.walk_from.result (IsTrue g.C.Counter.counts) (g.C.Counter.total c.args.counter.now)
-    (g.C.Counter.total c.walk_from.new.counter) c.walk_from.ensures.walked t
+returns-clause-paid g c = cost_some c.args.self.now.dfa.now c.args.text.now c.args.from c.args.self.now.marks
+    c.walk_from.new.marks c.walk_from.result (g.C.Counter.total c.args.counter.now)
+    (g.C.Counter.total c.walk_from.new.counter) c.walk_from.ensures.walked
 
 pub returns-clause-unpaid : goal.returns-clause-unpaid
-returns-clause-unpaid g c = λ t. cost_none c.args.self.now.dfa.now c.args.text.now c.args.from c.args.self.now.marks
-    c.walk_from.new.marks c.walk_from.result (IsTrue g.C.Counter.counts) (g.C.Counter.total c.args.counter.now)
-    (g.C.Counter.total c.walk_from.new.counter) c.walk_from.ensures.walked t
+returns-clause-unpaid g c = cost_none c.args.self.now.dfa.now c.args.text.now c.args.from c.args.self.now.marks
+    c.walk_from.new.marks c.walk_from.result (g.C.Counter.total c.args.counter.now)
+    (g.C.Counter.total c.walk_from.new.counter) c.walk_from.ensures.walked
 
 pub returns-clause-bounded : goal.returns-clause-bounded
-returns-clause-bounded g c = λ t. cost_most c.args.self.now.dfa.now c.args.text.now c.args.from c.args.self.now.marks
-    c.walk_from.new.marks c.walk_from.result (IsTrue g.C.Counter.counts) (g.C.Counter.total c.args.counter.now)
-    (g.C.Counter.total c.walk_from.new.counter) c.walk_from.ensures.walked t
+returns-clause-bounded g c = cost_most c.args.self.now.dfa.now c.args.text.now c.args.from c.args.self.now.marks
+    c.walk_from.new.marks c.walk_from.result (g.C.Counter.total c.args.counter.now)
+    (g.C.Counter.total c.walk_from.new.counter) c.walk_from.ensures.walked

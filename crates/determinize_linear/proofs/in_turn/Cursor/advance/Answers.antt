@@ -1,4 +1,4 @@
-use Rattle.std.proofs.Common.{rules, ◌≡◌, ◌≤◌, ◌+◌, ◌∙◌, ℕ, IsTrue, None, ap, arith, length, refl, subst, sym}
+use Rattle.std.proofs.Common.{rules, ◌≡◌, ◌≤◌, ◌+◌, ◌∙◌, ℕ, None, ap, arith, length, refl, subst, sym}
 use Rattle.determinize_below.specs.Semantics.{Text}
 use Rattle.determinize_linear.specs.Private.Turns.{most_left, passed, taken}
 use Rattle.determinize_linear.proofs.search.Passing.{next_further, sought_more}
@@ -12,7 +12,7 @@ loop-text-init g c = record {
     same_text = c.text-text.ensures;
     same = refl;
     ready = rw c.text-text.ensures c.requires.ready;
-    paid = λ k. omega arith;
+    paid = omega arith;
     counted = λ k f. omega arith;
     more = λ k. omega arith;
   };
@@ -64,7 +64,7 @@ returns-clause-ready g c = subst (λ (t : Text). (k : ℕ) → c.loop-text.self.
     → g.S.Matcher.is_ready c.loop-text.search c.args.nfa.now t k) c.text-text.ensures c.loop-text.invariant.sought.ready
 
 pub returns-clause-paid : goal.returns-clause-paid
-returns-clause-paid g c = subst (λ (t : Text). IsTrue g.C.Counter.counts → g.C.Counter.total c.loop-text.counter
+returns-clause-paid g c = subst (λ (t : Text). g.C.Counter.total c.loop-text.counter
     + most_left (g.S.Matcher.left c.loop-text.search c.args.nfa.now t) (g.S.Matcher.most c.args.nfa.now + g.S.Matcher.extra)
     c.loop-text.self ≤ g.C.Counter.total c.args.counter.now
     + most_left (g.S.Matcher.left c.args.search.now c.args.nfa.now t)
@@ -78,8 +78,7 @@ returns-in-Some-clause-moved g c = rw c.pass.ensures.passed (sought_moved c.args
     c.in_ok-found.found c.in_ok-found.ensures.best c.in-Some.next (sym c.pass.ensures.taken ∙ c.in-Some.is))
 
 pub returns-in-Some-clause-paid : goal.returns-in-Some-clause-paid
-returns-in-Some-clause-paid g c = rw c.pass.ensures.passed (subst (λ (t : Text). IsTrue g.C.Counter.counts
-    → g.C.Counter.total c.search_from.new.counter
+returns-in-Some-clause-paid g c = rw c.pass.ensures.passed (subst (λ (t : Text). g.C.Counter.total c.search_from.new.counter
     + most_left (g.S.Matcher.left c.search_from.new.self c.args.nfa.now t)
     (g.S.Matcher.most c.args.nfa.now + g.S.Matcher.extra) (passed c.loop-text.self c.in_ok-found.found)
     ≤ g.C.Counter.total c.args.counter.now

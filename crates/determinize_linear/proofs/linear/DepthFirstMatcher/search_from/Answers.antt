@@ -4,9 +4,9 @@ use Rattle.determinize_linear.proofs.search.Left.{if_none, left_later}
 use Rattle.determinize_linear.proofs.linear.DepthFirstMatcher.search_from.Goals as goal
 
 pub returns-clause-unpaid : goal.returns-clause-unpaid
-returns-clause-unpaid g c = λ t. IfOk-weaker c.search_from.result _ _
+returns-clause-unpaid g c = IfOk-weaker c.search_from.result _ _
     (λ found h. if_none _ _ found (λ none k l. omega (
       arith,
       none,
       left_later c.args.nfa.now c.args.text.now c.args.from k c.search_from.new.visited l,
-    )) h) (c.search_from.ensures.unpaid t)
+    )) h) c.search_from.ensures.unpaid
