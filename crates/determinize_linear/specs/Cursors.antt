@@ -1,10 +1,11 @@
--- What a `Searcher` is seen as.
+-- The value of a `Searcher` in contracts.
 use Rattle.std.specs.Prelude.{ℕ}
 use Rattle.determinize_dense.specs.Table.{DfaValue}
 use Rattle.determinize_find.specs.Cursors as find
 
 -- a cursor over all matches by a DFA: the rest of the input, and where the match before it ended
--- (`cursor`), the index from which the next call searches, and the most steps of all calls to come
+-- (`cursor`), the index from which the next call searches (`next`), and at least the number of
+-- steps of all calls to come (`left`)
 pub record SearcherValue : Type 0 where
   pub dfa : DfaValue
   pub cursor : find.SearcherValue

@@ -1,5 +1,5 @@
-//! All matches by a whole DFA, in a number of steps linear in the length of the input, for a given
-//! DFA.
+//! All matches by a whole DFA, in a list or one at a time, in a number of steps linear in the
+//! length of the input, for a given DFA.
 //!
 //! The last match that the rows of an anchored walk list is the most preferred one that begins
 //! where the walk does. The walk may have read far past its end. So each pair of a position and a
@@ -269,7 +269,8 @@ impl<'d, 'n, M: Allocator + Copy, D: Allocator, A: Allocator> Matcher for Walks<
     }
 }
 
-/// A cursor over the matches of an input, in their order, which are those of [`find_all`].
+/// A cursor over the matches of an input, in their order, which are those of [`find_all`]. It
+/// borrows the DFA, and owns the marks of its searches.
 #[derive(Drop)]
 pub struct Searcher<
     'd,
@@ -307,7 +308,8 @@ impl<'d, 'n, 'h, N: Allocator, M: Allocator + Copy, A: Allocator> Searcher<'d, '
     /// no later call allocates.
     ///
     /// The DFA must be for `MatchKind::LeftmostFirst`, and its NFA must read forward, as for
-    /// [`find_all`].
+    /// [`find_all`]. Returns `AllocError` if the marks cannot be allocated. All of them are written
+    /// here: a caller that stops early saves steps, and no memory.
     pub fn new(
         alloc: A,
         dfa: &'d Dfa<'n, N, M>,
@@ -364,8 +366,12 @@ impl<'d, 'n, 'h, N: Allocator, M: Allocator + Copy, A: Allocator> Searcher<'d, '
     /// Returns the next match, and moves the cursor behind it. After the last match the result is
     /// `None`, and the cursor does not move. The matches are those of [`find_all`], in their order.
     ///
+    /// The next match is the leftmost one from the end of the match before. But if it is empty and
+    /// begins where the one before ended, it is skipped: the next match is then the leftmost one
+    /// from one byte further on.
+    ///
     /// All calls together take a number of steps that is linear in the length of the range, as
-    /// `advance_counted` says. One of them may take most of these.
+    /// `advance_counted` says, which has the same body. One of them may take most of these.
     pub fn advance(&mut self) -> Option<Match>
         ensures next { IsNext self.old.dfa.nfa self.old.cursor.asked self.old.cursor.before result }
         ensures after { self.new.cursor ≡ after_match self.old.cursor result }
@@ -379,11 +385,14 @@ impl<'d, 'n, 'h, N: Allocator, M: Allocator + Copy, A: Allocator> Searcher<'d, '
         self.advance_with(&mut ())
     }
 
-    /// Returns the same as `advance`, and counts the steps from one row to the next. `left` of the
-    /// cursor falls by at least the number of the steps, and is at most `(rows + 4) * (bytes + 2)`
-    /// before the first match. The steps are at least one for each index from `next`, where the
-    /// search continues, to the end of the match or, if there is none and the input is not
-    /// anchored, to the end of the range.
+    /// Returns the same as `advance`, and counts the steps from one row to the next.
+    ///
+    /// In contracts a cursor has two numbers. `left` is at most `(rows + 4) * (bytes + 2)` before
+    /// the first match, for the rows of the DFA and the bytes of the range. It falls by at least
+    /// the number of the steps, and `advance` does not raise it. `next` is the index from which the
+    /// next call searches: where the match ends or, if it is empty, one byte further on. At least
+    /// one step is counted for each index from `next` to the end of the match or, if there is none
+    /// and the input is not anchored, to the end of the range.
     pub fn advance_counted<L: Ledger>(&mut self, steps: &mut Tries<L>) -> Option<Match>
         ensures next { IsNext self.old.dfa.nfa self.old.cursor.asked self.old.cursor.before result }
         ensures after { self.new.cursor ≡ after_match self.old.cursor result }

@@ -90,7 +90,7 @@ pub(crate) struct Cursor<'h> {
     /// Whether a match may begin only where the search starts.
     is_anchored: bool,
     last_match_end: Option<usize>,
-    /// The position of the next search. Behind the end of the text there is none.
+    /// The position of the next search. Where it is behind the end of the text, no match is left.
     at: usize,
 }
 
@@ -122,7 +122,7 @@ impl<'h> Cursor<'h> {
             text: text_of_range(input),
             is_anchored: is_anchored(nfa, input),
             last_match_end: None,
-            // 1 if the range starts past its end, and so behind the end of the text.
+            // Behind the end of the text, which is empty, if the range starts past its end.
             at: input.start().saturating_sub(input.end()),
         }
     }
@@ -144,8 +144,8 @@ impl<'h> Cursor<'h> {
     }
 
     /// Moves behind what the search from its position found, and returns it as a match in the
-    /// haystack. An empty match where the one before ended is skipped, and the result is then
-    /// `None`.
+    /// haystack. The result is `None` if nothing was found, and also for an empty match where the
+    /// one before ended, which is skipped.
     ///
     /// An empty match would be found again where it ends. So the search continues one byte further.
     #[inline(always)]

@@ -1,7 +1,7 @@
 -- All matches by a cursor, one after another.
 -- Main statements: HasCollected, collected_none, collected_more, collected_less, collected_all.
 -- Used by: `find_all_by`.
--- Idea: each match is the next one after those before it, and what the cursor costs is paid by what it had left.
+-- Idea: each match is the next one after those before it, and what is left falls by what is counted.
 use Rattle.std.proofs.Common.{◌≡◌, ◌<◌, ◌≤◌, ◌*◌, ◌+◌, ◌-◌, ◌++◌, ◌∷◌, ◌∙◌, ℕ, List, None, Some, [], ap, arith}
 use Rattle.std.proofs.Common.{length, refl}
 use Rattle.std.proofs.lemmas.List.Elements.{All-nil}

@@ -59,8 +59,9 @@ passed c found = record c {
   at = next_at c found;
 }
 
--- no match that is left begins before an index: those after the match before are those from `start`
--- on, after one that ended at `last`, and none begins between `start` and the index
+-- no match that is left begins before the index `at`: the match after one that ended at `before` is
+-- the match from `start` on after one that ended at `last`, and none begins from `start` to before
+-- `at`
 pub record IsTurned (nfa : Nfa) (asked : Asked) (before : Option ℕ) (at : ℕ) : Type 0 where
   pub start : ℕ
   pub last : Option ℕ
@@ -95,7 +96,7 @@ pub record HasMoved (nfa : Nfa) (old : CursorValue) (found : Option Match) (new 
   pub asked : new.asked ≡ old.asked
   pub text : new.text ≡ old.text
 
--- the most tries from a cursor on: those that are left to searches from its position on, and some
--- for each search
+-- the most tries from a cursor on: those that are left to searches from its position on, and `each`
+-- for each position from there to the end of the text
 abbrev pub most_left : (ℕ → ℕ) → ℕ → CursorValue → ℕ
 most_left left each c = left c.at + each * (length c.text.bytes + 1 - c.at)
