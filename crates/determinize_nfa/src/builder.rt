@@ -84,7 +84,6 @@ impl<A: Allocator + Copy> Builder<A> {
     }
 
     /// Adds a state, and returns its id.
-    #[tactic(auto, using(crate::proofs::Limits::no_memory))]
     fn add(&mut self, state: State<A>) -> Result<StateID, BuildError>
         ensures id { IfOk result (λ id. id ≡ length self.old.states) }
         ensures added { OnOk result (self.new ≡ with_node self.old (node_of state)) }
@@ -165,7 +164,6 @@ impl<A: Allocator + Copy> Builder<A> {
 
     /// Adds the match state of the next pattern, and returns its id. The first match state is that
     /// of pattern 0.
-    #[tactic(auto, using(crate::proofs::Limits::no_memory))]
     pub fn add_match(&mut self) -> Result<StateID, BuildError>
         ensures id { IfOk result (λ id. id ≡ length self.old.states) }
         ensures added { OnOk result (self.new ≡ with_match self.old) }
@@ -183,7 +181,6 @@ impl<A: Allocator + Copy> Builder<A> {
     ///
     /// Returns `NotPatchable` for a sparse state, a match state and one without transitions. To
     /// patch a sparse state, give it an empty state as its target and patch that.
-    #[tactic(auto, using(crate::proofs::building::Building::index_within, crate::proofs::building::Building::node_is, crate::proofs::building::Building::same_node))]
     pub fn patch(&mut self, from: StateID, to: StateID) -> Result<(), BuildError>
         requires { from < length self.old.states }
         ensures patched { OnOk result (self.new ≡ patched self.old from to) }
@@ -203,7 +200,6 @@ impl<A: Allocator + Copy> Builder<A> {
 
     /// Gives a union without alternates, as `add_union(&[])` adds it, these alternates, in order of
     /// preference. Returns `NotPatchable` for any other state.
-    #[tactic(auto, using(crate::proofs::building::Building::index_within, crate::proofs::building::Building::node_is, crate::proofs::building::Building::same_node))]
     pub fn close(&mut self, union: StateID, alternates: &[StateID]) -> Result<(), BuildError>
         requires { union < length self.old.states }
         ensures closed { OnOk result (self.new ≡ closed self.old union alternates.now) }

@@ -135,7 +135,6 @@ impl<A: Allocator + Copy> Turned<A> {
 
     /// Adds the transition from `begin` to the anchored start, reversed, and the transitions of
     /// these states.
-    #[tactic(auto, using(crate::proofs::Limits::no_memory))]
     fn add_nodes<N: Allocator>(
         &mut self,
         nfa: &NFA<N>,
@@ -159,7 +158,6 @@ impl<A: Allocator + Copy> Turned<A> {
     }
 
     /// Returns the transitions of the states that the anchored start reaches, reversed.
-    #[tactic(auto, using(crate::proofs::Limits::no_memory))]
     fn over<N: Allocator>(alloc: A, nfa: &NFA<N>, begin: StateID) -> Result<Turned<A>, BuildError>
         requires { begin ≡ length nfa.now.states }
         ensures ok { IfOk result (λ turned. IsTurnedOver nfa.now turned) }
@@ -212,7 +210,6 @@ fn gathered_all<A: Allocator + Copy>(
 }
 
 /// Adds the match state, the start state, and the states that read a byte or test an assertion.
-#[tactic(auto, using(crate::proofs::building::Building::pushing))]
 fn end_states<A: Allocator>(
     made: &mut Vec<State<A>, A>,
     ends: Vec<StateID, A>,

@@ -1,4 +1,5 @@
-use Rattle.determinize_nfa.proofs.Common.{each_passes, if_err_and, most_states, node_of, refl}
+use Rattle.determinize_nfa.proofs.Common.{arith, each_passes, if_err_and, inl, most_states, node_of, refl, ◌∙◌}
+use Rattle.std.proofs.lemmas.List.{drop_all}
 use Rattle.determinize_nfa.proofs.reversing.Counts.{count-none, over_more}
 use Rattle.determinize_below.proofs.Moved.{next_of}
 use Rattle.determinize_nfa.proofs.reversing.Counts.{larger, room}
@@ -31,3 +32,14 @@ returns-in_err-add_node-clause-err g c =
     (λ e h. rw h (larger _ (most_states c.args.nfa.now) c.in_err-add_node.field-0.0
     (room c.args.nfa.now c.args.ids.now _ _ c.requires.distinct over) c.in_err-add_node.ensures.err))
     c.from_residual-in_err-add_node.ensures.1
+
+pub returns-in_err-add-clause-err : goal.returns-in_err-add-clause-err
+returns-in_err-add-clause-err g c =
+    if_err_and c.from_residual.result _ _ (λ e h. inl (h ∙ c.in_err-add.ensures.err)) c.from_residual.ensures.1
+
+pub returns-clause-turned : goal.returns-clause-turned
+returns-clause-turned g c =
+    rw (drop_all c.loop-id.id-index c.args.ids.now (omega arith)) at c.loop-id.invariant.rest
+
+pub returns-clause-count : goal.returns-clause-count
+returns-clause-count g c = c.loop-id.invariant.count

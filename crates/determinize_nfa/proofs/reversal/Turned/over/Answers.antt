@@ -1,4 +1,5 @@
 use Rattle.determinize_nfa.proofs.Common.{if_err_and}
+use Rattle.determinize_nfa.proofs.Limits.{no_memory}
 use Rattle.determinize_nfa.proofs.reversal.Turned.over.Goals as goal
 
 pub returns-clause-ok : goal.returns-clause-ok
@@ -14,3 +15,10 @@ returns-clause-ok g c = record {
 pub returns-in_err-add_nodes-clause-err : goal.returns-in_err-add_nodes-clause-err
 returns-in_err-add_nodes-clause-err g c = if_err_and c.from_residual-in_err-add_nodes.result _ _
     (λ e h. rw h c.in_err-add_nodes.ensures.err) c.from_residual-in_err-add_nodes.ensures.1
+
+pub returns-in_err-found-clause-err : goal.returns-in_err-found-clause-err
+returns-in_err-found-clause-err g c = no_memory c.from_residual.result _ c.from_residual.ensures.1
+
+pub returns-in_err-turned-clause-err : goal.returns-in_err-turned-clause-err
+returns-in_err-turned-clause-err g c =
+    no_memory c.from_residual-in_err-turned.result _ c.from_residual-in_err-turned.ensures.1
