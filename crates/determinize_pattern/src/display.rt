@@ -23,7 +23,7 @@ impl fmt::Debug for Pattern {
 }
 
 /// The place of a part in the text: which parts need a group there.
-#[derive(Clone, Copy, Debug, PartialEq, Eq)]
+#[derive(Clone, Copy)]
 enum Place {
     /// A branch of an alternation, or a part of a concatenation.
     Branch,
@@ -37,20 +37,30 @@ fn write_part<W: fmt::Write>(
     pattern: &Pattern,
     place: Place,
 ) -> fmt::Result {
-    if !needs_group(pattern, place) {
-        return write_bare(f, pattern);
+    if needs_group(pattern, place) {
+        write_group(f, "(?:", pattern)
+    } else {
+        write_bare(f, pattern)
     }
-    f.write_str("(?:")?;
+}
+
+#[cycle(write_bare)]
+fn write_group<W: fmt::Write>(
+    f: &mut fmt::Formatter<W>,
+    opening: &str,
+    pattern: &Pattern,
+) -> fmt::Result {
+    f.write_str(opening)?;
     write_bare(f, pattern)?;
     f.write_str(")")
 }
 
 fn needs_group(pattern: &Pattern, place: Place) -> bool {
-    match pattern {
-        Pattern::Alternation(subs) => !subs.is_empty(),
-        Pattern::Literal(bytes) => place == Place::Operand && bytes.len() > 1,
-        Pattern::Concat(subs) => place == Place::Operand && !subs.is_empty(),
-        Pattern::Look(_) | Pattern::Repetition { .. } => place == Place::Operand,
+    match (pattern, place) {
+        (Pattern::Alternation(subs), _) => !subs.is_empty(),
+        (Pattern::Literal(bytes), Place::Operand) => bytes.len() > 1,
+        (Pattern::Concat(subs), Place::Operand) => !subs.is_empty(),
+        (Pattern::Look(_) | Pattern::Repetition { .. }, Place::Operand) => true,
         _ => false,
     }
 }
@@ -61,7 +71,7 @@ fn write_bare<W: fmt::Write>(f: &mut fmt::Formatter<W>, pattern: &Pattern) -> fm
         Pattern::Empty => f.write_str("(?:)"),
         Pattern::Literal(bytes) => write_literal(f, bytes),
         Pattern::Class(class) => write_class(f, class),
-        Pattern::Look(look) => write_look(f, *look),
+        Pattern::Look(look) => f.write_str(look_text(*look)),
         Pattern::Repetition {
             min,
             max,
@@ -72,11 +82,7 @@ fn write_bare<W: fmt::Write>(f: &mut fmt::Formatter<W>, pattern: &Pattern) -> fm
             write_operator(f, *min, *max)?;
             if *greedy { Ok(()) } else { f.write_str("?") }
         }
-        Pattern::Capture(sub) => {
-            f.write_str("(")?;
-            write_bare(f, sub)?;
-            f.write_str(")")
-        }
+        Pattern::Capture(sub) => write_group(f, "(", sub),
         Pattern::Concat(subs) => write_all(f, subs, ""),
         Pattern::Alternation(subs) => write_choice(f, subs),
     }
@@ -146,8 +152,7 @@ fn write_byte<W: fmt::Write>(f: &mut fmt::Formatter<W>, byte: u8) -> fmt::Result
     if is_meta(byte) {
         f.write_str("\\")?;
     }
-    let character = char::from(byte);
-    write!(f, "{character}")
+    f.write_char(char::from(byte))
 }
 
 /// Returns whether the byte is an operator of the syntax.
@@ -183,15 +188,28 @@ fn write_operator<W: fmt::Write>(
     match (min, max) {
         (0, None) => f.write_str("*"),
         (1, None) => f.write_str("+"),
-        (_, None) => write!(f, "{{{min},}}"),
         (0, Some(1)) => f.write_str("?"),
-        (_, Some(max)) if max <= min => write!(f, "{{{min}}}"),
-        (_, Some(max)) => write!(f, "{{{min},{max}}}"),
+        _ => write_counts(f, min, max),
     }
 }
 
-fn write_look<W: fmt::Write>(f: &mut fmt::Formatter<W>, look: Look) -> fmt::Result {
-    let text = match look {
+/// Writes the counts of a repetition in braces.
+fn write_counts<W: fmt::Write>(
+    f: &mut fmt::Formatter<W>,
+    min: u32,
+    max: Option<u32>,
+) -> fmt::Result {
+    write!(f, "{{{min}")?;
+    match max {
+        None => f.write_str(",}"),
+        Some(max) if max <= min => f.write_str("}"),
+        Some(max) => write!(f, ",{max}}}"),
+    }
+}
+
+/// Returns the text of an assertion.
+fn look_text(look: Look) -> &'static str {
+    match look {
         Look::Start => "\\A",
         Look::End => "\\z",
         Look::StartLF => "(?m:^)",
@@ -210,6 +228,5 @@ fn write_look<W: fmt::Write>(f: &mut fmt::Formatter<W>, look: Look) -> fmt::Resu
         Look::WordEndHalfAscii => "\\b{end-half}",
         Look::WordStartHalfUnicode => "(?u:\\b{start-half})",
         Look::WordEndHalfUnicode => "(?u:\\b{end-half})",
-    };
-    f.write_str(text)
+    }
 }

@@ -64,7 +64,7 @@ impl fmt::Display for CompileError {
             CompileError::NestLimitExceeded(limit) => {
                 write!(f, "a pattern is nested deeper than {limit} levels")
             }
-            CompileError::Build(error) => write!(f, "{error}"),
+            CompileError::Build(error) => fmt::Display::fmt(error, f),
         }
     }
 }

@@ -4,6 +4,9 @@ use Rattle.determinize_pattern.proofs.compiled.Starting.{nfa_of_built}
 use Rattle.determinize_pattern.specs.Patterns.{meaning}
 use Rattle.determinize_pattern.proofs.nfa.compile.Goals as goal
 
+pub all-requires : goal.all-requires
+all-requires g c = ap (λ b. b.patterns) c.new-compiler.ensures.builder
+
 pub returns-clause-means : goal.returns-clause-means
 returns-clause-means g c = nfa_of_built c.all.new.self.builder (map meaning c.args.patterns.now) c.in_ok-start.start _
     c.in_ok-start.ensures.finds c.in_ok-build_with_prefix.ensures.ok
@@ -14,6 +17,10 @@ returns-clause-nested g c deep =
 
 pub returns-in_err-start-clause-nested : goal.returns-in_err-start-clause-nested
 returns-in_err-start-clause-nested g c deep =
+    absurd (omega (arith, leb-true _ _ (sym c.are_within.ensures ∙ c.if-not-are_within.false), deep))
+
+pub returns-in_err-build_with_prefix-clause-nested : goal.returns-in_err-build_with_prefix-clause-nested
+returns-in_err-build_with_prefix-clause-nested g c deep =
     absurd (omega (arith, leb-true _ _ (sym c.are_within.ensures ∙ c.if-not-are_within.false), deep))
 
 pub returns-clause-prefix : goal.returns-clause-prefix

@@ -99,29 +99,30 @@ branches-returns-clause-begun g t c = IfOk-weaker c.join.result _ _
     (rw (take_all c.loop-i.i c.args.subs.now (omega arith)) at c.loop-i.invariant.0) (rw c.deref.ensures.value at h))
     c.join.ensures.branch
 
+round : (g : _) (t : _) (c : goal.plus-After-drop-body-2 g t) → c.index.result.now ≡ slice_index c.part.new.ids 1
+round g t c = grind (arith, common_steps)
+
 pub plus-returns-clause-compiled : goal.plus-returns-clause-compiled
 plus-returns-clause-compiled g t c =
     let targets : c.deref_mut.result.now ≡ c.in_ok-again.again ∷ c.in_ok-unread.unread ∷ c.args.ids.now
     = rw c.deref_mut.ensures.value c.in_ok-body.ensures in
     let entries : c.deref.result.now ≡ c.part.new.ids = grind (arith, common_steps) in
-    let round : c.index.result.now ≡ slice_index c.part.new.ids 1 = grind (arith, common_steps) in
     let first : c.index-ids-0.result ≡ slice_index c.args.ids.now 0
     = get_or_read c.args.ids.now 0 _ c.requires c.index-ids-0.is 0 in
     plus_compiled c.args.greedy _ _ _ _ _ _ _ _ _ _ c.requires c.in_ok-again.ensures.id
     c.in_ok-again.ensures.added c.in_ok-unread.ensures.unread (rw targets at c.in_ok-part.ensures.compiled)
-    (rw (round, first) at c.in_ok-close.ensures.closed) _
+    (rw (round g t c, first) at c.in_ok-close.ensures.closed) _
     (c.copy_from_slice.ensures.after ∙ take_rest _ 2 ∙ ap (drop 2) entries)
 
 pub plus-returns-clause-again : goal.plus-returns-clause-again
 plus-returns-clause-again g t c =
     let targets : c.deref_mut.result.now ≡ c.in_ok-again.again ∷ c.in_ok-unread.unread ∷ c.args.ids.now
     = rw c.deref_mut.ensures.value c.in_ok-body.ensures in
-    let round : c.index.result.now ≡ slice_index c.part.new.ids 1 = grind (arith, common_steps) in
     let first : c.index-ids-0.result ≡ slice_index c.args.ids.now 0
     = get_or_read c.args.ids.now 0 _ c.requires c.index-ids-0.is 0 in
     again_begun c.args.greedy _ _ _ _ _ _ _ _ _ _ c.requires c.in_ok-again.ensures.id
     c.in_ok-again.ensures.added c.in_ok-unread.ensures.unread (rw targets at c.in_ok-part.ensures.compiled)
-    (rw (round, first) at c.in_ok-close.ensures.closed)
+    (rw (round g t c, first) at c.in_ok-close.ensures.closed)
 
 pub copies-loop-done-init : goal.copies-loop-done-init
 copies-loop-done-init g t c = (precedes_none _ (meaning c.args.sub.now) _, c.requires, omega arith)
