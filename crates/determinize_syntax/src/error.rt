@@ -223,21 +223,27 @@ impl fmt::Display for Marked<'_> {
         for line in self.text.split('\n') {
             let line_end = offset.saturating_add(line.len());
             if start <= line_end {
-                f.write_str(line)?;
-                f.write_str("\n")?;
-                write_carets(
-                    f,
-                    line,
-                    start.saturating_sub(offset),
-                    end.saturating_sub(offset),
-                )?;
+                let (start, end) = (start.saturating_sub(offset), end.saturating_sub(offset));
+                write_marked(f, line, start, end)?;
                 break;
             }
             offset = line_end.saturating_add(1);
         }
-        let error = self.error;
-        write!(f, "{error}")
+        fmt::Display::fmt(&self.error, f)
     }
+}
+
+/// Writes the line, and below it a line with carets under the characters from `start` to before
+/// `end`.
+fn write_marked<W: fmt::Write>(
+    f: &mut fmt::Formatter<W>,
+    line: &str,
+    start: usize,
+    end: usize,
+) -> fmt::Result {
+    f.write_str(line)?;
+    f.write_str("\n")?;
+    write_carets(f, line, start, end)
 }
 
 /// Writes a line with carets under the characters from `start` to before `end`, at least one.

@@ -92,10 +92,11 @@ fn begins_other(cursor: &Cursor<'_>) -> bool
     ensures other { result ≡ false → IsNotAt 0x3C cursor.now }
     ensures unnamed { result ≡ false → (t : List ℕ) → rest cursor.now ≡ 0x50 ∷ 0x3C ∷ t → ⊥ }
 {
-    match cursor.rest {
-        [b'<' | b'=' | b'!', ..] | [b'P', b'<', ..] => true,
-        _ => false,
+    let mut ahead = *cursor;
+    if ahead.take(b'P') {
+        return ahead.is_at(b'<');
     }
+    matches!(cursor.peek(), Some(b'<' | b'=' | b'!'))
 }
 
 /// Reads letters of flags up to a `:` or `)`, and returns the flags that they make of these.

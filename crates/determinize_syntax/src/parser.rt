@@ -530,7 +530,7 @@ fn both_cases(alloc: Global, byte: u8, flags: Flags) -> Result<Pattern, AllocErr
         start: byte,
         end: byte,
     };
-    Ok(Pattern::Class(class(alloc, &[range], flags, false)?))
+    Ok(of_class(class(alloc, &[range], flags, false)?))
 }
 
 /// Returns the pattern of the bytes of a character.

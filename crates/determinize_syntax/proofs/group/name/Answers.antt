@@ -1,7 +1,8 @@
 use Rattle.determinize_syntax.proofs.Common.{◌++◌, ◌∙◌, ◌∷◌, ◌≡◌, IsNamed, Passes, ap, bracketed, closed, is_name, refl}
 use Rattle.determinize_syntax.proofs.Common.{rest, rules, slice_get, sym, tails, true}
+use Rattle.determinize_syntax.specs.Private.Names.{is_local}
 use Rattle.determinize_syntax.specs.declared.error.ErrorKind.TheVariants.{GroupNameDuplicate, NestLimitExceeded}
-use Rattle.determinize_syntax.proofs.Limits.{name_added, name_twice, passes_byte, passes_none, passes_part, read_name}
+use Rattle.determinize_syntax.proofs.Limits.{local_right, name_added, name_twice, passes_byte, passes_none, passes_part, read_name}
 use Rattle.determinize_syntax.proofs.Limits.{same_name, unnot}
 use Rattle.determinize_syntax.proofs.group.name.Goals as goal
 
@@ -51,3 +52,16 @@ returns-then-not-branch-clause-limits c levels =
           (unnot _ (sym c.if-not-branch.true ∙ c.in_ok-insert.ensures.added)) (λ k e. same_name key.now k.now e)
           (read_name h.0 h.1 part.1 same (c.take.ensures.read c.if-not-take.false)) h.2;
     }
+
+pub returns-in-Some-eq62-clause-limits : goal.returns-in-Some-eq62-clause-limits
+returns-in-Some-eq62-clause-limits c levels =
+    local_right levels _ _ c.error_before.result (ap is_local c.error_before.ensures)
+
+pub returns-in_err-letters_of_name-clause-limits : goal.returns-in_err-letters_of_name-clause-limits
+returns-in_err-letters_of_name-clause-limits c levels =
+    let limit = local_right levels c.args.context.now (0x3C ∷ rest c.args.cursor.now)
+    c.in_err-letters_of_name.field-0.0 c.in_err-letters_of_name.ensures.local in
+    search (rules, limit)
+
+pub returns-then-not-take-clause-limits : goal.returns-then-not-take-clause-limits
+returns-then-not-take-clause-limits c levels = local_right levels _ _ c.unnamed.result c.unnamed.ensures

@@ -1,8 +1,9 @@
+use Rattle.determinize_syntax.specs.Private.Names.{is_local}
 use Rattle.determinize_syntax.proofs.Common.{◌∈◌, ◌∙◌, ◌∷◌, [], ap, codes, refl, rest, rules, slice_get, sym, tails}
 use Rattle.determinize_syntax.proofs.Bytes.{within}
 use Rattle.determinize_syntax.proofs.Flagging.{capture_next, named_at, named_p_at, opening_flags}
 use Rattle.determinize_syntax.proofs.Flagging.{opening_next, opening_sign}
-use Rattle.determinize_syntax.proofs.Limits.{passes_byte, passes_none, passes_part, passes_then, right_after}
+use Rattle.determinize_syntax.proofs.Limits.{local_right, passes_byte, passes_none, passes_part, passes_then, right_after}
 use Rattle.determinize_syntax.proofs.Munch.{name_sign}
 use Rattle.determinize_syntax.proofs.Rules.{flags_read, named_p_read, named_read, opens_capture}
 use Rattle.determinize_syntax.proofs.group.read_opening.Goals as goal
@@ -161,3 +162,26 @@ returns-clause-limits c levels =
     (rw (c.looks_around-2.ensures.left c.if-looks_around-2.false ∙ c.take-3.ensures.left c.if-take-2.false
     ∙ c.take-2.ensures.left c.if-take.false) at c.in_ok-flags.ensures.read))
     (c.take-4.ensures.read c.if-not-take-3.false)
+
+pub returns-then-not-take-2-clause-limits : goal.returns-then-not-take-2-clause-limits
+returns-then-not-take-2-clause-limits c levels =
+    local_right levels _ _ c.error_here.result (ap is_local c.error_here.ensures)
+
+pub returns-then-looks_around-clause-limits : goal.returns-then-looks_around-clause-limits
+returns-then-looks_around-clause-limits c levels =
+    local_right levels _ _ c.error_since.result (ap is_local c.error_since.ensures)
+
+pub returns-then-looks_around-2-clause-limits : goal.returns-then-looks_around-2-clause-limits
+returns-then-looks_around-2-clause-limits c levels =
+    local_right levels _ _ c.error_since-then-looks_around-2.result
+    (ap is_local c.error_since-then-looks_around-2.ensures)
+
+pub returns-in_err-flags-clause-limits : goal.returns-in_err-flags-clause-limits
+returns-in_err-flags-clause-limits c levels =
+    let limit = local_right levels c.args.context.now (rest c.args.cursor.now) c.in_err-flags.field-0.0
+    c.in_err-flags.ensures.local in
+    search (rules, limit)
+
+pub returns-then-not-take-3-clause-limits : goal.returns-then-not-take-3-clause-limits
+returns-then-not-take-3-clause-limits c levels =
+    local_right levels _ _ c.error_here-then-not-take-3.result (ap is_local c.error_here-then-not-take-3.ensures)
