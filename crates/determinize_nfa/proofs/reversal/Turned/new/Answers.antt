@@ -1,4 +1,4 @@
-use Rattle.determinize_nfa.proofs.Common.{[], map-append, ◌∷◌}
+use Rattle.determinize_nfa.proofs.Common.{[], arith, map-append, refl, ◌∷◌, ◌≡◌}
 use Rattle.std.proofs.lemmas.List.{replicate-append-replicate}
 use Rattle.determinize_nfa.proofs.reversal.Turned.new.Goals as goal
 
@@ -10,3 +10,8 @@ loop-preserved g c =
       c.loop.invariant,
       c.new.ensures.items,
     ) (replicate-append-replicate c.loop.counter 1 [])
+
+pub returns : goal.returns
+returns g c =
+    let all : c.loop.counter ≡ c.args.count = omega arith in
+    rw (c.new-2.ensures.items, c.new-3.ensures.items, c.loop.invariant, all) refl
