@@ -3,7 +3,7 @@
 //! It is the text of a pattern over bytes, to be read with the flag `(?-u)`. A byte that is no
 //! printable ASCII character is written `\xHH`.
 
-use crate::class::ClassBytes;
+use crate::class::{ClassBytes, ClassBytesRange};
 use crate::pattern::Pattern;
 use determinize_below::Look;
 use std::fmt;
@@ -136,13 +136,18 @@ fn write_class<W: fmt::Write>(f: &mut fmt::Formatter<W>, class: &ClassBytes) -> 
     }
     f.write_str("[")?;
     for range in ranges {
-        write_byte(f, range.start)?;
-        if range.start != range.end {
-            f.write_str("-")?;
-            write_byte(f, range.end)?;
-        }
+        write_range(f, *range)?;
     }
     f.write_str("]")
+}
+
+fn write_range<W: fmt::Write>(f: &mut fmt::Formatter<W>, range: ClassBytesRange) -> fmt::Result {
+    write_byte(f, range.start)?;
+    if range.start == range.end {
+        return Ok(());
+    }
+    f.write_str("-")?;
+    write_byte(f, range.end)
 }
 
 fn write_byte<W: fmt::Write>(f: &mut fmt::Formatter<W>, byte: u8) -> fmt::Result {
