@@ -1,6 +1,7 @@
 use Rattle.determinize_syntax.proofs.Common.{◌<◌, ◌∙◌, ◌∷◌, ◌≡◌, ◌≤◌, Atom, FromAtom, IsSetting, Operator, Reads, []}
 use Rattle.determinize_syntax.proofs.Common.{ap, arith, by_cases, false, length, map, meaning, refl, renamed, repeated}
 use Rattle.determinize_syntax.proofs.Common.{rest, rules}
+use Rattle.determinize_syntax.specs.Private.Names.{is_local}
 use Rattle.determinize_syntax.specs.Spells.{no_branch, no_item, once}
 use Rattle.determinize_syntax.proofs.Limits.{deep_right, group_right, local_limits, local_right, maybe, one_more}
 use Rattle.determinize_syntax.proofs.Limits.{operator_left, passes_as, passes_byte, passes_none, passes_operator}
@@ -228,6 +229,10 @@ group-returns-in_err-opening-clause-limits t c =
 pub group-returns-then-levels-eq0-clause-limits : goal.group-returns-then-levels-eq0-clause-limits
 group-returns-then-levels-eq0-clause-limits t c =
     deep_right c.at.ensures (λ few. omega (arith, c.if-levels-eq0.true, one_more 0x28 (rest c.args.cursor.now) refl))
+
+pub group-returns-then-not-take-clause-limits : goal.group-returns-then-not-take-clause-limits
+group-returns-then-not-take-clause-limits t c =
+    local_right _ _ _ c.at-then-not-take.result (ap is_local c.at-then-not-take.ensures)
 
 pub group-returns-in_err-sub-clause-limits : goal.group-returns-in_err-sub-clause-limits
 group-returns-in_err-sub-clause-limits t c =
