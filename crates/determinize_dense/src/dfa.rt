@@ -217,9 +217,7 @@ impl<'n, N: Allocator, A: Allocator + Copy> Dfa<'n, N, A> {
         self.starts[slot.as_usize()] as usize * self.classes.alphabet_len()
     }
 
-    /// Returns the offset of the row after a row over a unit.
-    ///
-    /// - `row` is the offset of the row.
+    /// Returns the offset of the row after the row at an offset, over a unit.
     ///
     /// The slice at the column does not depend on the row, so from one row to the next there is one
     /// load.
@@ -246,9 +244,7 @@ impl<'n, N: Allocator, A: Allocator + Copy> Dfa<'n, N, A> {
         }
     }
 
-    /// Returns the patterns that a row lists.
-    ///
-    /// - `row` is the number of the row.
+    /// Returns the patterns that the row with a number lists.
     #[inline(always)]
     pub(crate) fn patterns(&self, row: usize) -> &[PatternID]
         requires { row < length self.now.table.patterns }

@@ -163,10 +163,8 @@ impl<'n, N: Allocator, A: Allocator + Copy> Rows<'n, N, A> {
         ensures { IfOk result (λ rows. IsMerged self.now parts.now rows) }
     {
         let mut starts = self.starts;
-        let mut number = 0;
-        while number < StartSlot::COUNT {
+        for number in 0..StartSlot::COUNT {
             starts[number] = parts.block(self.starts[number] as usize) as u32;
-            number += 1;
         }
         let mut patterns = Vec::with_capacity(alloc, parts.len())?;
         for row in parts.members() {

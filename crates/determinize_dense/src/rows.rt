@@ -102,24 +102,20 @@ impl<'n, N: Allocator, A: Allocator + Copy> Rows<'n, N, A> {
 
     /// Returns whether a search scans out of a row: whether at least `STAYING` bytes do not leave
     /// it. This is a guess at what is fast, and no match depends on it.
-    ///
-    /// - `sizes` has the number of bytes of each class.
-    fn is_scanned(&self, row: usize, sizes: &[u16; 256]) -> bool
+    fn is_scanned(&self, row: usize, class_sizes: &[u16; 256]) -> bool
         requires { row < length self.now.table.patterns }
     {
         let mut staying = 0;
         for class in 0..self.classes.representatives().len() {
             if self.entry(row, class) == row {
-                staying += usize::from(sizes[class]);
+                staying += usize::from(class_sizes[class]);
             }
         }
         staying >= STAYING
     }
 
     /// Returns the rank of a row in the order.
-    ///
-    /// - `sizes` has the number of bytes of each class.
-    fn rank(&self, row: usize, sizes: &[u16; 256]) -> usize
+    fn rank(&self, row: usize, class_sizes: &[u16; 256]) -> usize
         requires { row < length self.now.table.patterns }
         ensures { IsRank self.now.table row result }
     {
@@ -127,7 +123,7 @@ impl<'n, N: Allocator, A: Allocator + Copy> Rows<'n, N, A> {
             0
         } else if !self.patterns[row].is_empty() {
             1
-        } else if self.is_scanned(row, sizes) {
+        } else if self.is_scanned(row, class_sizes) {
             2
         } else {
             3
@@ -138,10 +134,10 @@ impl<'n, N: Allocator, A: Allocator + Copy> Rows<'n, N, A> {
     fn ranks(&self, alloc: A) -> Result<Vec<usize, A>, AllocError>
         ensures { IfOk result (λ ranks. AreRanks self.now.table ranks.items) }
     {
-        let sizes = self.class_sizes();
+        let class_sizes = self.class_sizes();
         let mut ranks = Vec::with_capacity(alloc, self.len())?;
         for row in 0..self.len() {
-            ranks.push(self.rank(row, &sizes))?;
+            ranks.push(self.rank(row, &class_sizes))?;
         }
         Ok(ranks)
     }

@@ -1,7 +1,8 @@
 //! Searches by a whole DFA. They allocate nothing.
 //!
 //! Matches are delayed by one unit: a row lists the patterns that match before the unit that led to
-//! it. So a search also reads the unit ahead of its text, and a start state is no match state.
+//! it. So a search also reads the unit ahead of its text, and a start state is no match state. Rows
+//! are known by their offsets in the table.
 
 ghost use Rattle.std.specs.Prelude.{[], Bool, Decides, IsTrue, ◌≡◌, ◌+◌, ◌<◌, ◌≤◌, ◌⊎◌, ℕ, false, length, true, None};
 ghost use Rattle.determinize_below.specs.Semantics.{between};
@@ -110,9 +111,7 @@ impl<'n, N: Allocator, A: Allocator + Copy> Dfa<'n, N, A> {
         offset.wrapping_sub(1) < self.last_match
     }
 
-    /// Returns the match of a row, or `None` if it lists no patterns.
-    ///
-    /// - `row` is the offset of the row, and `offset` that of the match.
+    /// Returns the match of a row that ends at an offset, or `None` if the row lists no patterns.
     #[inline(always)]
     fn match_of(&self, row: usize, offset: usize) -> Option<HalfMatch>
         requires { IsOffset self.now.table row }
@@ -126,9 +125,7 @@ impl<'n, N: Allocator, A: Allocator + Copy> Dfa<'n, N, A> {
         Some(HalfMatch { pattern, offset })
     }
 
-    /// Returns the offset of the row after a row over the byte at an index of a text.
-    ///
-    /// - `row` is the offset of the row.
+    /// Returns the row after a row over the byte at an index of a text.
     #[inline(always)]
     pub(crate) fn over_byte(&self, row: usize, text: &Text<'_>, index: usize) -> usize
         requires row { IsOffset self.now.table row }
@@ -139,10 +136,8 @@ impl<'n, N: Allocator, A: Allocator + Copy> Dfa<'n, N, A> {
         self.row_over(row, Some(text.byte(index)))
     }
 
-    /// Returns how far a search has come that reads one byte more.
-    ///
-    /// Which rows list patterns is hard to predict, so the last one is kept in a form that needs no
-    /// jump.
+    /// Returns how far a search has come that reads one byte more. Which rows list patterns is hard
+    /// to predict, so the last one is kept in a form that needs no jump.
     #[inline(always)]
     fn read_byte(&self, text: &Text<'_>, from: Reached) -> Reached
         requires row { IsOffset self.now.table from.row }
@@ -163,12 +158,10 @@ impl<'n, N: Allocator, A: Allocator + Copy> Dfa<'n, N, A> {
     }
 
     /// Reads a text up to an index, without scans. Stops within `GROUP` bytes once the search is
-    /// over: in row 0 or, if `is_earliest`, with a match.
+    /// over, which is tested once for `GROUP` bytes, and after each of the fewer that are left.
     ///
-    /// Whether it is over is tested once for `GROUP` bytes, and after each of the fewer that are
-    /// left. With a test for each byte a search takes up to a fifth longer on some processors if
-    /// the jump lies across a boundary of 32 bytes, and where it lies depends on how the program is
-    /// linked.
+    /// With a test for each byte a search takes up to a fifth longer on some processors if the jump
+    /// lies across a boundary of 32 bytes, and where it lies depends on how the program is linked.
     #[inline(always)]
     fn read_block(&self, text: &Text<'_>, from: Reached, until: usize, is_earliest: bool) -> Reached
         requires row { IsOffset self.now.table from.row }
@@ -197,12 +190,9 @@ impl<'n, N: Allocator, A: Allocator + Copy> Dfa<'n, N, A> {
         at
     }
 
-    /// Searches a text. The search ends within `GROUP` bytes of row 0 or, if `is_earliest`, of the
-    /// first row that lists a pattern. Returns the last match of the rows that it enters: if
-    /// `is_earliest`, it only says whether there is one.
-    ///
-    /// A row is known by its offset. The match of the last row that lists patterns is looked up at
-    /// the end. The first bytes are read here, without scans.
+    /// Returns the last match of the rows that a search of a text enters: if `is_earliest`, it only
+    /// says whether there is one. The match is looked up at the end. The first bytes are read here,
+    /// without scans.
     #[inline(always)]
     fn search_text(
         &self,
@@ -228,10 +218,8 @@ impl<'n, N: Allocator, A: Allocator + Copy> Dfa<'n, N, A> {
         self.last_of(text, first)
     }
 
-    /// Searches the rest of a text as `search_rest` does, from where a search has come to.
-    ///
-    /// Lends `search_rest` a copy of the text, so that a search that ends before it keeps its text
-    /// in registers.
+    /// Searches the rest of a text as `search_rest` does. Lends it a copy of the text, so that a
+    /// search that ends before keeps its text in registers.
     #[inline(always)]
     fn search_on(&self, text: &Text<'_>, from: Reached, is_earliest: bool) -> Option<HalfMatch>
         requires row { IsOffset self.now.table from.row }
@@ -275,8 +263,8 @@ impl<'n, N: Allocator, A: Allocator + Copy> Dfa<'n, N, A> {
         at
     }
 
-    /// Searches the rest of a text as `search_text` does, with scans, from where a search has come
-    /// to: the numbers of a `Reached`, which are passed in registers if they are apart.
+    /// Searches the rest of a text, with scans, from where a search has come to: the numbers of a
+    /// `Reached`, which are passed in registers if they are apart.
     ///
     /// The inner loop compares each row with `stop` once. In a pause between scans this is
     /// `last_match`, so that no row is scanned out of, and else `last_special`. After a match the
@@ -355,8 +343,7 @@ impl<'n, N: Allocator, A: Allocator + Copy> Dfa<'n, N, A> {
         self.match_of(at.matched, at.offset)
     }
 
-    /// Searches the range of an input in the direction of the NFA. The match is one of the text
-    /// that is read.
+    /// Searches the range of an input in the direction of the NFA. The match is one of this text.
     #[inline(always)]
     fn search_range(&self, input: &Input<'_>, is_earliest: bool) -> Option<HalfMatch>
         requires start { has_start input.now.anchored ≡ true }
@@ -369,7 +356,7 @@ impl<'n, N: Allocator, A: Allocator + Copy> Dfa<'n, N, A> {
     }
 
     /// Returns the last match of the walk that `walk_between` of `determinize_core` makes over the
-    /// same text, or `None` if it has no match. The offset of a match is the number of bytes before
+    /// same text, or `None` if no run accepts. The offset of a match is the number of bytes before
     /// its end.
     ///
     /// - `anchored` is `Anchored::Yes` for the anchored start of the NFA, or `Anchored::No` for the
@@ -379,7 +366,6 @@ impl<'n, N: Allocator, A: Allocator + Copy> Dfa<'n, N, A> {
     ///
     /// Under `MatchKind::LeftmostFirst` the match is that of the most preferred accepting run,
     /// under `MatchKind::All` that of the best run at the last position where any run accepts.
-    /// `None` means that no run accepts.
     ///
     /// The text is in reading order: for a reverse NFA from the last byte on. The search stops
     /// within four bytes of the dead state, since no match can follow it. Does not allocate.
@@ -398,19 +384,16 @@ impl<'n, N: Allocator, A: Allocator + Copy> Dfa<'n, N, A> {
         self.search_text(is_anchored(anchored), &text, false)
     }
 
-    /// Returns the last match of a search of an input, or `None` if no run accepts.
-    ///
-    /// The range is read in the direction of the NFA: a reverse NFA reads it from its end to its
-    /// start. The offset of a match is an index into the haystack: where the match ends or, for a
-    /// reverse NFA, where it begins. It is in the range or at its end. Which match it is depends on
-    /// the match kind as for `search`.
+    /// Returns the last match of a search of an input, or `None` if no run accepts. Which match it
+    /// is depends on the match kind as for `search`. Does not allocate.
     ///
     /// The search starts from the anchored or the unanchored start state of the NFA, by the
     /// anchored mode of the input. `Anchored::Pattern` has no start state and is not accepted.
     ///
-    /// A match is within the range. The bytes just before and after the range are only peeked at,
+    /// The range is read in the direction of the NFA: a reverse NFA reads it from its end to its
+    /// start. The match is within the range, and its offset is that in the haystack where it ends
+    /// or, for a reverse NFA, begins. The bytes just before and after the range are only peeked at,
     /// by assertions. If the range starts past its end, nothing is read and the result is `None`.
-    /// Does not allocate.
     pub fn search_input(&self, input: &Input<'_>) -> Option<HalfMatch>
         requires { has_start input.now.anchored ≡ true }
         ensures search { IsSearchResult self.now.nfa self.now.kind input.now result }
@@ -419,19 +402,15 @@ impl<'n, N: Allocator, A: Allocator + Copy> Dfa<'n, N, A> {
         if input.is_done() {
             return None;
         }
-        in_haystack(
-            input,
-            self.nfa.is_reverse(),
-            self.search_range(input, false),
-        )
+        let found = self.search_range(input, false);
+        in_haystack(input, self.nfa.is_reverse(), found)
     }
 
     /// Returns whether an input has a match, under both match kinds: whether some run over what
-    /// `search_input` reads accepts.
+    /// `search_input` reads accepts. `Anchored::Pattern` is not accepted. Does not allocate.
     ///
     /// Stops within four bytes of the first match state or the dead state. If the range starts past
-    /// its end, nothing is read and the result is `false`. `Anchored::Pattern` is not accepted.
-    /// Does not allocate.
+    /// its end, nothing is read and the result is `false`.
     pub fn is_match(&self, input: &Input<'_>) -> bool
         requires { has_start input.now.anchored ≡ true }
         ensures accepts { is_done input.now ≡ false

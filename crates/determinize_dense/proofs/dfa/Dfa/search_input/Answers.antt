@@ -10,12 +10,12 @@ pub in_haystack-requires-clause-within : goal.in_haystack-requires-clause-within
 in_haystack-requires-clause-within g c =
     offset-within c.args.input.now
     (found-search c.args.input.now.anchored
-    (text_of c.args.self.now.nfa.reverse c.args.input.now) c.search_range.ensures)
+    (text_of c.args.self.now.nfa.reverse c.args.input.now) c.search_range-found.ensures)
 
 pub returns-clause-search : goal.returns-clause-search
 returns-clause-search g c =
     let more : is_done c.args.input.now ≡ false = sym c.is_done.ensures ∙ c.if-is_done.false in
     let direction : c.is_reverse.result ≡ c.args.self.now.nfa.reverse = search rules in
-    is-result c.search_range.ensures.accepted more direction c.in_haystack.ensures.value c.in_haystack.ensures.within
-    (found-search c.args.input.now.anchored
-    (text_of c.args.self.now.nfa.reverse c.args.input.now) c.search_range.ensures)
+    is-result c.search_range-found.ensures.accepted more direction c.in_haystack.ensures.value
+    c.in_haystack.ensures.within (found-search c.args.input.now.anchored
+    (text_of c.args.self.now.nfa.reverse c.args.input.now) c.search_range-found.ensures)

@@ -1,4 +1,4 @@
-use Rattle.determinize_dense.proofs.Common.{get_or, length, map, patterns_at, slice_index, [], ℕ, ◌-◌, ◌<◌, ◌≡◌, ◌≤◌}
+use Rattle.determinize_dense.proofs.Common.{get_or, length, map, patterns_at, slice_index, [], ℕ, ◌<◌, ◌≡◌, ◌≤◌}
 use Rattle.determinize_dense.proofs.rows.Rows.merged.Given as goal
 
 abbrev pub invariant-loop-number : goal.invariant-loop-number
@@ -8,9 +8,6 @@ invariant-loop-number g l = record {
   merged : (i : ℕ) → i < l.number
       → slice_index l.starts i ≡ slice_index l.fn.parts.numbers (slice_index l.fn.self.table.starts i);
 }
-
-abbrev pub decreases-loop-number : goal.decreases-loop-number
-decreases-loop-number g l = 12 - l.number
 
 abbrev pub invariant-loop-row : goal.invariant-loop-row
 invariant-loop-row g l = record {
