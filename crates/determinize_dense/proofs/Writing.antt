@@ -1,10 +1,10 @@
 -- Numbers that are written one after the other.
--- Main statements: write_more, list_more, ids_more, whole_of.
+-- Main statements: write_more, list_more, ids_more, written, whole_of.
 -- Used by: `bytes`.
 -- Idea: what is written, and then the numbers that are left, are all numbers.
 use Rattle.determinize_dense.proofs.Common.{All-append, All-from_get_or, append-nil, append_assoc, AreClasses, arith}
 use Rattle.determinize_dense.proofs.Common.{bytes_of_words, Classes, concat, DfaValue, drop, drop_more, flat_map-append}
-use Rattle.determinize_dense.proofs.Common.{get_or, IsDfa, length, List, MAX_ID, slice_index, take, take_more, [], ℕ}
+use Rattle.determinize_dense.proofs.Common.{get_or, IsDfa, length, List, MAX_ID, refl, slice_index, take, take_more, [], ℕ}
 use Rattle.determinize_dense.proofs.Common.{◌++◌, ◌+◌, ◌<◌, ◌^◌, ◌≡◌, ◌≤◌}
 use Rattle.std.specs.Prelude.{All}
 use Rattle.std.specs.Int.{to_le_bytes, w32}
@@ -31,6 +31,13 @@ module _ (ps : List (List ℕ)) {i : ℕ} (h : i < length ps) where
       → All P (concat (take (i + 1) ps))
   ids_more P before here = rw (take_more ps i [] h, concat-append, append-nil)
       (All-append P (concat (take i ps)) (get_or ps i []) before here)
+
+-- six lists of numbers, one after the other
+pub written : (a b c d e f : List ℕ) {p q r s t u : List ℕ} → p ≡ bytes_of_words a → q ≡ p ++ bytes_of_words b
+    → r ≡ q ++ bytes_of_words c → s ≡ r ++ bytes_of_words d → t ≡ s ++ bytes_of_words e
+    → u ≡ t ++ bytes_of_words f → u ≡ bytes_of_words (a ++ (b ++ (c ++ (d ++ (e ++ f)))))
+written a b c d e f first second third fourth fifth sixth =
+    rw (sixth, fifth, fourth, third, second, first) (simp (flat_map-append, append_assoc) refl)
 
 -- a whole table is stored
 pub whole_of : (v : DfaValue) (p : Classes) → IsDfa v → AreClasses p → p.of_bytes ≡ v.table.classes

@@ -1,6 +1,6 @@
 use Rattle.determinize_dense.proofs.Common.{arith, columns_of, IfSome_then, length, length_push, rules, ◌*◌, ◌+◌, ◌<◌}
 use Rattle.determinize_dense.proofs.Common.{◌∙◌, ◌≡◌}
-use Rattle.determinize_dense.proofs.Building.{base-stays, building-entry, changes-stay, dead-ids, more-before, err-as, stays-more, stays-next}
+use Rattle.determinize_dense.proofs.Building.{base-stays, building-entry, changes-stay, dead-ids, more-before, err-as, stays-more, stays-next, stays-same}
 use Rattle.determinize_dense.proofs.build.Builder.add_row.Goals.{In_ok-push}
 use Rattle.determinize_dense.proofs.build.Builder.add_row.Goals as goal
 
@@ -44,3 +44,33 @@ loop-column-preserved g c =
 
 pub base-base-requires-clause-dead : goal.base-base-requires-clause-dead
 base-base-requires-clause-dead g c = rw (← c.self.view_is) (dead-ids c.self.invariant)
+
+pub list_ids-requires : goal.list_ids-requires
+list_ids-requires g c = c.requires.row
+
+pub base-base-requires-clause-ids : goal.base-base-requires-clause-ids
+base-base-requires-clause-ids g c = rw c.as_slice.ensures.value c.in_ok-listed.ensures.ids
+
+pub base-base-requires-clause-usual : goal.base-base-requires-clause-usual
+base-base-requires-clause-usual g c = c.requires.usual
+
+pub loop-column-init : goal.loop-column-init
+loop-column-init g c = record {
+  stays = stays-same c.args.self.now;
+  count = omega (arith, c.requires.whole);
+  base = c.base-base.ensures;
+  changes = c.changes-changes.ensures;
+}
+
+pub entry-requires : goal.entry-requires
+entry-requires g c = record {
+  row = omega (arith, c.requires.row, c.loop-column.invariant.stays.longer);
+  column = rw (c.loop-column.invariant.stays.classes, ← c.self.view_is, ← c.alphabet_len-column-end.ensures.count)
+      c.loop-column-test.true;
+  base = c.loop-column.invariant.base;
+  changes = c.loop-column.invariant.changes;
+  entry = c.loop-column.invariant.count;
+}
+
+pub returns-clause-stays : goal.returns-clause-stays
+returns-clause-stays g c = c.loop-column.invariant.stays

@@ -1,5 +1,5 @@
 use Rattle.determinize_dense.proofs.Common.{byte_of, length, rules, slice_get, Some, unit_at, ◌<◌, ◌≡◌}
-use Rattle.determinize_dense.proofs.Building.{next_row-placed, read-at, err-as, unit_at-unit}
+use Rattle.determinize_dense.proofs.Building.{next_row-placed, read-at, err-as, stays-same, unit_at-unit}
 use Rattle.determinize_dense.proofs.Reached.{reached-step}
 use Rattle.determinize_dense.proofs.build.Builder.entry.Goals.{After-next_lent}
 use Rattle.determinize_dense.proofs.build.Builder.entry.Goals as goal
@@ -31,3 +31,41 @@ returns-clause-at g c =
     rw c.take_back.ensures.unchanged (rw (← c.self-2.view_is) at (next_row-placed c.in_ok-entry.ensures.stays
     c.args.row c.args.column c.in_ok-entry.entry c.index-as_slice-row.result c.in_ok-next.next (at-row g d)
     (rw (c.in_ok-next.ensures.unchanged, ← unit-is g d) c.in_ok-next.ensures.ok) c.in_ok-entry.ensures.at))
+
+-- the stepper is as before
+pub invariant_of-self : goal.invariant_of-self
+invariant_of-self g c = rw c.next_lent.ensures.unchanged c.self.invariant
+
+pub invariant_of-self-2 : goal.invariant_of-self-2
+invariant_of-self-2 g c = rw c.next_lent.ensures.unchanged c.self.invariant
+
+pub of_base-requires : goal.of_base-requires
+of_base-requires g c = record {
+  row = c.requires.row;
+  column = c.requires.column;
+  base = c.requires.base;
+  entry = c.requires.entry;
+}
+
+pub repeated-requires : goal.repeated-requires
+repeated-requires g c = record { row = c.requires.row; changes = c.requires.changes; entry = c.requires.entry }
+
+pub next_lent-requires : goal.next_lent-requires
+next_lent-requires g c = c.self.invariant.resolve c.args.row _
+    (read-at (rw (← c.self.view_is) at c.requires.row) c.as_slice.ensures c.index-as_slice-row.is)
+
+pub place-requires-clause-resolve : goal.place-requires-clause-resolve
+place-requires-clause-resolve g c = rw c.next_lent.ensures.unchanged c.in_ok-next.ensures.resolve
+
+pub place-requires-clause-likely : goal.place-requires-clause-likely
+place-requires-clause-likely g c = c.entry_above.ensures
+
+pub returns-in-Some-clause-stays : goal.returns-in-Some-clause-stays
+returns-in-Some-clause-stays g c = stays-same c.args.self.now
+
+pub returns-clause-stays : goal.returns-clause-stays
+returns-clause-stays g c = rw (c.take_back.ensures.unchanged, ← c.self.view_is)
+    (rw (c.next_lent.ensures.unchanged, ← c.self-2.view_is) at c.in_ok-entry.ensures.stays)
+
+pub returns-clause-next : goal.returns-clause-next
+returns-clause-next g c = rw (← c.self.view_is) (rw (← c.self-2.view_is) at c.in_ok-entry.ensures.next)

@@ -43,3 +43,13 @@ returns g c =
     (read-at there refl (rw place at c.index.ensures))
     (rw (c.nfa.ensures, c.representatives-bytes.ensures.firsts)
     at (c.steps_alike.ensures c.if-not-steps_alike.false c.self.inside.stepper.kind)))
+
+pub bounds-as_slice-row : goal.bounds-as_slice-row
+bounds-as_slice-row g c = rw c.as_slice.ensures (rw (← c.self.view_is) at c.requires.row)
+
+pub index-requires : goal.index-requires
+index-requires g c =
+    let from : 0 < c.args.column = grind (arith, c.if-column-eq0.false) in
+    let count : length c.self.inside.next.items ≡ c.args.row * columns_of c.self.inside.classes + c.args.column =
+    rw (← c.self.view_is) at c.requires.entry in
+    omega (arith, from, count, c.len.ensures)

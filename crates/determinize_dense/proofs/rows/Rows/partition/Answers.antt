@@ -22,3 +22,12 @@ loop-parts-smaller g c = grind (arith, few_blocks)
 
 pub returns-then-len-clause-stable : goal.returns-then-len-clause-stable
 returns-then-len-clause-stable g c = grind arith
+
+pub refine-requires : goal.refine-requires
+refine-requires g c = c.loop-parts.invariant.partition
+
+pub loop-parts-preserved : goal.loop-parts-preserved
+loop-parts-preserved g c = record { partition = c.in_ok-refined.ensures.partition }
+
+pub returns-then-len-clause-partition : goal.returns-then-len-clause-partition
+returns-then-len-clause-partition g c = c.in_ok-refined.ensures.partition
