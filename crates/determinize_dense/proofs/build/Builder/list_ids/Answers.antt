@@ -10,3 +10,9 @@ returns-clause-ids g c = λ v got.
     let ids : c.push_ids.new.ids.items ≡ c.index-as_slice-row.result.states =
     rw c.clear.ensures.items at c.in_ok-push_ids.ensures in
     rw (← same) (grind (arith, c.if-not-is_empty.false, c.is_empty.ensures.value, c.look_need.ensures), sym ids)
+
+pub bounds-as_slice-row : goal.bounds-as_slice-row
+bounds-as_slice-row g c = rw c.as_slice.ensures (rw (← c.self.view_is) at c.requires)
+
+pub returns-clause-within : goal.returns-clause-within
+returns-clause-within g c = c.requires

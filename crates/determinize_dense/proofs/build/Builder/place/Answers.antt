@@ -1,4 +1,4 @@
-use Rattle.determinize_dense.proofs.Common.{arith, get_last, IsReachedValue, rules, same_is, [], ◌++◌, ◌∷◌, ◌≡◌}
+use Rattle.determinize_dense.proofs.Common.{arith, get_last, IsReachedValue, refl, rules, same_is, [], ◌++◌, ◌∷◌, ◌≡◌}
 use Rattle.determinize_dense.proofs.Building.{building-value, one_too_many, stays-same, stays-value}
 use Rattle.determinize_dense.proofs.build.Builder.place.Goals.{In_default, In_ok-intern}
 use Rattle.determinize_dense.proofs.build.Builder.place.Goals as goal
@@ -49,3 +49,9 @@ returns-clause-stays g c =
     let at = goal.at.returns-clause-stays g c in
     rw (← c.self.view_is, grown g at.In_ok-intern)
     (stays-value _ c.self.invariant c.args.state.now c.in_default.ensures.index (reached g at.In_default))
+
+pub get-requires : goal.get-requires
+get-requires g c = rw (← c.self.view_is) at c.requires.likely
+
+pub returns-clause-next : goal.returns-clause-next
+returns-clause-next g c = rw (← c.self.view_is) refl

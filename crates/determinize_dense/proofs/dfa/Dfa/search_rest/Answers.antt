@@ -1,5 +1,5 @@
 use Rattle.determinize_dense.proofs.Common.{arith, DfaValue, HasCome, length, Reached, Text, ℕ, ◌<◌, ◌≤◌}
-use Rattle.determinize_dense.proofs.Searching.{come-dead, come-none, come-on, come-some, finds-on, finds-over, ordered}
+use Rattle.determinize_dense.proofs.Searching.{come-dead, come-none, come-on, come-some, come-start, finds-on, finds-over, ordered}
 use Rattle.determinize_dense.proofs.dfa.Dfa.search_rest.Goals.{After-is_over}
 use Rattle.determinize_dense.proofs.dfa.Dfa.search_rest.Goals as goal
 use Rattle.determinize_dense.proofs.dfa.Dfa.search_rest.Invariants.{begun}
@@ -82,3 +82,28 @@ loop-at-preserved g c = grind (arith, behind g (goal.at.loop-at-preserved g c).A
 
 pub returns : goal.returns
 returns g c = finds-on c.loop-at.invariant.come (c.last_of.ensures c.args.is_earliest)
+
+pub loop-at-init : goal.loop-at-init
+loop-at-init g c = record { come = come-start c.requires.row c.requires.matched; within = c.requires.read }
+
+pub over_byte-requires : goal.over_byte-requires
+over_byte-requires g c = record {
+  row = c.loop-at-2.invariant.come.at;
+  index = omega (arith, c.loop-at-2-test.true, c.loop-at-2.invariant.upto);
+}
+
+pub scan-requires : goal.scan-requires
+scan-requires g c = record {
+  row = c.over_byte.ensures.offset;
+  read = omega (arith, c.loop-at-2-test.true, c.loop-at-2.invariant.upto);
+}
+
+pub record-requires : goal.record-requires
+record-requires g c = c.scan.ensures.more
+
+pub last_of-requires : goal.last_of-requires
+last_of-requires g c = record {
+  row = c.loop-at.invariant.come.at;
+  matched = c.loop-at.invariant.come.listing;
+  read = omega (arith, c.loop-at.invariant.within, c.loop-at-test.false, c.len.ensures.value);
+}

@@ -50,3 +50,13 @@ invariant_of-result g c =
 pub returns : goal.returns
 returns g c = rw (value-is g c) (merged-is (rw c.self.view_is at c.self.invariant) c.requires
     c.in_ok-merged_rows.ensures (starts-are g c) (lists-are g c))
+
+pub loop-number-init : goal.loop-number-init
+loop-number-init g c = record {
+  count = c.self.invariant.table.starts;
+  below = omega arith;
+  merged = λ i h. absurd (omega (arith, h));
+}
+
+pub merged_rows-requires : goal.merged_rows-requires
+merged_rows-requires g c = c.requires

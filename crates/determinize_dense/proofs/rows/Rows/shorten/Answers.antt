@@ -1,4 +1,4 @@
-use Rattle.determinize_dense.proofs.Common.{arith, length, true≢false, ◌+◌, ◌-◌, ◌<◌}
+use Rattle.determinize_dense.proofs.Common.{arith, by_cases, cases_eq, length, true≢false, ◌+◌, ◌-◌, ◌<◌}
 use Rattle.determinize_dense.proofs.Distances.{shortened}
 use Rattle.determinize_dense.proofs.rows.Rows.shorten.Goals as goal
 
@@ -17,3 +17,21 @@ loop-row-preserved-then-distance-distances g c =
       fewer = omega (arith, set.1, c.loop-row.invariant.fewer);
       less = λ _. omega (arith, set.1, c.loop-row.invariant.fewer);
     }
+
+pub loop-row-preserved : goal.loop-row-preserved
+loop-row-preserved g c = record {
+  below = omega (arith, c.loop-row.invariant.below);
+  so_far = c.loop-row.invariant.so_far;
+  short = λ no r low room q inside. by_cases (cases_eq r (c.loop-row.row - 1))
+      (λ e. rw e (omega (arith, c.if-distance-distances.false, c.nearest-distance.ensures.least q inside)))
+      (λ other. c.loop-row.invariant.short no r (omega (arith, low, other)) room q inside);
+  fewer = c.loop-row.invariant.fewer;
+  less = c.loop-row.invariant.less;
+}
+
+pub returns : goal.returns
+returns g c = record {
+  so_far = c.loop-row.invariant.so_far;
+  short = λ no r room. c.loop-row.invariant.short no r (omega (arith, c.loop-row-test.false)) room;
+  less = λ yes. c.loop-row.invariant.less yes;
+}
