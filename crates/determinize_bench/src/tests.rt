@@ -23,11 +23,12 @@ mod states;
 mod texts;
 mod worked;
 
-use determinize_below::{HalfMatch, PatternID};
+use determinize_below::{HalfMatch, NFA, PatternID};
 use determinize_replay::job::Job;
 use determinize_replay::outputs::output_of;
 use determinize_replay::verbs;
 use example_walks::examples::{Example, examples};
+use example_walks::fields::Fields;
 use std::alloc::AllocError;
 use std::fmt::Debug;
 use std::process::Abort;
@@ -52,11 +53,11 @@ pub fn holds<R: Abort>(rt: &R, is_so: bool) {
     assert!(rt; is_so);
 }
 
-/// Asserts that a search that may fail found this match. Returns its error if it failed.
-pub fn match_if_ok<R: Abort>(
+/// Asserts that a call that may fail returned this value. Returns its error if it failed.
+pub fn same_if_ok<R: Abort, T: PartialEq + Debug + Copy>(
     rt: &R,
-    found: Result<Option<HalfMatch>, AllocError>,
-    wanted: Option<HalfMatch>,
+    found: Result<T, AllocError>,
+    wanted: T,
 ) -> Result<(), AllocError> {
     match found {
         Ok(found) => {
@@ -67,19 +68,10 @@ pub fn match_if_ok<R: Abort>(
     }
 }
 
-/// Asserts that a test that may fail has this result. Returns its error if it failed.
-pub fn holds_if_ok<R: Abort>(
-    rt: &R,
-    found: Result<bool, AllocError>,
-    wanted: bool,
-) -> Result<(), AllocError> {
-    match found {
-        Ok(found) => {
-            same(rt, found, wanted);
-            Ok(())
-        }
-        Err(error) => Err(error),
-    }
+/// Returns the NFA of a walk, which starts where the walk does.
+pub fn nfa_of<R: Abort + AllocGlobal>(rt: &R, fields: &Fields<'_>) -> NFA {
+    let start = fields.start().expect(rt, "a start");
+    fields.nfa_from(rt.alloc(), start).expect(rt, "an NFA")
 }
 
 /// Returns the match of pattern 0 that ends at this offset, if there is one.

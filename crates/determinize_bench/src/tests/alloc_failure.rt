@@ -18,7 +18,7 @@ mod without;
 
 use crate::tests::alloc_failure::trial::{OfWalk, Trial};
 use crate::tests::caches::start_of;
-use crate::tests::same;
+use crate::tests::{nfa_of, same};
 use determinize_below::{Anchored, HalfMatch, Input, MatchKind, NFA};
 use determinize_core::determinize::{last_match, walk, walk_between};
 use determinize_core::state::State;
@@ -111,22 +111,6 @@ impl Drop for Row {
     }
 }
 
-/// Returns the NFA of a walk, which starts where the walk does.
-fn nfa_of<R: Abort + AllocGlobal>(rt: &R, fields: &Fields<'_>) -> NFA {
-    let start = fields.start().expect(rt, "a start");
-    fields.nfa_from(rt.alloc(), start).expect(rt, "an NFA")
-}
-
-/// Returns the match kind of a walk.
-fn kind_of<R: Abort>(rt: &R, fields: &Fields<'_>) -> MatchKind {
-    fields.match_kind().expect(rt, "a match kind")
-}
-
-/// Returns the text of a walk.
-fn text_of<R: Abort + AllocGlobal>(rt: &R, fields: &Fields<'_>) -> Vec<u8> {
-    fields.text(rt.alloc()).expect(rt, "bytes")
-}
-
 /// Returns the bytes behind and ahead of the text of a walk.
 fn bytes_around<R: Abort>(rt: &R, fields: &Fields<'_>) -> (Option<u8>, Option<u8>) {
     let behind = fields.look_behind().expect(rt, "a byte");
@@ -140,9 +124,9 @@ impl Row {
         let (look_behind, look_ahead) = bytes_around(rt, fields);
         Row {
             nfa: nfa_of(rt, fields),
-            kind: kind_of(rt, fields),
+            kind: fields.match_kind().expect(rt, "a match kind"),
             look_behind,
-            text: text_of(rt, fields),
+            text: fields.text(rt.alloc()).expect(rt, "bytes"),
             look_ahead,
             states: read_states(rt, output),
             last: None,

@@ -4,18 +4,22 @@ use crate::tests::same;
 use crate::tests::texts::expect_text;
 use determinize_below::{PatternID, StateID, Unit};
 
+/// The debug texts of a state id, a pattern id, a byte and the end of input.
+const VALUES: &str = "\
+((StateID(300000), PatternID(2147483646)), (Unit(U8(97)), Unit(Eoi(256))))";
+
+/// The debug texts of the results for numbers that are no ids.
+const ERRORS: &str = "\
+(Err(StateIDError { attempted: 2147483647 }), Err(PatternIDError { attempted: 3000000000 }))";
+
 #[test]
 fn texts_of_ids_and_units(rt: HostRuntime) {
     let (state, pattern) = (StateID::must(300_000), PatternID::MAX);
     let text = format!(in rt.alloc(); "{state} {pattern}").expect(&rt, "memory");
     same(&rt, text.as_str(), "300000 2147483646");
-    let wanted = "(StateID(300000), PatternID(2147483646))";
-    expect_text(&rt, &(state, pattern), wanted);
-    expect_text(&rt, &Unit::u8(b'a'), "Unit(U8(97))");
-    expect_text(&rt, &Unit::from(None), "Unit(Eoi(256))");
+    let units = (Unit::u8(b'a'), Unit::from(None));
+    expect_text(&rt, &((state, pattern), units), VALUES);
     let state = StateID::new(2_147_483_647);
-    expect_text(&rt, &state, "Err(StateIDError { attempted: 2147483647 })");
     let pattern = PatternID::new(3_000_000_000);
-    let wanted = "Err(PatternIDError { attempted: 3000000000 })";
-    expect_text(&rt, &pattern, wanted);
+    expect_text(&rt, &(state, pattern), ERRORS);
 }

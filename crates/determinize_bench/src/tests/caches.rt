@@ -2,12 +2,12 @@
 
 ghost use Rattle.std.specs.Prelude.{◌<◌, length};
 
-use crate::tests::{ended, holds, same, same_at, texts, write_numbers};
-use determinize_below::{Anchored, Input, LookMatcher, MatchKind, NFA, StateID};
+use crate::tests::{ended, holds, nfa_of, same, same_at, texts, write_numbers};
+use determinize_below::{Anchored, Input, MatchKind, NFA, StateID};
 use determinize_core::determinize::{last_match, walk_between};
 use determinize_core::state::State;
 use determinize_lazy::Lazy;
-use example_walks::states::states as read_states;
+use example_walks::fields::Fields;
 use std::alloc::{Allocator, Global};
 use std::process::Abort;
 
@@ -16,10 +16,12 @@ pub const WORDS: &str = "L:WordAscii>1 S:30-39>2,41-5a>2,5f-5f>2,61-7a>2 BU:1,3 
 
 /// Returns the NFA of these states, which starts in the first one, for forward or reverse scans.
 pub fn nfa<R: Abort + AllocGlobal>(rt: &R, states: &str, is_backward: bool) -> NFA {
-    let states = read_states(rt.alloc(), states).expect(rt, "states");
-    let (zero, matcher) = (StateID::ZERO, LookMatcher::new());
-    let nfa = NFA::from_parts(rt.alloc(), states, zero, zero, is_backward, matcher);
-    nfa.expect(rt, "an NFA")
+    let direction = if is_backward { "dir=rev" } else { "dir=fwd" };
+    let fields = Fields {
+        words: Some(direction),
+        states: Some(states),
+    };
+    nfa_of(rt, &fields)
 }
 
 /// Returns the state of the NFA of a cache where its walks start.
@@ -79,8 +81,8 @@ fn search<R: Abort>(rt: &R, lazy: &mut Lazy<'_>, input: &Input<'_>, wanted: Opti
     if let Anchored::Pattern(_) = input.get_anchored() {
         panic!(rt; "an input names no pattern");
     }
-    same(rt, lazy.search_input(input), Ok(ended(wanted)));
-    same(rt, lazy.is_match(input), Ok(wanted.is_some()));
+    let found = (lazy.search_input(input), lazy.is_match(input));
+    same(rt, found, (Ok(ended(wanted)), Ok(wanted.is_some())));
 }
 
 /// Walks over a text, whose last match ends at this offset.

@@ -25,9 +25,9 @@ fn expect_laws<R: Abort + AllocGlobal>(rt: &R, state: &State, builder: &StateBui
     let ids = nfa_states_read(state, rt.alloc()).expect(rt, "memory");
     let wanted = values::state_ids(rt.alloc(), "1,3,2").expect(rt, "ids");
     holds(rt, ids == wanted);
-    holds(rt, same_bytes(state, state) && are_equal(state, state));
-    holds(rt, same_built_bytes(builder, builder));
-    holds(rt, is_built(state, builder));
+    let of_state = (same_bytes(state, state), are_equal(state, state));
+    let of_both = (same_built_bytes(builder, builder), is_built(state, builder));
+    same(rt, (of_state, of_both), ((true, true), (true, true)));
 }
 
 #[test]

@@ -1,23 +1,23 @@
 //! Building an NFA from parts.
 
-use crate::tests::{holds, same, same_at};
+use crate::tests::{same, same_at};
 use determinize_below::{Look, LookMatcher, LookSet, NFA, StateID};
 use example_walks::states;
 use std::process::Abort;
 
 /// Compares what the readers of an NFA return, which is for reverse scans.
 fn expect_readers<R: Abort + AllocGlobal>(rt: &R, nfa: &NFA, start: StateID) {
-    same(rt, (nfa.len(), nfa.pattern_len()), (3, 1));
-    holds(rt, nfa.is_reverse());
-    same(rt, nfa.start_anchored(), start);
-    same(rt, nfa.start_unanchored(), StateID::ZERO);
-    same(rt, nfa.look_matcher().get_line_terminator(), b';');
-    let any = LookSet::empty().insert(Look::End).insert(Look::WordAscii);
-    same(rt, nfa.look_set_any(), any);
-    let state = nfa.state(nfa.start_unanchored());
-    holds(rt, state.is_epsilon());
+    let end = nfa.look_matcher().get_line_terminator();
+    let found = (nfa.len(), nfa.pattern_len(), nfa.is_reverse(), end);
+    same(rt, found, (3, 1, true, b';'));
+    let (first, any) = (nfa.start_unanchored(), nfa.look_set_any());
+    let wanted = LookSet::empty().insert(Look::End).insert(Look::WordAscii);
+    let found = (nfa.start_anchored(), first, any);
+    same(rt, found, (start, StateID::ZERO, wanted));
+    let state = nfa.state(first);
     let text = format!(in rt.alloc(); "{state:?}").expect(rt, "memory");
-    same_at(rt, text.as_str(), text.contains("WordAscii"), true);
+    let found = (state.is_epsilon(), text.contains("WordAscii"));
+    same_at(rt, text.as_str(), found, (true, true));
 }
 
 #[test]

@@ -13,9 +13,8 @@ fn expect_rejected<R: Abort + AllocGlobal>(rt: &R, line: &str, words: &[String])
     let mut out = Vec::new(rt.alloc());
     let mut err = Vec::new(rt.alloc());
     let status = run_rows(rt.alloc(), words, &mut out, &mut err);
-    same_at(rt, line, status, 2);
-    same_at(rt, line, out.as_slice(), [].as_slice());
-    same_at(rt, line, err.as_slice(), b"no such row\n".as_slice());
+    let found = (status, out.as_slice(), err.as_slice());
+    same_at(rt, line, found, (2, [].as_slice(), b"no such row\n"));
 }
 
 #[test]
@@ -48,6 +47,5 @@ fn keeps_its_status_where_errors_fail(rt: HostRuntime) {
     let mut out = Vec::new(rt.alloc());
     let mut err = Failing { left: 0 };
     let status = run_rows(rt.alloc(), words.as_slice(), &mut out, &mut err);
-    same(&rt, status, 2);
-    same(&rt, out.as_slice(), [].as_slice());
+    same(&rt, (status, out.as_slice()), (2, [].as_slice()));
 }

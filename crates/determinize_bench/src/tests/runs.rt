@@ -64,9 +64,9 @@ pub fn expect<R: Abort + AllocGlobal, I: Read + Drop>(
     let mut out = Vec::new(rt.alloc());
     let mut err = Vec::new(rt.alloc());
     let found = run(rt.alloc(), words.as_slice(), input, &mut out, &mut err);
-    same_at(rt, arguments, err.as_slice(), err_text.as_bytes());
-    same_at(rt, arguments, out.as_slice(), out_text.as_bytes());
-    same_at(rt, arguments, found, status);
+    let found = (err.as_slice(), out.as_slice(), found);
+    let wanted = (err_text.as_bytes(), out_text.as_bytes(), status);
+    same_at(rt, arguments, found, wanted);
 }
 
 /// A job with its right output.
@@ -355,8 +355,7 @@ fn expect_failing<R: Abort + AllocGlobal>(rt: &R, left: u32, status: u8, told: &
     let mut out = Failing { left };
     let mut err = Vec::new(rt.alloc());
     let found = run(rt.alloc(), &[], WRONG_FIRST.as_bytes(), &mut out, &mut err);
-    same_at(rt, left, found, status);
-    same_at(rt, left, err.as_slice(), told.as_bytes());
+    same_at(rt, left, (found, err.as_slice()), (status, told.as_bytes()));
 }
 
 #[test]
@@ -372,15 +371,14 @@ fn keeps_its_status_where_errors_fail(rt: HostRuntime) {
     let mut out = Vec::new(rt.alloc());
     let mut err = Failing { left: 0 };
     let status = run(rt.alloc(), &[], b"none\n".as_slice(), &mut out, &mut err);
-    same(&rt, status, 2);
-    same(&rt, out.as_slice(), [].as_slice());
+    same(&rt, (status, out.as_slice()), (2, [].as_slice()));
 }
 
 /// Compares the status and the message of an error.
 fn expect_told<R: Abort + AllocGlobal>(rt: &R, error: ReplayError, told: &str) {
     let mut err = Vec::new(rt.alloc());
-    same(rt, report(Err(error), &mut err), 2);
-    same(rt, err.as_slice(), told.as_bytes());
+    let status = report(Err(error), &mut err);
+    same(rt, (status, err.as_slice()), (2, told.as_bytes()));
 }
 
 #[test]

@@ -14,29 +14,26 @@ pub fn expect_text<R: Abort + AllocGlobal, T: Debug>(rt: &R, value: &T, wanted: 
     same(rt, text.as_str(), wanted);
 }
 
-/// The text of a builder with the flag from-word, patterns and look-have.
-const ENTERED: &str = "\
-StateBuilderMatches { is_match: true, is_from_word: true, is_half_crlf: false, \
+/// The texts of a builder with the flag from-word, patterns and look-have, of one with the flag
+/// half-CRLF, and of an empty one.
+const BUILDERS: &str = "\
+(StateBuilderMatches { is_match: true, is_from_word: true, is_half_crlf: false, \
 look_have: LookSet { bits: 1 }, look_need: LookSet { bits: 0 }, \
-match_pattern_ids: [PatternID(1), PatternID(0)], nfa_state_ids: [] }";
-
-/// The text of a builder with the flag half-CRLF.
-const HALF: &str = "\
+match_pattern_ids: [PatternID(1), PatternID(0)], nfa_state_ids: [] }, \
 StateBuilderMatches { is_match: false, is_from_word: false, is_half_crlf: true, \
 look_have: LookSet { bits: 0 }, look_need: LookSet { bits: 0 }, \
-match_pattern_ids: [], nfa_state_ids: [] }";
+match_pattern_ids: [], nfa_state_ids: [] }, \
+StateBuilderEmpty { .. })";
 
 #[test]
 fn texts_of_builders(rt: HostRuntime) {
     let mut entered = with_patterns(&rt, "1,0");
     entered.set_is_from_word();
     entered.set_look_have(|have| have.insert(Look::Start));
-    expect_text(&rt, &entered, ENTERED);
     let mut half = with_patterns(&rt, "-");
     half.set_is_half_crlf();
-    expect_text(&rt, &half, HALF);
     let empty = StateBuilderEmpty::new(rt.alloc());
-    expect_text(&rt, &empty, "StateBuilderEmpty { .. }");
+    expect_text(&rt, &(&entered, &half, &empty), BUILDERS);
 }
 
 /// Jobs of the verb `build`, each in a line with the text of its builder and state after the type

@@ -3,7 +3,7 @@
 use crate::tests::alloc_failure::trial::OfWalk;
 use crate::tests::alloc_failure::{Row, fail_each_over_walks, succeed_if};
 use crate::tests::caches::{nfa, start_of};
-use crate::tests::{holds, holds_if_ok, match_if_ok, same};
+use crate::tests::{holds, same, same_if_ok};
 use determinize_below::{MatchKind, NFA};
 use determinize_lazy::{Lazy, Scan, Walker};
 use determinize_replay::failing_alloc::FailingAllocator;
@@ -65,9 +65,9 @@ fn make_once<R: Abort, A: Allocator + Copy>(
     call: Call,
 ) -> Result<(), AllocError> {
     match call {
-        Call::Search => match_if_ok(rt, row.search_text(lazy), row.last),
-        Call::SearchInput => match_if_ok(rt, lazy.search_input(&row.input()), row.found),
-        Call::IsMatch => holds_if_ok(rt, lazy.is_match(&row.input()), row.found.is_some()),
+        Call::Search => same_if_ok(rt, row.search_text(lazy), row.last),
+        Call::SearchInput => same_if_ok(rt, lazy.search_input(&row.input()), row.found),
+        Call::IsMatch => same_if_ok(rt, lazy.is_match(&row.input()), row.found.is_some()),
         _ => row.expect_if_ok(rt, row.walk_through(lazy)),
     }
 }
@@ -87,7 +87,7 @@ fn scan_text<R: Abort, A: Allocator + Copy>(
             is_sound = false;
         }
     }
-    match_if_ok(rt, lazy.finish(scan, row.look_ahead), row.last)?;
+    same_if_ok(rt, lazy.finish(scan, row.look_ahead), row.last)?;
     succeed_if(is_sound)
 }
 

@@ -347,13 +347,11 @@ fn expect_printed<R: Abort>(
     lines: &str,
 ) -> Result<(), AllocError> {
     if status == 0 {
-        same(rt, out, lines.as_bytes());
-        same(rt, err, [].as_slice());
+        same(rt, (out, err), (lines.as_bytes(), [].as_slice()));
         return Ok(());
     }
-    same(rt, status, 1);
-    same(rt, err, b"out of memory\n".as_slice());
-    holds(rt, lines.as_bytes().starts_with(out));
+    let found = (status, err, lines.as_bytes().starts_with(out));
+    same(rt, found, (1, b"out of memory\n".as_slice(), true));
     Err(AllocError)
 }
 

@@ -52,8 +52,8 @@ fn fill<R: Abort, A: Allocator>(rt: &R, sparses: &mut SparseSets<A>) {
 /// Makes the dead state and an empty builder.
 fn make_dead<R: Abort, A: Allocator + Copy>(rt: &R, alloc: A) {
     let dead = State::dead(alloc).expect(rt, "no allocation");
-    same(rt, dead.as_bytes(), [0; 9].as_slice());
-    same(rt, StateBuilderEmpty::new(alloc).capacity(), 0);
+    let capacity = StateBuilderEmpty::new(alloc).capacity();
+    same(rt, (dead.as_bytes(), capacity), ([0; 9].as_slice(), 0));
 }
 
 /// Sets flags, an assertion and the pattern `ZERO`.
@@ -63,18 +63,20 @@ fn set_flags<R: Abort, A: Allocator>(rt: &R, matches: &mut StateBuilderMatches<A
     matches.set_is_from_word();
     matches.set_is_half_crlf();
     matches.set_look_have(|have| have.insert(Look::Start));
-    holds(rt, matches.look_have().contains(Look::Start));
-    holds(rt, matches.add_match_pattern_id(PatternID::ZERO).is_ok());
+    let is_set = matches.look_have().contains(Look::Start);
+    let is_added = matches.add_match_pattern_id(PatternID::ZERO).is_ok();
+    same(rt, (is_set, is_added), (true, true));
 }
 
 /// Removes this assertion, and sets another one.
 fn set_looks<R: Abort, A: Allocator>(rt: &R, builder: &mut StateBuilderNFA<A>) {
     builder.set_look_have(|have| have.remove(Look::Start));
     builder.set_look_need(|need| need.insert(Look::End));
-    holds(rt, builder.look_have().is_empty());
-    holds(rt, builder.look_need().contains(Look::End));
+    let is_removed = builder.look_have().is_empty();
+    let is_set = builder.look_need().contains(Look::End);
     let bytes = [13, 0, 0, 0, 0, 2, 0, 0, 0];
-    same(rt, builder.as_bytes(), bytes.as_slice());
+    let found = (is_removed, is_set, builder.as_bytes());
+    same(rt, found, (true, true, bytes.as_slice()));
 }
 
 /// Sets flags, assertions and a pattern in a builder, converts it to one of NFA states, and clears
@@ -179,8 +181,8 @@ fn clear_cache<R: Abort, A: Allocator + Copy>(
     lazy: &mut Lazy<'_, Global, A>,
     is_filled: bool,
 ) {
-    same(rt, lazy.states_kept() > 0, is_filled);
-    same(rt, lazy.computed() > 0, is_filled);
+    let found = (lazy.states_kept() > 0, lazy.computed() > 0);
+    same(rt, found, (is_filled, is_filled));
     lazy.clear();
     same(rt, lazy.states_kept(), 0);
 }
@@ -241,19 +243,19 @@ fn search_under_each<R: Abort, A: Allocator + Copy>(rt: &R, heap: &Heap, alloc: 
 /// Compares the flags of a state with its first byte, and its assertions with each other.
 fn read_flags<R: Abort, A: Allocator>(rt: &R, state: &State<A>, bytes: &[u8]) {
     let flags = bytes.first().copied().unwrap_or_default();
-    let told = (state.is_from_word(), state.is_half_crlf());
-    same(rt, (flags & 4 != 0, flags & 8 != 0), told);
     let (have, need) = (state.look_have(), state.look_need());
-    holds(rt, have.is_empty() || !need.is_empty());
+    let is_needed = have.is_empty() || !need.is_empty();
+    let told = (state.is_from_word(), state.is_half_crlf(), is_needed);
+    same(rt, (flags & 4 != 0, flags & 8 != 0, true), told);
 }
 
 /// Calls all readers of a state.
 fn read_state<R: Abort, A: Allocator + Copy>(rt: &R, state: &State<A>, bytes: &[u8]) {
-    same(rt, state.as_bytes(), bytes);
-    same(rt, state.memory_usage(), bytes.len());
+    let count = state.match_len();
+    let found = (state.as_bytes(), state.memory_usage(), state.is_match());
+    same(rt, found, (bytes, bytes.len(), count > 0));
     holds(rt, state == state && state <= state);
-    same(rt, state.is_match(), state.match_len() > 0);
-    if state.match_len() > 0 {
+    if count > 0 {
         let _ = state.match_pattern(0);
     } else {
         holds(rt, matches!(state.match_pattern_ids(), Ok(None)));
