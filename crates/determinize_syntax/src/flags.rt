@@ -92,11 +92,10 @@ fn begins_other(cursor: &Cursor<'_>) -> bool
     ensures other { result ≡ false → IsNotAt 0x3C cursor.now }
     ensures unnamed { result ≡ false → (t : List ℕ) → rest cursor.now ≡ 0x50 ∷ 0x3C ∷ t → ⊥ }
 {
-    let mut ahead = *cursor;
-    if ahead.take(b'P') {
-        return ahead.is_at(b'<');
+    match cursor.rest {
+        [b'<' | b'=' | b'!', ..] | [b'P', b'<', ..] => true,
+        _ => false,
     }
-    matches!(cursor.peek(), Some(b'<' | b'=' | b'!'))
 }
 
 /// Reads letters of flags up to a `:` or `)`, and returns the flags that they make of these.
