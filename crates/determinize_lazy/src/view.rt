@@ -7,6 +7,8 @@ ghost use Rattle.determinize_core.specs.Chain.{units};
 ghost use Rattle.determinize_core.specs.Step.{start_value};
 ghost use Rattle.determinize_core.specs.Value.{dead};
 ghost use Rattle.determinize_engine.specs.Searches.{has_start, start_for};
+ghost use Rattle.determinize_start.specs.StartKinds.{start_kind_of};
+ghost use Rattle.determinize_start.specs.StartSlots.{slot_of};
 ghost use Rattle.determinize_lazy.specs.Cache.{cache};
 ghost use Rattle.determinize_lazy.specs.Private.Searched.{GoesToCached, HasCome, IsCachedPosition, IsReached, cached_place, first_place};
 ghost use Rattle.determinize_lazy.specs.Private.Starts.{start_slot};
@@ -68,8 +70,19 @@ pub(crate) enum Reached {
     Short(Option<CachedPosition>),
 }
 
+/// Returns the slot of a start after a byte, or after nothing.
+#[inline(always)]
+fn slot_after<N: Allocator>(nfa: &NFA<N>, is_anchored: bool, look_behind: Option<u8>) -> StartSlot
+    ensures { result ≡ slot_of is_anchored (start_kind_of nfa.now.terminator look_behind) }
+{
+    let terminator = nfa.look_matcher().get_line_terminator();
+    let kind = start_kind_of(terminator, look_behind);
+    StartSlot { is_anchored, kind }
+}
+
 /// Returns the slot in which the id of a start state is kept. `None` for any other NFA state than
 /// the two start states: its start is not kept.
+#[inline(always)]
 pub(crate) fn start_slot<N: Allocator>(
     nfa: &NFA<N>,
     start: StateID,
@@ -77,16 +90,15 @@ pub(crate) fn start_slot<N: Allocator>(
 ) -> Option<StartSlot>
     ensures { result ≡ start_slot nfa.now start look_behind }
 {
-    let is_anchored = if start == nfa.start_anchored() {
-        true
+    // Each start has a branch of its own: with `is_anchored` as a variable the compiler selects the
+    // slot without a jump, and a search of an empty text takes a cycle more.
+    if start == nfa.start_anchored() {
+        Some(slot_after(nfa, true, look_behind))
     } else if start == nfa.start_unanchored() {
-        false
+        Some(slot_after(nfa, false, look_behind))
     } else {
-        return None;
-    };
-    let terminator = nfa.look_matcher().get_line_terminator();
-    let kind = start_kind_of(terminator, look_behind);
-    Some(StartSlot { is_anchored, kind })
+        None
+    }
 }
 
 impl<'v, N: Allocator, A: Allocator + Copy> View<'v, N, A> {
