@@ -1,12 +1,12 @@
 -- A search by a table, one unit more at a time, and what it finds.
--- Main statements: next-offset, come-start, come-listing, come-silent, come-dead, come-none, come-some, come-on,
--- finds-on, finds-all, finds-over, found-text, found-search, found-decides.
+-- Main statements: next-offset, come-start, come-listing, come-silent, come-above, come-stays, come-on, finds-on,
+-- finds-all, finds-over, found-text, found-search, found-decides.
 -- Used by: the searches of `Dfa`.
 -- Idea: what is found, the match of the last row that lists patterns, is the same wherever the search has come to.
 use Rattle.determinize_dense.proofs.Common.{All, All-drop, All-nil, Anchored, ap, arith, Asked, Bool, chain, Decides}
 use Rattle.determinize_dense.proofs.Common.{DfaValue, drop, ended_at, false, FindsFrom, found_from, HalfMatch, HasCome}
 use Rattle.determinize_dense.proofs.Common.{inl, inr, is_anchored, is_nonempty, is_some, IsDfa, IsFound, IsMatch}
-use Rattle.determinize_dense.proofs.Common.{IsOffset, IsOrdered, IsRead, IsRowAt, IsUnit, last_listed, last_match}
+use Rattle.determinize_dense.proofs.Common.{IsOffset, IsOrdered, IsRead, IsRowAt, IsUnit, last_listed, last_match, ListsNoneAbove}
 use Rattle.determinize_dense.proofs.Common.{length, List, lists_along, match-decides, match_so_far, None, offset_of}
 use Rattle.determinize_dense.proofs.Common.{Option, option_or, option_or-assoc, option_or-None, patterns_at, Reached}
 use Rattle.determinize_dense.proofs.Common.{refl, row_at, row_over, start_for, start_in, start_row, StaysOver, suc, sym}
@@ -14,7 +14,7 @@ use Rattle.determinize_dense.proofs.Common.{Table, Text, text_of, true, true≢f
 use Rattle.determinize_dense.proofs.Common.{◌∙◌, ◌≡◌, ◌≤◌, ◌⊎◌}
 use Rattle.determinize_core.proofs.walk.ValueWalks.{last_is}
 use Rattle.determinize_dense.proofs.Along.{along_text, last_listed-dead, last_listed-done, last_listed-more, start_is}
-use Rattle.determinize_dense.proofs.Offsets.{offset-zero, row-of}
+use Rattle.determinize_dense.proofs.Offsets.{row-of}
 use Rattle.determinize_engine.proofs.SearchMatches.{is-search}
 use Rattle.determinize_engine.specs.Searches.{HasMatch, IsSearch}
 
@@ -106,38 +106,27 @@ module _ {d : DfaValue} {text : Text} {from now : Reached} {next : ℕ} (come : 
     pub come-silent : lists ≡ false → HasCome d text from record now { row = next; read = now.read + 1 }
     come-silent e = come-kept (none_listed (patterns_at d.table number) (sym (test number here) ∙ e))
 
-  module _ {last_match last_special : ℕ} (o : IsOrdered d.table last_match last_special) where
-    -- as row 0
-    pub come-dead : next ≡ 0 → HasCome d text from record now { row = next; read = now.read + 1 }
-    come-dead dead = come-kept (rw (offset-zero d.table (sym here.1 ∙ dead)) o.dead)
+  -- to one above all that list some
+  pub come-above : {stop : ℕ} → ListsNoneAbove d.table stop → stop < next
+      → HasCome d text from record now { row = next; read = now.read + 1 }
+  come-above above past = come-kept (above number here.0 (rw here.1 at past))
 
-    come-past : last_match < next → HasCome d text from record now { row = next; read = now.read + 1 }
-    come-past past = come-kept (o.none number here.0 (rw here.1 at past))
-
-    -- or to one that lists some
-    pub come-some : (next ≡ 0 → ⊥) → next ≤ last_match → HasCome d text from
-        record { row = next; read = now.read + 1; matched = next; offset = now.read + 1 - 1 }
-    come-some not upto =
-        let end : now.read + 1 - 1 ≡ now.read = omega arith in
-        rw end (come-lists (o.some number (grind (arith, here.1)) here.0 (rw here.1 at upto)))
-
--- over units that lead a row to itself
-module _ {d : DfaValue} {text : Text} {from : Reached} (r : Reached) {to last_match last_special : ℕ}
-    (o : IsOrdered d.table last_match last_special) (past : last_match < r.row) where
-  come-stays : (more read : ℕ) → read + more ≡ to → StaysOver d.table r.row text read to
+-- over units that lead a row above all that list some to itself
+module _ {d : DfaValue} {text : Text} {from : Reached} (r : Reached) {to stop : ℕ}
+    (above : ListsNoneAbove d.table stop) (past : stop < r.row) where
+  stays : (more read : ℕ) → read + more ≡ to → StaysOver d.table r.row text read to
       → HasCome d text from record r { read = read } → HasCome d text from record r { read = to }
-  come-stays zero read e stays come = let all : read ≡ to = omega arith in rw all at come
-  come-stays (suc more) read e stays come = come-stays more (read + 1) (omega arith) (λ i h l. stays i (omega arith) l)
-      (come-past come (stays read (omega arith) (omega arith)) o past)
+  stays zero read e over come = let all : read ≡ to = omega arith in rw all at come
+  stays (suc more) read e over come = stays more (read + 1) (omega arith) (λ i h l. over i (omega arith) l)
+      (come-above come (over read (omega arith) (omega arith)) above past)
 
--- to a row that lists no pattern, and over the units that lead this to itself
-pub come-none : {d : DfaValue} {text : Text} {from now : Reached} {next to last_match last_special : ℕ}
-    → HasCome d text from now → IsRead d.table text now.read now.row next → IsOrdered d.table last_match last_special
-    → last_match < next → now.read + 1 ≤ to → StaysOver d.table next text (now.read + 1) to
-    → HasCome d text from record now { row = next; read = to }
-come-none {now = now} {next = next} {to = to} come r o past more stays =
-    come-stays record now { row = next } o past (to - (now.read + 1)) (now.read + 1) (omega arith) stays
-    (come-past come r o past)
+  pub come-stays : HasCome d text from r → r.read ≤ to → StaysOver d.table r.row text r.read to
+      → HasCome d text from record r { read = to }
+  come-stays come more over = stays (to - r.read) r.read (omega arith) over come
+
+-- no row above a greater offset lists patterns
+pub above-more : (d : Table) {least stop : ℕ} → ListsNoneAbove d least → least ≤ stop → ListsNoneAbove d stop
+above-more d none more r within past = none r within (omega arith)
 
 -- the order of rows, of what a DFA is seen as
 pub ordered : {v d : DfaValue} {last_match last_special : ℕ} → v ≡ d → IsOrdered v.table last_match last_special

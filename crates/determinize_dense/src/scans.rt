@@ -60,20 +60,19 @@ impl Pauses {
         }
     }
 
-    /// Records a scan. Returns whether a pause follows it.
+    /// Records a scan. A pause follows a short one.
     ///
     /// - `from` and `to` are the numbers of bytes that are read before and after the scan.
     #[inline(always)]
-    pub(crate) fn record(&mut self, from: usize, to: usize) -> bool
+    pub(crate) fn record(&mut self, from: usize, to: usize)
         requires { from ≤ to }
     {
         if to - from >= WORTHWHILE {
             self.next = SHORTEST;
-            return false;
+            return;
         }
         self.end = to.saturating_add(self.next);
         self.next = self.next.saturating_mul(2).min(LONGEST);
-        true
     }
 }
 

@@ -5,12 +5,15 @@
 //! are known by their offsets in the table.
 
 ghost use Rattle.std.specs.Prelude.{[], Bool, Decides, IsTrue, ◌≡◌, ◌+◌, ◌<◌, ◌≤◌, ◌⊎◌, ℕ, false, length, true, None};
+ghost use Rattle.std.specs.Option.{IfSome};
+ghost use Rattle.determinize_below.specs.Semantics as semantics;
 ghost use Rattle.determinize_below.specs.Semantics.{between};
 ghost use Rattle.determinize_below.specs.Search.{is_done};
 ghost use Rattle.determinize_engine.specs.Searches.{HasMatch, IsSearch, IsSearchResult, has_start, start_for, text_of};
 ghost use Rattle.determinize_state.specs.Value.{is_nonempty};
 ghost use Rattle.determinize_dense.specs.Dfa as dfas;
 ghost use Rattle.determinize_dense.specs.Meaning.{ListsAtEnd};
+ghost use Rattle.determinize_dense.specs.Private.Order.{ListsNoneAbove};
 ghost use Rattle.determinize_dense.specs.Private.Rows.{IsOffset, IsRowAt};
 ghost use Rattle.determinize_dense.specs.Table.{patterns_at};
 ghost use Rattle.determinize_dense.specs.Private.Searching.{FindsFrom, HasCome, IsFound, IsMatch, IsRead};
@@ -111,7 +114,7 @@ impl<'n, N: Allocator, A: Allocator + Copy> Dfa<'n, N, A> {
         offset.wrapping_sub(1) < self.last_match
     }
 
-    /// Returns the match of a row that ends at an offset, or `None` if the row lists no patterns.
+    /// Returns the match that a row lists, with this end, or `None` if the row lists no patterns.
     #[inline(always)]
     fn match_of(&self, row: usize, offset: usize) -> Option<HalfMatch>
         requires { IsOffset self.now.table row }
@@ -136,21 +139,22 @@ impl<'n, N: Allocator, A: Allocator + Copy> Dfa<'n, N, A> {
         self.row_over(row, Some(text.byte(index)))
     }
 
-    /// Returns how far a search has come that reads one byte more. Which rows list patterns is hard
-    /// to predict, so the last one is kept in a form that needs no jump.
+    /// Returns how far a search has come that reads one byte more, which leads to this row. Which
+    /// rows list patterns is hard to predict, so the last one is kept in a form that needs no jump.
     #[inline(always)]
-    fn read_byte(&self, text: &Text<'_>, from: Reached) -> Reached
+    fn enter(&self, from: Reached, row: usize) -> Reached
         requires row { IsOffset self.now.table from.row }
         requires matched { IsOffset self.now.table from.matched }
-        requires read { from.read < length text.now.bytes }
+        requires next { IsOffset self.now.table row }
         requires limit { from.read < usize.MAX }
-        ensures come { HasCome self.now text.now from result }
+        ensures come { (text : semantics.Text) → IsRead self.now.table text from.read from.row row
+            → HasCome self.now text from result }
         ensures more { result.read ≡ from.read + 1 }
     {
         let mut at = from;
-        at.row = self.over_byte(at.row, text, at.read);
-        if self.is_listing(at.row) {
-            at.matched = at.row;
+        at.row = row;
+        if self.is_listing(row) {
+            at.matched = row;
             at.offset = at.read;
         }
         at.read += 1;
@@ -160,8 +164,7 @@ impl<'n, N: Allocator, A: Allocator + Copy> Dfa<'n, N, A> {
     /// Reads a text up to an index, without scans. Stops within `GROUP` bytes once the search is
     /// over, which is tested once for `GROUP` bytes, and after each of the fewer that are left.
     ///
-    /// With a test for each byte a search takes up to a fifth longer on some processors if the jump
-    /// lies across a boundary of 32 bytes, and where it lies depends on how the program is linked.
+    /// With a test for each byte, searches in some links of a program take up to a fifth longer.
     #[inline(always)]
     fn read_block(&self, text: &Text<'_>, from: Reached, until: usize, is_earliest: bool) -> Reached
         requires row { IsOffset self.now.table from.row }
@@ -175,14 +178,14 @@ impl<'n, N: Allocator, A: Allocator + Copy> Dfa<'n, N, A> {
         let mut at = from;
         while until - at.read >= GROUP {
             for _ in 0..GROUP {
-                at = self.read_byte(text, at);
+                at = self.enter(at, self.over_byte(at.row, text, at.read));
             }
             if at.is_over(is_earliest) {
                 return at;
             }
         }
         while at.read < until {
-            at = self.read_byte(text, at);
+            at = self.enter(at, self.over_byte(at.row, text, at.read));
             if at.is_over(is_earliest) {
                 break;
             }
@@ -218,8 +221,8 @@ impl<'n, N: Allocator, A: Allocator + Copy> Dfa<'n, N, A> {
         self.last_of(text, first)
     }
 
-    /// Searches the rest of a text as `search_rest` does. Lends it a copy of the text, so that a
-    /// search that ends before keeps its text in registers.
+    /// Returns what `search_rest` returns. Lends it a copy of the text, so that a search that ends
+    /// before keeps its text in registers.
     #[inline(always)]
     fn search_on(&self, text: &Text<'_>, from: Reached, is_earliest: bool) -> Option<HalfMatch>
         requires row { IsOffset self.now.table from.row }
@@ -228,14 +231,7 @@ impl<'n, N: Allocator, A: Allocator + Copy> Dfa<'n, N, A> {
         ensures { FindsFrom self.now is_earliest text.now from result }
     {
         let text = text.copied();
-        self.search_rest(
-            from.row,
-            &text,
-            from.read,
-            from.matched,
-            from.offset,
-            is_earliest,
-        )
+        self.search_rest(&text, from, is_earliest)
     }
 
     /// Reads a text in blocks, without scans, as long as matches are near. Stops within
@@ -263,33 +259,53 @@ impl<'n, N: Allocator, A: Allocator + Copy> Dfa<'n, N, A> {
         at
     }
 
-    /// Searches the rest of a text, with scans, from where a search has come to: the numbers of a
-    /// `Reached`, which are passed in registers if they are apart.
-    ///
-    /// The inner loop compares each row with `stop` once. In a pause between scans this is
-    /// `last_match`, so that no row is scanned out of, and else `last_special`. After a match the
-    /// text is read in blocks, since more matches may be near.
-    fn search_rest(
+    /// Reads a text up to an index, as long as the rows that follow have offsets above `stop`.
+    /// Returns how far the search has come, and the next row, unless the index is reached.
+    #[inline(always)]
+    fn read_above(
         &self,
-        row: usize,
         text: &Text<'_>,
-        read: usize,
-        matched: usize,
-        offset: usize,
-        is_earliest: bool,
-    ) -> Option<HalfMatch>
-        requires row { IsOffset self.now.table row }
-        requires matched { IsOffset self.now.table matched }
-        requires read { read ≤ length text.now.bytes }
-        ensures { FindsFrom self.now is_earliest text.now
-            (record { row = row; read = read; matched = matched; offset = offset }) result }
+        from: Reached,
+        until: usize,
+        stop: usize,
+    ) -> (Reached, Option<usize>)
+        requires row { IsOffset self.now.table from.row }
+        requires matched { IsOffset self.now.table from.matched }
+        requires read { from.read ≤ until }
+        requires until { until ≤ length text.now.bytes }
+        requires stop { ListsNoneAbove self.now.table stop }
+        ensures come { HasCome self.now text.now from result.0 }
+        ensures more { from.read ≤ result.0.read }
+        ensures within { result.0.read ≤ until }
+        ensures next { IfSome result.1 (λ row. IsRead self.now.table text.now
+            result.0.read result.0.row row) }
+        ensures some { IfSome result.1 (λ row. result.0.read < until) }
+        ensures none { result.1 ≡ None → result.0.read ≡ until }
     {
-        let mut at = Reached {
-            row,
-            read,
-            matched,
-            offset,
-        };
+        let mut at = from;
+        while at.read < until {
+            let row = self.over_byte(at.row, text, at.read);
+            if row <= stop {
+                return (at, Some(row));
+            }
+            at.row = row;
+            at.read += 1;
+        }
+        (at, None)
+    }
+
+    /// Returns the last match of a text, from where a search has come to, with scans.
+    ///
+    /// Each row is compared with `stop` once. In a pause between scans this is `last_match`, so
+    /// that no row is scanned out of, and else `last_special`. After a match the text is read in
+    /// blocks, since more matches may be near.
+    fn search_rest(&self, text: &Text<'_>, from: Reached, is_earliest: bool) -> Option<HalfMatch>
+        requires row { IsOffset self.now.table from.row }
+        requires matched { IsOffset self.now.table from.matched }
+        requires read { from.read ≤ length text.now.bytes }
+        ensures { FindsFrom self.now is_earliest text.now from result }
+    {
+        let mut at = from;
         let mut pauses = Pauses::new();
         while at.read < text.len() {
             let (stop, until) = if at.read < pauses.end {
@@ -297,30 +313,19 @@ impl<'n, N: Allocator, A: Allocator + Copy> Dfa<'n, N, A> {
             } else {
                 (self.last_special, text.len())
             };
-            while at.read < until {
-                at.row = self.over_byte(at.row, text, at.read);
-                at.read += 1;
-                if at.row > stop {
-                    continue;
-                }
-                if at.row > self.last_match {
-                    let start = at.read;
-                    at.read = self.scan(at.row, text, start);
-                    if pauses.record(start, at.read) {
-                        break;
-                    }
-                } else {
-                    if at.row != 0 {
-                        at.matched = at.row;
-                        at.offset = at.read - 1;
-                    }
-                    break;
-                }
-            }
-            if at.is_over(is_earliest) {
+            let (before, next) = self.read_above(text, at, until, stop);
+            at = before;
+            let Some(row) = next else {
+                continue;
+            };
+            at = self.enter(at, row);
+            if at.row > self.last_match {
+                let start = at.read;
+                at.read = self.scan(at.row, text, start);
+                pauses.record(start, at.read);
+            } else if at.is_over(is_earliest) {
                 return self.match_of(at.matched, at.offset);
-            }
-            if at.row <= self.last_match {
+            } else {
                 at = self.read_blocks(text, at);
             }
         }
@@ -343,7 +348,7 @@ impl<'n, N: Allocator, A: Allocator + Copy> Dfa<'n, N, A> {
         self.match_of(at.matched, at.offset)
     }
 
-    /// Searches the range of an input in the direction of the NFA. The match is one of this text.
+    /// Returns the last match of the range of an input, with its offset in bytes that are read.
     #[inline(always)]
     fn search_range(&self, input: &Input<'_>, is_earliest: bool) -> Option<HalfMatch>
         requires start { has_start input.now.anchored ≡ true }

@@ -8,12 +8,17 @@ use Rattle.determinize_dense.specs.Private.Scans.{AreAllStaying}
 use Rattle.determinize_dense.specs.Table.{DfaValue, Table, patterns_at}
 use Rattle.determinize_dense.specs.declared.partition.TheConstants.{RANKS}
 
+-- no row at a greater offset lists patterns
+abbrev pub ListsNoneAbove : Table → ℕ → Type 0
+ListsNoneAbove d offset =
+    (r : ℕ) → r < length d.patterns → offset < offset_of d r → patterns_at d r ≡ []
+
 -- after row 0 and up to the last match, and only there, the rows list patterns
 pub record IsOrdered (d : Table) (last_match last_special : ℕ) : Type 0 where
   pub dead : patterns_at d 0 ≡ []
   pub some : (r : ℕ) → 0 < r → r < length d.patterns → offset_of d r ≤ last_match
       → is_nonempty (patterns_at d r) ≡ true
-  pub none : (r : ℕ) → r < length d.patterns → last_match < offset_of d r → patterns_at d r ≡ []
+  pub none : ListsNoneAbove d last_match
   pub more : last_match ≤ last_special
 
 -- a DFA in order, whose entries are stored as offsets, with the tables of rows from the first one
