@@ -142,6 +142,7 @@ impl<A: Allocator + Copy> Pieces<A> {
     }
 
     /// Returns the search of all kept bytes from the start on, which is then no longer under way.
+    #[inline(always)]
     fn take_scan<N: Allocator, B: Engine<Error = AllocError>>(
         &mut self,
         regex: &mut Regex<Lazy<'_, N, A>, B>,
@@ -237,6 +238,7 @@ impl<A: Allocator + Copy> Pieces<A> {
 
     /// Returns the leftmost match of the kept bytes from the start on if it is certain, by indices
     /// into these bytes. If none is, drops the bytes that no search needs any more.
+    #[inline(always)]
     fn certain<N: Allocator, B: Engine<Error = AllocError>>(
         &mut self,
         regex: &mut Regex<Lazy<'_, N, A>, B>,
@@ -264,6 +266,7 @@ impl<A: Allocator + Copy> Pieces<A> {
 
     /// Returns the next match if it is certain, as `certain` does. But an empty match where the one
     /// before ended is skipped, and the start is moved by one byte.
+    #[inline(always)]
     fn next_certain<N: Allocator, B: Engine<Error = AllocError>>(
         &mut self,
         regex: &mut Regex<Lazy<'_, N, A>, B>,
@@ -300,6 +303,7 @@ impl<A: Allocator + Copy> Pieces<A> {
     }
 
     /// Returns the next match in the text if it is certain, and moves the start to its end.
+    #[inline(always)]
     fn take_next<N: Allocator, B: Engine<Error = AllocError>>(
         &mut self,
         regex: &mut Regex<Lazy<'_, N, A>, B>,

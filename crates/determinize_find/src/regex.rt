@@ -320,6 +320,7 @@ impl<'n, N: Allocator, A: Allocator + Copy, B: Engine<Error = AllocError>> Regex
 > {
     /// Returns the search for the end of the leftmost match of a haystack from an index on, after
     /// all of its bytes. More pieces of the text may follow.
+    #[inline(always)]
     pub(crate) fn scan(&mut self, haystack: &[u8], start: usize) -> Result<Scan<A>, AllocError>
         requires { start ≤ length haystack.now }
         ensures scan { IfOk result (λ scan. IsEndScan self.old.nfa
@@ -358,6 +359,7 @@ impl<'n, N: Allocator, A: Allocator + Copy, B: Engine<Error = AllocError>> Regex
     /// Returns the leftmost match of a haystack from an index on, if it is certain by `scan`, the
     /// search of those bytes: then nothing that follows the haystack can change it. It begins
     /// before the end. If no match that ends there does, the scan is one of another NFA.
+    #[inline(always)]
     pub(crate) fn certain(
         &mut self,
         haystack: &[u8],

@@ -90,7 +90,7 @@ pub(crate) fn start_slot<N: Allocator>(
 ) -> Option<StartSlot>
     ensures { result ≡ start_slot nfa.now start look_behind }
 {
-    // Each start has a branch of its own: with `is_anchored` as a variable the compiler selects the
+    // Each start has a separate branch: with `is_anchored` as a variable the compiler selects the
     // slot without a jump, and a search of an empty text takes a cycle more.
     if start == nfa.start_anchored() {
         Some(slot_after(nfa, true, look_behind))

@@ -31,6 +31,7 @@ enum Place {
     Operand,
 }
 
+/// Writes a part of a pattern, in a group where its place needs one.
 #[cycle(write_bare)]
 fn write_part<W: fmt::Write>(
     f: &mut fmt::Formatter<W>,
@@ -44,6 +45,7 @@ fn write_part<W: fmt::Write>(
     }
 }
 
+/// Writes a pattern in a group, which begins with this text.
 #[cycle(write_bare)]
 fn write_group<W: fmt::Write>(
     f: &mut fmt::Formatter<W>,
@@ -55,6 +57,7 @@ fn write_group<W: fmt::Write>(
     f.write_str(")")
 }
 
+/// Returns whether a pattern needs parentheses in this place.
 fn needs_group(pattern: &Pattern, place: Place) -> bool {
     match (pattern, place) {
         (Pattern::Alternation(subs), _) => !subs.is_empty(),
@@ -65,6 +68,7 @@ fn needs_group(pattern: &Pattern, place: Place) -> bool {
     }
 }
 
+/// Writes a pattern without parentheses around it.
 #[cycle(write_bare)]
 fn write_bare<W: fmt::Write>(f: &mut fmt::Formatter<W>, pattern: &Pattern) -> fmt::Result {
     match pattern {
@@ -88,6 +92,7 @@ fn write_bare<W: fmt::Write>(f: &mut fmt::Formatter<W>, pattern: &Pattern) -> fm
     }
 }
 
+/// Writes the branches of an alternation.
 #[cycle(write_bare)]
 fn write_choice<W: fmt::Write>(f: &mut fmt::Formatter<W>, subs: &[Pattern]) -> fmt::Result {
     if subs.is_empty() {
@@ -96,6 +101,7 @@ fn write_choice<W: fmt::Write>(f: &mut fmt::Formatter<W>, subs: &[Pattern]) -> f
     write_all(f, subs, "|")
 }
 
+/// Writes patterns with a separator between them.
 #[cycle(write_bare)]
 fn write_all<W: fmt::Write>(
     f: &mut fmt::Formatter<W>,
@@ -119,6 +125,7 @@ fn write_none<W: fmt::Write>(f: &mut fmt::Formatter<W>) -> fmt::Result {
     f.write_str("[^\\x00-\\xFF]")
 }
 
+/// Writes the bytes of a literal.
 fn write_literal<W: fmt::Write>(f: &mut fmt::Formatter<W>, bytes: &[u8]) -> fmt::Result {
     if bytes.is_empty() {
         return f.write_str("(?:)");
@@ -129,6 +136,7 @@ fn write_literal<W: fmt::Write>(f: &mut fmt::Formatter<W>, bytes: &[u8]) -> fmt:
     Ok(())
 }
 
+/// Writes a class of bytes in brackets.
 fn write_class<W: fmt::Write>(f: &mut fmt::Formatter<W>, class: &ClassBytes) -> fmt::Result {
     let ranges = class.ranges();
     if ranges.is_empty() {
@@ -141,6 +149,7 @@ fn write_class<W: fmt::Write>(f: &mut fmt::Formatter<W>, class: &ClassBytes) -> 
     f.write_str("]")
 }
 
+/// Writes a range of a class: one byte, or two with a hyphen between them.
 fn write_range<W: fmt::Write>(f: &mut fmt::Formatter<W>, range: ClassBytesRange) -> fmt::Result {
     write_byte(f, range.start)?;
     if range.start == range.end {
@@ -150,6 +159,8 @@ fn write_range<W: fmt::Write>(f: &mut fmt::Formatter<W>, range: ClassBytesRange)
     write_byte(f, range.end)
 }
 
+/// Writes a byte: escaped if it has a meaning in the syntax, and in hexadecimal if it is not
+/// printable ASCII.
 fn write_byte<W: fmt::Write>(f: &mut fmt::Formatter<W>, byte: u8) -> fmt::Result {
     if byte < 32 || byte > 126 {
         return write!(f, "\\x{byte:02X}");
@@ -185,6 +196,7 @@ fn is_meta(byte: u8) -> bool {
     )
 }
 
+/// Writes the operator of a repetition.
 fn write_operator<W: fmt::Write>(
     f: &mut fmt::Formatter<W>,
     min: u32,

@@ -9,10 +9,11 @@ use determinize_core::state::State;
 use example_walks::fields::Fields;
 use std::process::Abort;
 
-/// The number of states of a chain, and of alternates of a wide union.
+/// The number of states of a chain, and of alternates of a wide union. The union after a chain has
+/// this id, and its alternates the next two.
 const LINKS: usize = 100000;
 
-/// The number of patterns that match at once.
+/// The number of patterns that match at once. The union of the matches has this id.
 const PATTERNS: usize = 50000;
 
 /// Returns the NFA of these states, which starts in the one that `start` names.
