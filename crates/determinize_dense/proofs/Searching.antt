@@ -111,7 +111,7 @@ module _ {d : DfaValue} {text : Text} {from now : Reached} {next : ℕ} (come : 
       → HasCome d text from record now { row = next; read = now.read + 1 }
   come-above above past = come-kept (above number here.0 (rw here.1 at past))
 
--- over units that lead a row above all that list some to itself
+-- over units that do not leave a row above all that list some
 module _ {d : DfaValue} {text : Text} {from : Reached} (r : Reached) {to stop : ℕ}
     (above : ListsNoneAbove d.table stop) (past : stop < r.row) where
   stays : (more read : ℕ) → read + more ≡ to → StaysOver d.table r.row text read to

@@ -139,8 +139,8 @@ impl<'n, N: Allocator, A: Allocator + Copy> Dfa<'n, N, A> {
         self.row_over(row, Some(text.byte(index)))
     }
 
-    /// Returns how far a search has come that reads one byte more, which leads to this row. Which
-    /// rows list patterns is hard to predict, so the last one is kept in a form that needs no jump.
+    /// Returns how far a search has come that reads one byte more and enters this row. Which rows
+    /// list patterns is hard to predict, so the last one is kept in a form that needs no jump.
     #[inline(always)]
     fn enter(&self, from: Reached, row: usize) -> Reached
         requires row { IsOffset self.now.table from.row }

@@ -6,7 +6,7 @@ use Rattle.determinize_dense.proofs.dfa.Dfa.search_rest.Goals as goal
 pub loop-at-init : goal.loop-at-init
 loop-at-init g c = record { come = come-start c.requires.row c.requires.matched; within = c.requires.read }
 
--- how far the search has come behind the byte that leads to a row at most `stop`
+-- how far the search has come where it enters a row at most `stop`
 come : (g : _) (c : After-enter-at g)
     → HasCome c.args.self.now c.args.text.now c.args.from c.enter-at.result
 come g c =
