@@ -6,8 +6,9 @@
 use Rattle.determinize_dense.proofs.Common.{All, All-drop, All-nil, Anchored, ap, arith, Asked, Bool, chain, Decides}
 use Rattle.determinize_dense.proofs.Common.{DfaValue, drop, ended_at, false, FindsFrom, found_from, HalfMatch, HasCome}
 use Rattle.determinize_dense.proofs.Common.{inl, inr, is_anchored, is_nonempty, is_some, IsDfa, IsFound, IsMatch}
-use Rattle.determinize_dense.proofs.Common.{IsOffset, IsOrdered, IsRead, IsRowAt, IsUnit, last_listed, last_match, ListsNoneAbove}
-use Rattle.determinize_dense.proofs.Common.{length, List, lists_along, match-decides, match_so_far, None, offset_of}
+use Rattle.determinize_dense.proofs.Common.{IsOffset, IsOrdered, IsRead, IsRowAt, IsUnit, last_listed, last_match}
+use Rattle.determinize_dense.proofs.Common.{length, List, lists_along, ListsNoneAbove, match-decides, match_so_far}
+use Rattle.determinize_dense.proofs.Common.{None, offset_of}
 use Rattle.determinize_dense.proofs.Common.{Option, option_or, option_or-assoc, option_or-None, patterns_at, Reached}
 use Rattle.determinize_dense.proofs.Common.{refl, row_at, row_over, start_for, start_in, start_row, StaysOver, suc, sym}
 use Rattle.determinize_dense.proofs.Common.{Table, Text, text_of, true, true≢false, units, zero, [], ℕ, ◌+◌, ◌-◌, ◌<◌}
@@ -123,10 +124,6 @@ module _ {d : DfaValue} {text : Text} {from : Reached} (r : Reached) {to stop : 
   pub come-stays : HasCome d text from r → r.read ≤ to → StaysOver d.table r.row text r.read to
       → HasCome d text from record r { read = to }
   come-stays come more over = stays (to - r.read) r.read (omega arith) over come
-
--- no row above a greater offset lists patterns
-pub above-more : (d : Table) {least stop : ℕ} → ListsNoneAbove d least → least ≤ stop → ListsNoneAbove d stop
-above-more d none more r within past = none r within (omega arith)
 
 -- the order of rows, of what a DFA is seen as
 pub ordered : {v d : DfaValue} {last_match last_special : ℕ} → v ≡ d → IsOrdered v.table last_match last_special

@@ -1,5 +1,5 @@
 //! Scans: a search stays in a row while the bytes that it reads do not leave it. Pauses say when it
-//! scans, and when it reads in blocks; no match depends on them.
+//! does not scan; no match depends on them.
 //!
 //! The first few rows that are scanned out of have a table of 256 bytes each, by which a scan reads
 //! eight bytes of a text at once.
@@ -60,7 +60,7 @@ impl Pauses {
         }
     }
 
-    /// Records a scan. A pause follows a short one.
+    /// Records a scan, and begins a pause if it was short.
     ///
     /// - `from` and `to` are the numbers of bytes that are read before and after the scan.
     #[inline(always)]

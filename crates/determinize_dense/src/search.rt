@@ -143,9 +143,9 @@ impl<'n, N: Allocator, A: Allocator + Copy> Dfa<'n, N, A> {
     /// list patterns is hard to predict, so the last one is kept in a form that needs no jump.
     #[inline(always)]
     fn enter(&self, from: Reached, row: usize) -> Reached
-        requires row { IsOffset self.now.table from.row }
+        requires from { IsOffset self.now.table from.row }
         requires matched { IsOffset self.now.table from.matched }
-        requires next { IsOffset self.now.table row }
+        requires row { IsOffset self.now.table row }
         requires limit { from.read < usize.MAX }
         ensures come { (text : semantics.Text) → IsRead self.now.table text from.read from.row row
             → HasCome self.now text from result }
@@ -164,7 +164,7 @@ impl<'n, N: Allocator, A: Allocator + Copy> Dfa<'n, N, A> {
     /// Reads a text up to an index, without scans. Stops within `GROUP` bytes once the search is
     /// over, which is tested once for `GROUP` bytes, and after each of the fewer that are left.
     ///
-    /// With a test for each byte, searches in some links of a program take up to a fifth longer.
+    /// With a test for each byte it takes up to a fifth longer in some ways to link a program.
     #[inline(always)]
     fn read_block(&self, text: &Text<'_>, from: Reached, until: usize, is_earliest: bool) -> Reached
         requires row { IsOffset self.now.table from.row }
@@ -221,8 +221,8 @@ impl<'n, N: Allocator, A: Allocator + Copy> Dfa<'n, N, A> {
         self.last_of(text, first)
     }
 
-    /// Returns what `search_rest` returns. Lends it a copy of the text, so that a search that ends
-    /// before keeps its text in registers.
+    /// Returns what `search_rest` returns. Lends it a copy of the text, so that a search that does
+    /// not come here keeps its text in registers.
     #[inline(always)]
     fn search_on(&self, text: &Text<'_>, from: Reached, is_earliest: bool) -> Option<HalfMatch>
         requires row { IsOffset self.now.table from.row }
@@ -260,7 +260,8 @@ impl<'n, N: Allocator, A: Allocator + Copy> Dfa<'n, N, A> {
     }
 
     /// Reads a text up to an index, as long as the rows that follow have offsets above `stop`.
-    /// Returns how far the search has come, and the next row, unless the index is reached.
+    /// Returns how far the search has come, and the next row, unless the index is reached. Without
+    /// a call in the loop the text and the table are loaded once.
     #[inline(always)]
     fn read_above(
         &self,
@@ -279,6 +280,7 @@ impl<'n, N: Allocator, A: Allocator + Copy> Dfa<'n, N, A> {
         ensures within { result.0.read ≤ until }
         ensures next { IfSome result.1 (λ row. IsRead self.now.table text.now
             result.0.read result.0.row row) }
+        ensures low { IfSome result.1 (λ row. row ≤ stop) }
         ensures some { IfSome result.1 (λ row. result.0.read < until) }
         ensures none { result.1 ≡ None → result.0.read ≡ until }
     {
@@ -294,11 +296,9 @@ impl<'n, N: Allocator, A: Allocator + Copy> Dfa<'n, N, A> {
         (at, None)
     }
 
-    /// Returns the last match of a text, from where a search has come to, with scans.
-    ///
-    /// Each row is compared with `stop` once. In a pause between scans this is `last_match`, so
-    /// that no row is scanned out of, and else `last_special`. After a match the text is read in
-    /// blocks, since more matches may be near.
+    /// Returns what a search finds that has come this far: the rest of the text is read with scans.
+    /// In a pause between them `stop` is `last_match`, so that no row is scanned out of, and else
+    /// `last_special`. After a match the text is read in blocks, since more may be near.
     fn search_rest(&self, text: &Text<'_>, from: Reached, is_earliest: bool) -> Option<HalfMatch>
         requires row { IsOffset self.now.table from.row }
         requires matched { IsOffset self.now.table from.matched }
@@ -348,7 +348,7 @@ impl<'n, N: Allocator, A: Allocator + Copy> Dfa<'n, N, A> {
         self.match_of(at.matched, at.offset)
     }
 
-    /// Returns the last match of the range of an input, with its offset in bytes that are read.
+    /// Returns what `search_text` returns, for the range of an input.
     #[inline(always)]
     fn search_range(&self, input: &Input<'_>, is_earliest: bool) -> Option<HalfMatch>
         requires start { has_start input.now.anchored ≡ true }

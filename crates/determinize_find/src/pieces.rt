@@ -238,6 +238,8 @@ impl<A: Allocator + Copy> Pieces<A> {
 
     /// Returns the leftmost match of the kept bytes from the start on if it is certain, by indices
     /// into these bytes. If none is, drops the bytes that no search needs any more.
+    ///
+    /// Inlined, as the other steps that each match takes: with calls it takes 5 percent longer.
     #[inline(always)]
     fn certain<N: Allocator, B: Engine<Error = AllocError>>(
         &mut self,

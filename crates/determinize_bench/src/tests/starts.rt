@@ -25,7 +25,7 @@ const TABLES: &str = "\
 LookTables { reverse: false, terminator: 10, any: LookSet { bits: 68 } })";
 
 /// Compares the look-behind at the start of a line and after a word byte, the assertions that EOI
-/// satisfies, and the debug text of both.
+/// satisfies, and two debug texts.
 fn expect_tables<R: Abort + AllocGlobal>(rt: &R, tables: LookTables) {
     let at_start = tables.at_start(start_kind_of(b'\n', Some(b'\n')));
     let starts_line = at_start.looks.contains(Look::StartLF);

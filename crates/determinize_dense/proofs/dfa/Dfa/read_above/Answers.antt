@@ -11,7 +11,8 @@ loop-at-init g c = record {
 
 pub loop-at-preserved : goal.loop-at-preserved
 loop-at-preserved g c = record {
-  come = come-above c.loop-at.invariant.come c.over_byte-row.ensures.read c.requires.stop (omega (arith, c.if-row-stop.false));
+  come = come-above c.loop-at.invariant.come c.over_byte-row.ensures.read c.requires.stop
+      (omega (arith, c.if-row-stop.false));
   more = omega (arith, c.loop-at.invariant.more);
   within = omega (arith, c.loop-at-test.true);
 }
