@@ -11,7 +11,8 @@ pub use Rattle.determinize_dense.specs.Private.Building.{AreStarts, Building, co
 pub use Rattle.determinize_dense.specs.Private.Building.{IsBuilding, IsNextRow, IsStart, Stays, unit_at}
 pub use Rattle.determinize_dense.specs.Private.Rows.{dfa_value, IsDfa, IsFilled, IsInverse, IsOffset, IsRowAt, IsStored}
 pub use Rattle.determinize_dense.specs.Private.Rows.{offset_of, rows_at}
-pub use Rattle.determinize_dense.specs.Private.Searching.{FindsFrom, found_from, HasCome, IsFound, IsMatch, IsRead}
+pub use Rattle.determinize_dense.specs.Private.Searching.{FindsFrom, found_from, HasCome, HasReadUpTo, IsFound}
+pub use Rattle.determinize_dense.specs.Private.Searching.{IsMatch, IsRead}
 pub use Rattle.determinize_dense.specs.Private.Searching.{match_so_far, row_at, StaysOver}
 pub use Rattle.determinize_dense.specs.Table.{column_of, DfaValue, patterns_at, row_after, row_over, start_row, Table}
 pub use Rattle.determinize_below.specs.declared.primitives.TheConstants.{MAX_ID}

@@ -8,11 +8,10 @@ use Rattle.determinize_dense.proofs.Common.{DfaValue, drop, ended_at, false, Fin
 use Rattle.determinize_dense.proofs.Common.{inl, inr, is_anchored, is_nonempty, is_some, IsDfa, IsFound, IsMatch}
 use Rattle.determinize_dense.proofs.Common.{IsOffset, IsOrdered, IsRead, IsRowAt, IsUnit, last_listed, last_match}
 use Rattle.determinize_dense.proofs.Common.{length, List, lists_along, ListsNoneAbove, match-decides, match_so_far}
-use Rattle.determinize_dense.proofs.Common.{None, offset_of}
-use Rattle.determinize_dense.proofs.Common.{Option, option_or, option_or-assoc, option_or-None, patterns_at, Reached}
-use Rattle.determinize_dense.proofs.Common.{refl, row_at, row_over, start_for, start_in, start_row, StaysOver, suc, sym}
-use Rattle.determinize_dense.proofs.Common.{Table, Text, text_of, true, true≢false, units, zero, [], ℕ, ◌+◌, ◌-◌, ◌<◌}
-use Rattle.determinize_dense.proofs.Common.{◌∙◌, ◌≡◌, ◌≤◌, ◌⊎◌}
+use Rattle.determinize_dense.proofs.Common.{None, offset_of, Option, option_or, option_or-assoc, option_or-None}
+use Rattle.determinize_dense.proofs.Common.{patterns_at, Reached, refl, row_at, row_over, start_for, start_in}
+use Rattle.determinize_dense.proofs.Common.{start_row, StaysOver, suc, sym, Table, Text, text_of, true, true≢false}
+use Rattle.determinize_dense.proofs.Common.{units, zero, [], ℕ, ◌+◌, ◌-◌, ◌<◌, ◌∙◌, ◌≡◌, ◌≤◌, ◌⊎◌}
 use Rattle.determinize_core.proofs.walk.ValueWalks.{last_is}
 use Rattle.determinize_dense.proofs.Along.{along_text, last_listed-dead, last_listed-done, last_listed-more, start_is}
 use Rattle.determinize_dense.proofs.Offsets.{row-of}

@@ -60,9 +60,9 @@ impl Pauses {
         }
     }
 
-    /// Records a scan, and begins a pause if it was short.
+    /// Records a scan.
     ///
-    /// - `from` and `to` are the numbers of bytes that are read before and after the scan.
+    /// - `from` and `to` are the numbers of bytes that are read before and after it.
     #[inline(always)]
     pub(crate) fn record(&mut self, from: usize, to: usize)
         requires { from ≤ to }

@@ -16,7 +16,7 @@ ghost use Rattle.determinize_dense.specs.Meaning.{ListsAtEnd};
 ghost use Rattle.determinize_dense.specs.Private.Order.{ListsNoneAbove};
 ghost use Rattle.determinize_dense.specs.Private.Rows.{IsOffset, IsRowAt};
 ghost use Rattle.determinize_dense.specs.Table.{patterns_at};
-ghost use Rattle.determinize_dense.specs.Private.Searching.{FindsFrom, HasCome, IsFound, IsMatch, IsRead};
+ghost use Rattle.determinize_dense.specs.Private.Searching.{FindsFrom, HasCome, HasReadUpTo, IsFound, IsMatch, IsRead};
 
 use crate::dfa::{Dfa, SCALE};
 use crate::scans::{BLOCK, BLOCKS, FIRST, Pauses};
@@ -164,16 +164,16 @@ impl<'n, N: Allocator, A: Allocator + Copy> Dfa<'n, N, A> {
     /// Reads a text up to an index, without scans. Stops within `GROUP` bytes once the search is
     /// over, which is tested once for `GROUP` bytes, and after each of the fewer that are left.
     ///
-    /// With a test for each byte it takes up to a fifth longer in some ways to link a program.
+    /// With a test for each byte it takes up to a fifth longer, depending on how the program is
+    /// linked.
     #[inline(always)]
     fn read_block(&self, text: &Text<'_>, from: Reached, until: usize, is_earliest: bool) -> Reached
         requires row { IsOffset self.now.table from.row }
         requires matched { IsOffset self.now.table from.matched }
         requires read { from.read ≤ until }
         requires until { until ≤ length text.now.bytes }
-        ensures come { HasCome self.now text.now from result }
+        ensures reads { HasReadUpTo self.now text.now from until result }
         ensures more { from.read < until → from.read < result.read }
-        ensures within { result.read ≤ until }
     {
         let mut at = from;
         while until - at.read >= GROUP {
@@ -240,9 +240,7 @@ impl<'n, N: Allocator, A: Allocator + Copy> Dfa<'n, N, A> {
         requires row { IsOffset self.now.table from.row }
         requires matched { IsOffset self.now.table from.matched }
         requires read { from.read ≤ length text.now.bytes }
-        ensures come { HasCome self.now text.now from result }
-        ensures more { from.read ≤ result.read }
-        ensures within { result.read ≤ length text.now.bytes }
+        ensures { HasReadUpTo self.now text.now from (length text.now.bytes) result }
     {
         let mut at = from;
         let mut left = BLOCKS;
@@ -275,9 +273,7 @@ impl<'n, N: Allocator, A: Allocator + Copy> Dfa<'n, N, A> {
         requires read { from.read ≤ until }
         requires until { until ≤ length text.now.bytes }
         requires stop { ListsNoneAbove self.now.table stop }
-        ensures come { HasCome self.now text.now from result.0 }
-        ensures more { from.read ≤ result.0.read }
-        ensures within { result.0.read ≤ until }
+        ensures reads { HasReadUpTo self.now text.now from until result.0 }
         ensures next { IfSome result.1 (λ row. IsRead self.now.table text.now
             result.0.read result.0.row row) }
         ensures low { IfSome result.1 (λ row. row ≤ stop) }

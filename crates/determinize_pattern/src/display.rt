@@ -57,7 +57,7 @@ fn write_group<W: fmt::Write>(
     f.write_str(")")
 }
 
-/// Returns whether a pattern needs parentheses in this place.
+/// Returns whether a pattern needs a group in this place.
 fn needs_group(pattern: &Pattern, place: Place) -> bool {
     match (pattern, place) {
         (Pattern::Alternation(subs), _) => !subs.is_empty(),
@@ -68,7 +68,7 @@ fn needs_group(pattern: &Pattern, place: Place) -> bool {
     }
 }
 
-/// Writes a pattern without parentheses around it.
+/// Writes a pattern without a group around it.
 #[cycle(write_bare)]
 fn write_bare<W: fmt::Write>(f: &mut fmt::Formatter<W>, pattern: &Pattern) -> fmt::Result {
     match pattern {

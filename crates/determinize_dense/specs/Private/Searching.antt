@@ -76,3 +76,10 @@ pub record HasCome (dfa : DfaValue) (text : Text) (from now : Reached) : Type 0 
   pub listing : IsOffset dfa.table now.matched
   pub same : found_from dfa.table text now ≡ found_from dfa.table text from
   pub matched : HasMatched dfa.table from → HasMatched dfa.table now
+
+-- a search that had come from there has now come this far, and has read up to an index at most
+pub record HasReadUpTo (dfa : DfaValue) (text : Text) (from : Reached) (until : ℕ)
+    (now : Reached) : Type 0 where
+  pub come : HasCome dfa text from now
+  pub more : from.read ≤ now.read
+  pub within : now.read ≤ until

@@ -13,10 +13,15 @@ loop-at-2-preserved g c =
     let more = c.enter-at-in-loop-at-2.ensures.more in record {
       come = come-on c.loop-at-2.invariant.come
           (c.enter-at-in-loop-at-2.ensures.come c.args.text.now c.over_byte-in-loop-at-2.ensures.read);
-      low = omega (arith, more, c.loop-at-2.invariant.low);
+      more = omega (arith, more, c.loop-at-2.invariant.more);
       within = omega (arith, more, c.loop-at-2-test.true);
     }
 
-pub returns-then-is_over-2-clause-come : goal.returns-then-is_over-2-clause-come
-returns-then-is_over-2-clause-come g c = come-on c.loop-at-2.invariant.come
-    (c.enter-at-in-loop-at-2.ensures.come c.args.text.now c.over_byte-in-loop-at-2.ensures.read)
+pub returns-then-is_over-2-clause-reads : goal.returns-then-is_over-2-clause-reads
+returns-then-is_over-2-clause-reads g c =
+    let more = c.enter-at-in-loop-at-2.ensures.more in record {
+      come = come-on c.loop-at-2.invariant.come
+          (c.enter-at-in-loop-at-2.ensures.come c.args.text.now c.over_byte-in-loop-at-2.ensures.read);
+      more = omega (arith, more, c.loop-at-2.invariant.more);
+      within = omega (arith, more, c.loop-at-2-test.true);
+    }

@@ -12,7 +12,7 @@ come : (g : _) (c : After-enter-at g)
 come g c =
     let next = rw c.in-Some.is at c.read_above-next.ensures.next in
     come-on c.loop-at.invariant.come
-    (come-on c.read_above-next.ensures.come (c.enter-at.ensures.come c.args.text.now next))
+    (come-on c.read_above-next.ensures.reads.come (c.enter-at.ensures.come c.args.text.now next))
 
 pub scan-requires-clause-row : goal.scan-requires-clause-row
 scan-requires-clause-row g c = (come g (goal.at.scan-requires-clause-row g c).After-enter-at).at

@@ -9,12 +9,12 @@ found : (g : _) (c : After-read_block-first g) {found : Option HalfMatch}
     → IsFound c.args.self.now c.args.is_earliest c.args.is_anchored c.args.text.now found
 found g c f = found-text c.start_row.ensures.sound (rw c.behind.ensures at c.start_row.ensures.value)
     (rw c.behind.ensures at c.start_row.ensures.limit) (rw c.behind.ensures at c.start_row.ensures.unit)
-    c.len.ensures.units (finds-on c.read_block-first.ensures.come f)
+    c.len.ensures.units (finds-on c.read_block-first.ensures.reads.come f)
 
 pub returns-then-is_over : goal.returns-then-is_over
 returns-then-is_over g c =
     let d = (goal.at.returns-then-is_over g c).After-read_block-first in
-    let come = c.read_block-first.ensures.come in
+    let come = c.read_block-first.ensures.reads.come in
     found g d (finds-over (come-start come.at come.listing) c.match_of.ensures c.start_row.ensures.sound
     c.len.ensures.units (c.is_over.ensures c.if-is_over.true))
 

@@ -15,7 +15,8 @@ returns-then-not-is_empty_union-clause-err g c = inl (
 )
 
 pub returns-in_err-alternates-clause-err : goal.returns-in_err-alternates-clause-err
-returns-in_err-alternates-clause-err g c = if_err_and c.from_residual.result _ _ (λ e h. inr h) c.from_residual.ensures.1
+returns-in_err-alternates-clause-err g c =
+    if_err_and c.from_residual.result _ _ (λ e h. inr h) c.from_residual.ensures.1
 
 pub index_mut-requires : goal.index_mut-requires
 index_mut-requires g c =
