@@ -17,7 +17,7 @@ ghost use Rattle.determinize_table.specs.Table.{is_cached};
 ghost use Rattle.determinize_table.specs.declared.table.Cursor.TheVariants as cursors;
 
 use crate::lazy::Lazy;
-use crate::view::start_slot;
+use crate::view::start_number;
 use determinize_below::{NFA, StateID, Unit};
 use determinize_core::state::State;
 use determinize_table::{ClassSpans, Cursor, LazyStateId, StateTag};
@@ -98,8 +98,8 @@ impl<'n, N: Allocator, A: Allocator + Copy> Lazy<'n, N, A> {
         let Some(id) = self.table.find(&state, None) else {
             return Ok(Cursor::Uncached(state));
         };
-        if let Some(slot) = start_slot(self.stepper.nfa(), start, look_behind) {
-            self.table.set_start(slot, id);
+        if let Some(number) = start_number(self.stepper.nfa(), start, look_behind) {
+            self.table.set_start(number, id);
         }
         Ok(Cursor::Cached(id))
     }

@@ -1,21 +1,21 @@
 //! What a search does as long as it only reads the cache, for a `Lazy` and for an owner of its NFA.
 
-ghost use Rattle.std.specs.Prelude.{◌≡◌, ◌+◌, ◌<◌, ◌≤◌, length, slice_get, slice_index_or, true, Some};
+ghost use Rattle.std.specs.Prelude.{◌≡◌, ◌+◌, ◌<◌, ◌≤◌, length, option_map, slice_get, slice_index_or, true, Some};
 ghost use Rattle.std.specs.Option.{IfSome};
 ghost use Rattle.determinize_below.specs.Nfa.{AllResolve};
 ghost use Rattle.determinize_core.specs.Chain.{units};
 ghost use Rattle.determinize_core.specs.Step.{start_value};
 ghost use Rattle.determinize_core.specs.Value.{dead};
 ghost use Rattle.determinize_engine.specs.Searches.{has_start, start_for};
-ghost use Rattle.determinize_start.specs.StartKinds.{start_kind_of};
-ghost use Rattle.determinize_start.specs.StartSlots.{slot_of};
+ghost use Rattle.determinize_start.specs.StartSlots.{slot_number};
+ghost use Rattle.determinize_start.specs.declared.start.TheConstants.StartSlot.{COUNT};
 ghost use Rattle.determinize_lazy.specs.Cache.{cache};
 ghost use Rattle.determinize_lazy.specs.Private.Searched.{GoesToCached, HasCome, IsCachedPosition, IsReached, cached_place, first_place};
 ghost use Rattle.determinize_lazy.specs.Private.Starts.{start_slot};
 ghost use Rattle.determinize_lazy.specs.Private.Steps.{IsSound};
 
 use determinize_below::{Anchored, HalfMatch, MatchKind, NFA, StateID};
-use determinize_core::start::{StartSlot, start_kind_of};
+use determinize_core::start::{Start, start_kind_of};
 use determinize_engine::text::Text;
 use determinize_table::{ClassSpans, LastMatch, LazyStateId, TransitionTable};
 use std::alloc::Allocator;
@@ -70,35 +70,28 @@ pub(crate) enum Reached {
     Short(Option<CachedPosition>),
 }
 
-/// Returns the slot of a start after a byte, or after nothing.
+/// Returns the number of the slot in which the id of a start state is kept. `None` for any other
+/// NFA state than the two start states: its start is not kept.
 #[inline(always)]
-fn slot_after<N: Allocator>(nfa: &NFA<N>, is_anchored: bool, look_behind: Option<u8>) -> StartSlot
-    ensures { result ≡ slot_of is_anchored (start_kind_of nfa.now.terminator look_behind) }
-{
-    let terminator = nfa.look_matcher().get_line_terminator();
-    let kind = start_kind_of(terminator, look_behind);
-    StartSlot { is_anchored, kind }
-}
-
-/// Returns the slot in which the id of a start state is kept. `None` for any other NFA state than
-/// the two start states: its start is not kept.
-#[inline(always)]
-pub(crate) fn start_slot<N: Allocator>(
+pub(crate) fn start_number<N: Allocator>(
     nfa: &NFA<N>,
     start: StateID,
     look_behind: Option<u8>,
-) -> Option<StartSlot>
-    ensures { result ≡ start_slot nfa.now start look_behind }
+) -> Option<usize>
+    ensures value { result ≡ option_map slot_number (start_slot nfa.now start look_behind) }
+    ensures limit { IfSome result (λ number. number < COUNT) }
 {
-    // Each start has a separate branch: with `is_anchored` as a variable the compiler selects the
-    // slot without a jump, and a search of an empty text takes a cycle more.
-    if start == nfa.start_anchored() {
-        Some(slot_after(nfa, true, look_behind))
+    // Not by a `StartSlot`: from its `is_anchored` the compiler selects the number without a jump,
+    // or finds the kind of the start twice, and a short search takes longer.
+    let first = if start == nfa.start_anchored() {
+        0
     } else if start == nfa.start_unanchored() {
-        Some(slot_after(nfa, false, look_behind))
+        Start::COUNT
     } else {
-        None
-    }
+        return None;
+    };
+    let terminator = nfa.look_matcher().get_line_terminator();
+    Some(first + start_kind_of(terminator, look_behind).as_usize())
 }
 
 impl<'v, N: Allocator, A: Allocator + Copy> View<'v, N, A> {
@@ -125,8 +118,8 @@ impl<'v, N: Allocator, A: Allocator + Copy> View<'v, N, A> {
             (start_value self.now.nfa start look_behind).states }
         ensures sound { IsSound (cache self.now) }
     {
-        let slot = start_slot(self.nfa, start, look_behind)?;
-        self.table.start(slot)
+        let number = start_number(self.nfa, start, look_behind)?;
+        self.table.start(number)
     }
 
     /// Follows cached transitions over bytes of the text, up to a state at which the search ends.

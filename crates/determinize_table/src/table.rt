@@ -7,7 +7,7 @@ ghost use Rattle.std.specs.Option.{option_copied};
 ghost use Rattle.determinize_core.specs.Equality.{same};
 ghost use Rattle.determinize_core.specs.Value.{Value as StateValue};
 ghost use Rattle.determinize_engine.specs.States.{IsIndex};
-ghost use Rattle.determinize_start.specs.StartSlots.{slot_number};
+ghost use Rattle.determinize_start.specs.declared.start.TheConstants.StartSlot.{COUNT};
 ghost use Rattle.determinize_table.specs.Changes.{IsInterned, IsKept, IsWritten};
 ghost use Rattle.determinize_table.specs.Cursors.{IsCursor, IsIndexBefore, cursor_value};
 ghost use Rattle.determinize_table.specs.CacheBytes.{cache_bytes};
@@ -194,20 +194,21 @@ impl<A: Allocator + Copy> TransitionTable<A> {
         }
     }
 
-    /// Returns the start that is kept in a slot.
-    pub fn start(&self, slot: StartSlot) -> Option<LazyStateId>
-        ensures { result ≡ slice_index_or self.now.starts (slot_number slot) None }
+    /// Returns the start that is kept in the slot with this number.
+    pub fn start(&self, number: usize) -> Option<LazyStateId>
+        requires { number < COUNT }
+        ensures { result ≡ slice_index_or self.now.starts number None }
     {
-        self.starts[slot.as_usize()]
+        self.starts[number]
     }
 
-    /// Keeps the id of a start state in a slot.
-    pub fn set_start(&mut self, slot: StartSlot, id: LazyStateId)
-        ensures { self.new ≡ record self.old {
-          starts = slice_set self.old.starts (slot_number slot) (Some id);
-        } }
+    /// Keeps the id of a start state in the slot with this number.
+    pub fn set_start(&mut self, number: usize, id: LazyStateId)
+        requires { number < COUNT }
+        ensures { self.new
+            ≡ record self.old { starts = slice_set self.old.starts number (Some id) } }
     {
-        self.starts[slot.as_usize()] = Some(id);
+        self.starts[number] = Some(id);
     }
 
     /// Caches a state that is not cached, and returns its id.

@@ -1,12 +1,13 @@
 -- The kept starts: a start state depends only on the state of the NFA and the kind of start.
--- Main statements: starts-set, starts-stay.
--- Used by: `find_start`, and Rule.
+-- Main statements: start-kept, starts-set, starts-stay.
+-- Used by: `kept_start`, `find_start`, and Rule.
 -- Idea: a slot is that of one state and one kind, so it has one start state.
 use Rattle.determinize_lazy.proofs.Common.{ap, AreStarts, arith, by_cases, by_test, cond, get_or, List, nat_eq, Nfa}
-use Rattle.determinize_lazy.proofs.Common.{None, Option, refl, slice_get, slice_set, Some, start_slot, StartsStay}
-use Rattle.determinize_lazy.proofs.Common.{start_value, StoredTable, sym, ℕ, ◌∙◌, ◌≡◌, ◌⊎◌}
+use Rattle.determinize_lazy.proofs.Common.{None, Option, option_map, refl, slice_get, slice_set, Some, start_slot}
+use Rattle.determinize_lazy.proofs.Common.{start_value, StartsStay, StoredTable, sym, ℕ, ◌∙◌, ◌≡◌, ◌⊎◌}
 use Rattle.std.proofs.Common.{get_or-set_other, get_or-set_same}
 use Rattle.std.proofs.lemmas.List.{get_or_past, length-set}
+use Rattle.std.specs.Option.{IfSome}
 use Rattle.determinize_start.proofs.kinds.StartSlots.{one_slot}
 use Rattle.determinize_start.specs.LookTables.{from_word_at_start, half_crlf_at_start, have_at_start}
 use Rattle.determinize_start.specs.StartKinds.{start_kind_of}
@@ -40,14 +41,29 @@ module _ (nfa : Nfa) where
       let second = of_slot t q slot f in
       rw (first.start, second.start, ← first.kind, ← second.kind) refl
 
+  -- a number is that of a slot
+  slot_at : (o : Option StartSlot) (n : ℕ) → Some n ≡ option_map slot_number o
+      → (slot : StartSlot) × (o ≡ Some slot) × (n ≡ slot_number slot)
+  slot_at None n e = not_none e
+  slot_at (Some slot) n e = (slot, refl, of_some e)
+
+  -- the start that is kept at a number
+  pub start-kept : (t : StoredTable) (s : ℕ) (p : Option ℕ) (n : ℕ) (kept : Option ℕ) → AreStarts nfa t
+      → Some n ≡ option_map slot_number (start_slot nfa s p) → kept ≡ get_or t.starts n None
+      → IfSome kept (λ id. slice_get t.states id ≡ Some (start_value nfa s p))
+  start-kept t s p n None are at is = tt
+  start-kept t s p n (Some id) are at is =
+      let (slot, of, number) = slot_at (start_slot nfa s p) n at in are s p slot id of (rw number at (sym is))
+
   -- one more start is kept
-  pub starts-set : (t : StoredTable) (s : ℕ) (p : Option ℕ) (slot : StartSlot) (id : ℕ) → AreStarts nfa t
-      → start_slot nfa s p ≡ Some slot → slice_get t.states id ≡ Some (start_value nfa s p)
-      → AreStarts nfa (record t { starts = slice_set t.starts (slot_number slot) (Some id) })
-  starts-set t s p slot id are at here r q other k of kept =
-      by_cases (kept_set t.starts (slot_number slot) id (slot_number other) k kept)
+  pub starts-set : (t : StoredTable) (s : ℕ) (p : Option ℕ) (n id : ℕ) → AreStarts nfa t
+      → Some n ≡ option_map slot_number (start_slot nfa s p) → slice_get t.states id ≡ Some (start_value nfa s p)
+      → AreStarts nfa (record t { starts = slice_set t.starts n (Some id) })
+  starts-set t s p n id are at here r q other k of kept =
+      let (slot, from, is) = slot_at (start_slot nfa s p) n at in
+      by_cases (kept_set t.starts n id (slot_number other) k kept)
       (λ (same, k_is). rw (← k_is)
-      (here ∙ ap Some (one_start s r p q slot at (rw (one_slot other slot same) at of))))
+      (here ∙ ap Some (one_start s r p q slot from (rw (one_slot other slot (same ∙ is)) at of))))
       (λ before. are r q other k of before)
 
   -- the starts that are kept stay right

@@ -7,11 +7,12 @@ use Rattle.determinize_lazy.proofs.lazy.Lazy.find_start.Goals as goal
 pub invariant_of-self : goal.invariant_of-self
 invariant_of-self g c =
     let state_is = rw (← c.in_ok-state.ensures.unchanged, ← c.self.view_is) at c.in_ok-state.ensures.value in
-    let slot_is = rw c.nfa.ensures at (sym c.in-Some-start_slot.ensures) in rw c.set_start.ensures record {
+    let number_is = rw c.nfa.ensures at (sym c.in-Some-start_number.is ∙ c.start_number.ensures.value) in
+    rw c.set_start.ensures record {
       sound = c.self.invariant.sound;
       within = c.self.invariant.within;
       resolve = c.self.invariant.resolve;
-      starts = starts-set _ c.self.inside.table _ _ _ _ c.self.invariant.starts slot_is
+      starts = starts-set _ c.self.inside.table _ _ _ _ c.self.invariant.starts number_is
           (rw state_is at c.in-Some.ensures);
     }
 
