@@ -2,7 +2,7 @@
 
 ghost use Rattle.std.specs.Prelude.{◌≡◌, ◌++◌, ◌+◌, ◌-◌, ◌<◌, ◌≤◌, ◌∷◌, ◌⊎◌, ◌↔◌};
 ghost use Rattle.std.specs.Prelude.{ℕ, [], List, None, Some};
-ghost use Rattle.std.specs.Prelude.{cond, drop, length, take, IfOk, IsSome, OnErr, OnOk};
+ghost use Rattle.std.specs.Prelude.{cond, drop, length, take, true, IfOk, IsSome, OnErr, OnOk};
 ghost use Rattle.std.specs.List.{slice_range};
 ghost use Rattle.std.specs.Option.{IfNone, IfSome};
 ghost use Rattle.determinize_below.specs.Semantics.{Nfa};
@@ -11,7 +11,7 @@ ghost use Rattle.determinize_find.specs.Certain.{IsUnsettled};
 ghost use Rattle.determinize_find.specs.Idle.{IsIdle};
 ghost use Rattle.determinize_find.specs.LeftmostIn.{moved};
 ghost use Rattle.determinize_nfa.specs.Prefix.{HasPrefixApart};
-ghost use Rattle.determinize_find.specs.Private.Windows.{HasMoved, IsCertain, IsInside, IsPlaceOf};
+ghost use Rattle.determinize_find.specs.Private.Windows.{HasMoved, IsCertain, IsFresh, IsInside, IsPlaceOf};
 ghost use Rattle.determinize_find.specs.Private.Windows.{after_match, with_bytes, with_scan};
 ghost use Rattle.determinize_find.specs.Private.Windows.{without_first};
 ghost use Rattle.determinize_find.specs.Streams.{IsAdvance, IsFed, IsFeeding, IsFinished};
@@ -115,8 +115,8 @@ impl<A: Allocator + Copy> Pieces<A> {
         self.is_after_match.then_some(self.start)
     }
 
-    /// Keeps the next bytes of the text, which the search under way reads too. If that fails, none
-    /// is read.
+    /// Keeps the next bytes of the text, which the search under way reads too. After an error the
+    /// stream is unchanged.
     fn keep<N: Allocator, B: Engine<Error = AllocError>>(
         &mut self,
         regex: &mut Regex<Lazy<'_, N, A>, B>,
@@ -126,38 +126,54 @@ impl<A: Allocator + Copy> Pieces<A> {
             (self.new ≡ with_scan self.new.scan (with_bytes block.now self.old)) }
         ensures fed { OnOk result ((nfa : Nfa) (list : List Found)
             → IsFed nfa self.old self.new block.now list list) }
-        ensures failed { OnErr result (self.new ≡ with_scan None self.old) }
+        ensures failed { OnErr result (self.new ≡ self.old) }
         ensures searching { IsSearching regex.old.nfa self.old
             → IsSearching regex.old.nfa self.new }
         ensures same { regex.new ≡ regex.old }
     {
-        let scan = self.scan.take();
+        let before = self.kept.len();
         if self.bytes_read().checked_add(block.len()).is_none() {
             return Err(AllocError);
         }
-        let scan = regex.feed(scan, block)?;
         self.kept.extend_from_slice(block)?;
-        self.scan = scan;
+        if let Some(scan) = &mut self.scan {
+            match regex.feed(scan, block) {
+                Ok(()) => {}
+                Err(error) => {
+                    self.kept.truncate(before);
+                    return Err(error);
+                }
+            }
+        }
         Ok(())
     }
 
-    /// Returns the search of all kept bytes from the start on, which is then no longer under way.
+    /// Begins the search of all kept bytes from the start on, if none is under way.
     #[inline(always)]
-    fn take_scan<N: Allocator, B: Engine<Error = AllocError>>(
+    fn begin_scan<N: Allocator, B: Engine<Error = AllocError>>(
         &mut self,
         regex: &mut Regex<Lazy<'_, N, A>, B>,
-    ) -> Result<Scan<A>, AllocError>
-        ensures scan { IsSearching regex.old.nfa self.old
-            → IfOk result (λ scan. IsKeptScan regex.old.nfa self.new scan) }
-        ensures read { IfOk result
-            (λ scan. scan.read ≡ length self.new.kept - self.new.start) }
-        ensures taken { self.new ≡ with_scan None self.old }
+    ) -> Result<(), AllocError>
+        ensures begun { OnOk result (IsSome self.new.scan) }
+        ensures kept { IsSome self.old.scan → self.new ≡ self.old }
+        ensures value { self.new ≡ with_scan self.new.scan self.old }
+        ensures searching { IsSearching regex.old.nfa self.old
+            → IsSearching regex.old.nfa self.new }
         ensures same { regex.new ≡ regex.old }
     {
-        match self.scan.take() {
-            Some(scan) => Ok(scan),
-            None => regex.scan(self.kept.as_slice(), self.start),
+        if self.scan.is_none() {
+            let scan = regex.scan(self.kept.as_slice(), self.start)?;
+            self.scan = Some(scan);
         }
+        Ok(())
+    }
+
+    /// Ends the search under way.
+    #[inline(always)]
+    fn end_scan(&mut self)
+        ensures { self.new ≡ with_scan None self.old }
+    {
+        self.scan = None;
     }
 
     /// Returns a match in the kept bytes, as a match in the text.
@@ -173,67 +189,90 @@ impl<A: Allocator + Copy> Pieces<A> {
         }
     }
 
-    /// Drops the bytes that no search needs any more.
-    fn drop_passed(&mut self)
-        ensures { self.new ≡ without_first (self.old.start - 1) self.old }
+    /// Returns whether the search under way is idle (`Regex::is_idle`).
+    fn is_idle<N: Allocator, B: Engine<Error = AllocError>>(
+        &self,
+        regex: &Regex<Lazy<'_, N, A>, B>,
+    ) -> bool
+        ensures fresh { IsSearching regex.now.nfa self.now → result ≡ true
+            → IsFresh regex.now.nfa self.now.kept self.now.start }
+        ensures idle { IfSome self.now.scan (λ scan. HasPrefixApart regex.now.nfa
+            → IsIdle regex.now.nfa scan → self.now.start < length self.now.kept
+            → result ≡ true) }
+        ensures some { result ≡ true → self.now.start < length self.now.kept }
     {
-        let passed = self.start.saturating_sub(1);
-        remove_first(&mut self.kept, passed);
-        self.dropped += passed;
-        self.start -= passed;
+        match &self.scan {
+            Some(scan) => regex.is_idle(self.kept.as_slice(), self.start, scan),
+            None => false,
+        }
     }
 
-    /// Moves the start to the end of the kept bytes, if no match begins before. Returns the search
-    /// from the start on, of which no match is certain.
+    /// Begins a new search at the end of the kept bytes, if no match begins before. The search
+    /// under way has no match that is certain.
     fn skip_idle<N: Allocator, B: Engine<Error = AllocError>>(
         &mut self,
         regex: &mut Regex<Lazy<'_, N, A>, B>,
-        scan: Scan<A>,
-    ) -> Result<Scan<A>, AllocError>
-        requires none { self.old.scan ≡ None }
-        requires read { scan.read ≡ length self.old.kept - self.old.start }
-        ensures fed { IsKeptScan regex.old.nfa self.old scan → (list : List Found)
-            → IsFed regex.old.nfa self.old self.new [] list list }
-        ensures scan { IsKeptScan regex.old.nfa self.old scan
-            → IfOk result (λ rest. IsKeptScan regex.old.nfa self.new rest) }
-        ensures unsettled { IsUnsettled regex.old.nfa scan
-            → IfOk result (λ rest. IsUnsettled regex.old.nfa rest) }
-        ensures idle { IfOk result (λ rest. HasPrefixApart regex.old.nfa
-            → IsIdle regex.old.nfa rest → self.new.start ≡ count_kept self.new) }
-        ensures read { IfOk result
-            (λ rest. rest.read ≡ length self.new.kept - self.new.start) }
-        ensures taken { self.new.scan ≡ self.old.scan }
+    ) -> Result<(), AllocError>
+        ensures moved { IsSearching regex.old.nfa self.old
+            → HasMoved regex.old.nfa self.old self.new }
+        ensures unsettled { IfSome self.old.scan (IsUnsettled regex.old.nfa)
+            → IfSome self.new.scan (IsUnsettled regex.old.nfa) }
+        ensures idle { IfSome self.new.scan (λ scan. HasPrefixApart regex.old.nfa
+            → IsIdle regex.old.nfa scan → self.new.start ≡ count_kept self.new) }
+        ensures begun { IsSome self.old.scan → OnOk result (IsSome self.new.scan) }
         ensures left { left_in [] self.new ≤ left_in [] self.old }
         ensures same { regex.new ≡ regex.old }
     {
-        if !regex.is_idle(self.kept.as_slice(), self.start, &scan) {
-            return Ok(scan);
+        if !self.is_idle(regex) {
+            return Ok(());
         }
+        self.scan = None;
         self.start = self.kept.len();
         self.is_after_match = false;
-        regex.scan(self.kept.as_slice(), self.start)
+        self.begin_scan(regex)
     }
 
-    /// Keeps the search of the kept bytes under way, of which no match is certain, and drops the
-    /// bytes that it does not need.
+    /// Begins a new search where the one under way is idle, and drops the bytes that no search
+    /// needs any more. The search under way has no match that is certain.
     fn settle<N: Allocator, B: Engine<Error = AllocError>>(
         &mut self,
         regex: &mut Regex<Lazy<'_, N, A>, B>,
-        scan: Scan<A>,
     ) -> Result<(), AllocError>
-        requires none { self.old.scan ≡ None }
-        requires read { scan.read ≡ length self.old.kept - self.old.start }
-        ensures moved { IsKeptScan regex.old.nfa self.old scan
+        ensures moved { IsSearching regex.old.nfa self.old
             → HasMoved regex.old.nfa self.old self.new }
-        ensures few { IsKeptScan regex.old.nfa self.old scan → IsUnsettled regex.old.nfa scan
+        ensures few { IsSearching regex.old.nfa self.old → IsSome self.old.scan
+            → IfSome self.old.scan (IsUnsettled regex.old.nfa)
             → OnOk result (KeepsFew regex.old.nfa self.new) }
         ensures left { left_in [] self.new ≤ left_in [] self.old }
         ensures same { regex.new ≡ regex.old }
     {
-        let rest = self.skip_idle(regex, scan)?;
-        self.scan = Some(rest);
-        self.drop_passed();
+        self.skip_idle(regex)?;
+        let passed = self.start.saturating_sub(1);
+        remove_first(&mut self.kept, passed);
+        self.dropped += passed;
+        self.start -= passed;
         Ok(())
+    }
+
+    /// Returns the leftmost match of the kept bytes from the start on if it is certain by the
+    /// search under way, by indices into these bytes.
+    #[inline(always)]
+    fn certain_now<N: Allocator, B: Engine<Error = AllocError>>(
+        &self,
+        regex: &mut Regex<Lazy<'_, N, A>, B>,
+    ) -> Result<Option<Match>, AllocError>
+        ensures certain { IsSearching regex.old.nfa self.now → IfOk result (λ next. IfSome next
+            (λ m. IsCertain regex.old.nfa self.now.kept self.now.start m)) }
+        ensures unsettled { IsSearching regex.old.nfa self.now → IfOk result (λ next.
+            IfNone next (IfSome self.now.scan (IsUnsettled regex.old.nfa))) }
+        ensures inside { IfOk result (λ next. IfSome next
+            (λ m. IsInside (length self.now.kept) self.now.start m)) }
+        ensures same { regex.new ≡ regex.old }
+    {
+        match &self.scan {
+            Some(scan) => regex.certain(self.kept.as_slice(), self.start, scan),
+            None => Ok(None),
+        }
     }
 
     /// Returns the leftmost match of the kept bytes from the start on if it is certain, by indices
@@ -258,10 +297,12 @@ impl<A: Allocator + Copy> Pieces<A> {
         ensures left { left_in [] self.new ≤ left_in [] self.old }
         ensures same { regex.new ≡ regex.old }
     {
-        let scan = self.take_scan(regex)?;
-        let next = regex.certain(self.kept.as_slice(), self.start, &scan)?;
-        if next.is_none() {
-            self.settle(regex, scan)?;
+        self.begin_scan(regex)?;
+        let next = self.certain_now(regex)?;
+        if next.is_some() {
+            self.end_scan();
+        } else {
+            self.settle(regex)?;
         }
         Ok(next)
     }
@@ -433,7 +474,8 @@ impl<A: Allocator + Copy> Pieces<A> {
     /// Returns `AllocError` if an allocation fails, if a cache would need more than 16647160
     /// states, if the pieces have more than `usize::MAX` bytes together, or if the pieces before
     /// were fed through a `Regex` of another NFA and this is seen. The first bytes of the piece may
-    /// have been read (`bytes_read`), and matches added. To continue, feed the rest.
+    /// have been read (`bytes_read`), and matches added. To continue, feed the rest, through a
+    /// `Regex` of the NFA of the pieces before.
     pub fn feed<N: Allocator, B: Engine<Error = AllocError>, C: Allocator>(
         &mut self,
         regex: &mut Regex<Lazy<'_, N, A>, B>,

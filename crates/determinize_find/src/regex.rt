@@ -334,26 +334,16 @@ impl<'n, N: Allocator, A: Allocator + Copy, B: Engine<Error = AllocError>> Regex
             .scan_text(unanchored, behind, &haystack[start..])
     }
 
-    /// Returns such a search, if one is under way, after the next piece of the text.
-    pub(crate) fn feed(
-        &mut self,
-        scan: Option<Scan<A>>,
-        piece: &[u8],
-    ) -> Result<Option<Scan<A>>, AllocError>
-        ensures some { IsSome scan → IfOk result (λ new. IsSome new) }
+    /// Reads the next piece of the text of such a search. After an error the search is unchanged.
+    pub(crate) fn feed(&mut self, scan: &mut Scan<A>, piece: &[u8]) -> Result<(), AllocError>
         ensures fed { (behind : Option ℕ) (bytes : List ℕ)
-            → IfSome scan (λ s. IsEndScan self.old.nfa behind bytes s)
-            → IfOk result (λ new. IfSome new
-            (λ s. IsEndScan self.old.nfa behind (bytes ++ piece.now) s)) }
-        ensures read { (count : ℕ) → IfSome scan (λ s. s.read ≡ count) → IfOk result
-            (λ new. IfSome new (λ s. s.read ≡ count + length piece.now)) }
+            → IsEndScan self.old.nfa behind bytes scan.old
+            → OnOk result (IsEndScan self.old.nfa behind (bytes ++ piece.now) scan.new) }
+        ensures read { OnOk result (scan.new.read ≡ scan.old.read + length piece.now) }
+        ensures failed { OnErr result (scan.new ≡ scan.old) }
         ensures same { self.new ≡ self.old }
     {
-        let Some(mut scan) = scan else {
-            return Ok(None);
-        };
-        self.forward.feed(&mut scan, piece)?;
-        Ok(Some(scan))
+        self.forward.feed(scan, piece)
     }
 
     /// Returns the leftmost match of a haystack from an index on, if it is certain by `scan`, the

@@ -1,8 +1,9 @@
 //! Searches of a text that comes in pieces, as from a socket or a file.
 //!
 //! A [`Scan`] owns a copy of the state where it is and the last match so far, so that it does not
-//! depend on what the cache is used for between two pieces. For each piece `feed` looks up the id
-//! of that state in the cache, and copies the state at the end of the piece.
+//! depend on what the cache is used for between two pieces. For each piece `feed` finds that state
+//! in the cache, first at the id that it had at the end of the piece before, and copies the state
+//! at the end of this one.
 
 ghost use Rattle.std.specs.Prelude.{◌≡◌, ◌+◌, ◌++◌, ◌<◌, ◌≤◌, ℕ, [], List, Option, length, map, not, option_map, true, IfOk, OnErr, OnOk, None, Some};
 ghost use Rattle.std.specs.Option.{IfSome, option_or};
@@ -25,7 +26,7 @@ use crate::search::Position;
 use determinize_below::{HalfMatch, StateID};
 use determinize_core::state::State;
 use determinize_engine::text::Text;
-use determinize_table::Cursor;
+use determinize_table::{Cursor, LazyStateId};
 use std::alloc::{AllocError, Allocator, Global};
 use std::marker::Model;
 
@@ -36,6 +37,9 @@ use std::marker::Model;
 #[derive(Drop)]
 pub struct Scan<A: Allocator = Global> {
     state: State<A>,
+    /// The id of the state when the last piece was read, if it was cached then. The cache may have
+    /// been cleared since, or the next piece is read through another one.
+    id: Option<LazyStateId>,
     last: Option<HalfMatch>,
     read: usize,
 }
@@ -122,6 +126,7 @@ impl<'n, N: Allocator, A: Allocator + Copy> Lazy<'n, N, A> {
         let state = self.start_state(start, look_behind)?;
         Ok(Scan {
             state,
+            id: None,
             last: None,
             read: 0,
         })
@@ -170,9 +175,11 @@ impl<'n, N: Allocator, A: Allocator + Copy> Lazy<'n, N, A> {
         let text = Text::new(None, piece, None);
         let at = self.search_bytes(Position::start(start), &text, false)?;
         let last = self.found(&at);
+        let id = at.cursor.id();
         let state = self.table.into_state(at.cursor)?;
         Ok(Scan {
             state,
+            id,
             last,
             read: piece.len(),
         })
@@ -202,10 +209,11 @@ impl<'n, N: Allocator, A: Allocator + Copy> Lazy<'n, N, A> {
         let Some(read) = scan.read.checked_add(piece.len()) else {
             return Err(AllocError);
         };
-        let start = self.cursor_of(&scan.state, None)?;
+        let start = self.cursor_of(&scan.state, scan.id)?;
         let rest = self.read_piece(start, piece)?;
         scan.last = or_later(scan.last, scan.read, rest.last);
         scan.state = rest.state;
+        scan.id = rest.id;
         scan.read = read;
         Ok(())
     }
@@ -232,7 +240,7 @@ impl<'n, N: Allocator, A: Allocator + Copy> Lazy<'n, N, A> {
             (units_last (cache self.old) scan.now.state look_ahead) (cache self.new)) }
         ensures grows { Grows (cache self.old) (cache self.new) }
     {
-        let start = self.cursor_of(&scan.state, None)?;
+        let start = self.cursor_of(&scan.state, scan.id)?;
         let text = Text::new(None, &[], look_ahead);
         let found = self.search_from(Position::start(start), &text, false)?;
         Ok(or_later(scan.last, scan.read, found))

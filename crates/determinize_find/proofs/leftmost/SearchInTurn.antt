@@ -9,7 +9,7 @@ use Rattle.determinize_find.proofs.Common.{each_run_moves, each_run_reads_forwar
 use Rattle.determinize_find.proofs.Common.{IsLeftmost, IsLeftmostIn, IsLeftmostMatch, IsSearchResult, latest, le-ltb}
 use Rattle.determinize_find.proofs.Common.{LeftmostFirst, length, length-drop, List, lt-ltb, ltb-false, ltb-true, Match}
 use Rattle.determinize_find.proofs.Common.{moved, nat_tests, Nfa, no_run_leaves_the_text, None, none-some, NothingFrom}
-use Rattle.determinize_find.proofs.Common.{Option, option_map, preferred, refl, since, slice_get, slice_get-drop}
+use Rattle.determinize_find.proofs.Common.{Option, option_map, refl, since, slice_get, slice_get-drop}
 use Rattle.determinize_find.proofs.Common.{slice_get-take, slice_range, Some, some_injective, suc, sym, Text, text_of}
 use Rattle.determinize_find.proofs.Common.{Yes, zero, ℕ, ◌+◌, ◌-◌, ◌<◌, ◌≡◌, ◌≤◌}
 use Rattle.determinize_find.specs.Private.BestAt.{from_index, IsBestFrom, IsBestIn}

@@ -1,18 +1,19 @@
 -- How far a search for the next match moves in a text, and what `Pieces` keeps.
--- Main statements: moved_none, moved_on, settled, few_kept, skipped, advanced, in_block, read_more, all_read.
+-- Main statements: moved_none, moved_nowhere, moved_begun, moved_on, settled, few_kept, skipped, advanced, in_block, read_more, all_read.
 -- Used by: the calls of `Pieces` that search or read.
 -- Idea: moves that read nothing and find nothing are chained; then a match is found, or bytes are read. What was so at
 -- the end of a block stays so, as more blocks are read.
 use Rattle.determinize_find.proofs.Common.{add-one, ap, append-nil, append_assoc, arith, by_cases, cases_lt}
 use Rattle.determinize_find.proofs.Common.{drop-append-le, drop-drop, drop_all, end_before, false, false≢true, HasMoved}
-use Rattle.determinize_find.proofs.Common.{HasPrefixApart, IfOk-weaker, IfSome, inl, inr, is_capture, is_touching}
+use Rattle.determinize_find.proofs.Common.{HasPrefixApart, IfOk-weaker, IfSome, IfSome_then, inl, inr, is_capture, is_touching}
 use Rattle.determinize_find.proofs.Common.{IsAdvance, IsCertain, IsEndScan, IsFed, IsFoundInBlock, IsFrontFed, IsIdle}
-use Rattle.determinize_find.proofs.Common.{IsKeptScan, IsSearching, IsUnsettled, KeepsFew, KeptFewAt, KeptFewInBlocks}
+use Rattle.determinize_find.proofs.Common.{IsSearching, IsUnsettled, KeepsFew, KeptFewAt, KeptFewInBlocks}
 use Rattle.determinize_find.proofs.Common.{length, length-append, length-drop, List, Match, min, Nfa, nil_from_length}
 use Rattle.determinize_find.proofs.Common.{None, on_err_weaker, Option, option_to_list, pattern_in, pattern_of, reach}
 use Rattle.determinize_find.proofs.Common.{refl, Result, Scanned, Some, Streamed, take-append-le, take_all}
 use Rattle.determinize_find.proofs.Common.{tests_capture, true, with_scan, without_first, [], ℕ, ◌*◌, ◌++◌, ◌+◌, ◌-◌}
 use Rattle.determinize_find.proofs.Common.{◌<◌, ◌∙◌, ◌≡◌, ◌≤◌, ◌⊎◌}
+use Rattle.std.specs.Prelude.{IsSome}
 use Rattle.determinize_find.specs.Private.Windows.{IsWindow}
 use Rattle.determinize_find.proofs.streams.Rests.{byte_before-drop}
 use Rattle.determinize_find.proofs.streams.Steps.{after_byte, fed_dropped, fed_scan, fed_skipped, joined, joined_none}
@@ -26,33 +27,44 @@ pub moved_on : {nfa : Nfa} {old now new : Streamed} → HasMoved nfa old now →
     → HasMoved nfa old new
 moved_on a b = record { fed = λ list. joined_none (a.fed list) (b.fed list); searching = b.searching }
 
--- a search that is kept under way, after the bytes that it does not need are dropped
-module _ {nfa : Nfa} (now : Streamed) {new : Streamed} {scan : Scanned} (within : now.start ≤ length now.kept)
-    (e : new ≡ without_first (now.start - 1) (with_scan (Some scan) now)) (is : IsKeptScan nfa now scan) where
-  searching_after : IsSearching nfa (without_first (now.start - 1) (with_scan (Some scan) now))
+-- where nothing changed
+pub moved_nowhere : {nfa : Nfa} {s : Streamed} → IsSearching nfa s → HasMoved nfa s s
+moved_nowhere {nfa} {s} searching = record { fed = fed_scan nfa s s.scan; searching = searching }
+
+-- where a search was begun
+pub moved_begun : {nfa : Nfa} {old new : Streamed} → new ≡ with_scan new.scan old → IsSearching nfa new
+    → HasMoved nfa old new
+moved_begun {nfa} {old} {new} e searching = record { fed = λ list. rw e (fed_scan nfa old new.scan list); searching = searching }
+
+-- after the bytes that the search under way does not need are dropped
+module _ (nfa : Nfa) (now : Streamed) {new : Streamed} (within : now.start ≤ length now.kept)
+    (e : new ≡ without_first (now.start - 1) now) (searching : IsSearching nfa now) where
+  searching_after : IsSearching nfa (without_first (now.start - 1) now)
   searching_after =
-      let sum : now.start - 1 + (now.start - (now.start - 1)) ≡ now.start = omega arith in rw (
+      let sum : now.start - 1 + (now.start - (now.start - 1)) ≡ now.start = omega arith in
+      IfSome_then now.scan searching (λ scan is. rw (
         byte_before-drop (now.start - 1) (now.start - (now.start - 1)) now.kept (λ z. omega arith),
         drop-drop (now.start - (now.start - 1)) (now.start - 1) now.kept,
         sum,
-      ) is
+      ) is)
 
   pub settled : {old : Streamed} → ((list : List Match) → IsFed nfa old now [] list list) → HasMoved nfa old new
   settled fed = rw e record {
-    fed = λ list. joined_none (fed list) (fed_dropped nfa now (Some scan) (now.start - 1) list (omega arith) within);
+    fed = λ list. joined_none (fed list) (fed_dropped nfa now now.scan (now.start - 1) list (omega arith) within);
     searching = searching_after;
   }
 
   -- few bytes are kept
-  pub few_kept : IsUnsettled nfa scan → (HasPrefixApart nfa → IsIdle nfa scan → now.start ≡ length now.kept)
-      → KeepsFew nfa new
-  few_kept unsettled idle = rw e record {
+  pub few_kept : (scan : Option Scanned) → now.scan ≡ scan → IsSome scan → IfSome scan (IsUnsettled nfa)
+      → IfSome scan (λ s. HasPrefixApart nfa → IsIdle nfa s → now.start ≡ length now.kept) → KeepsFew nfa new
+  few_kept None is some unsettled idle = absurd (false≢true some)
+  few_kept (Some scan) is some unsettled idle = rw e record {
     scan = scan;
-    search = refl;
+    search = is;
     searching = searching_after;
     unsettled = unsettled;
     behind = omega arith;
-    idle = λ apart is. omega (arith, length-drop (now.start - 1) now.kept, idle apart is);
+    idle = λ apart i. omega (arith, length-drop (now.start - 1) now.kept, idle apart i);
   }
 
 -- a move past an empty match where the one before ended

@@ -6,7 +6,7 @@
 use Rattle.determinize_find.proofs.Common.{arith, between, by_cases, byte_before, cases_lt, drop, drop-drop}
 use Rattle.determinize_find.proofs.Common.{each_run_moves, false, from, HasPrefix, is_done, IsLeftmost, IsLeftmostIn}
 use Rattle.determinize_find.proofs.Common.{le-ltb, length, length-drop, List, Match, moved, nat_lt, Nfa, None, Option}
-use Rattle.determinize_find.proofs.Common.{option_map, preferred, refl, since, slice_get-drop, slice_get_past, Some}
+use Rattle.determinize_find.proofs.Common.{option_map, refl, since, slice_get-drop, slice_get_past, Some}
 use Rattle.determinize_find.proofs.Common.{suc, sym, take_rest, Text, text_of, whole, zero, ℕ, ◌++◌, ◌+◌, ◌-◌, ◌∙◌, ◌≡◌}
 use Rattle.determinize_find.proofs.Common.{◌≤◌}
 use Rattle.determinize_find.proofs.streams.Cuts.{slice_get-append}

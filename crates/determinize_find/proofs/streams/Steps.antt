@@ -143,11 +143,12 @@ not_touching : (b : Bool) (at : ℕ) (m : Match) → at < m.start → touches (c
 not_touching b at m l = grind arith
 
 -- the start is at the end of the kept bytes
-pub fed_later : (nfa : Nfa) (s : Streamed) (list : List Match) → IsWindow s.kept s.dropped s.start s.scan
-    → IsFresh nfa s.kept s.start → IsFed nfa s (record s { start = length s.kept; is_after = false }) [] list list
-fed_later nfa s list window fresh =
+pub fed_later : (nfa : Nfa) (s : Streamed) (scan : Option Scanned) (list : List Match)
+    → IsWindow s.kept s.dropped s.start s.scan → IsFresh nfa s.kept s.start
+    → IsFed nfa s (record s { start = length s.kept; is_after = false; scan = scan }) [] list list
+fed_later nfa s scan list window fresh =
     let sum : place s + (length s.kept - s.start) ≡ s.dropped + length s.kept = omega (arith, fresh.some) in
-    rw append-nil at (moved_start nfa s (length s.kept) false s.scan [] (λ bytes given is more small.
+    rw append-nil at (moved_start nfa s (length s.kept) false scan [] (λ bytes given is more small.
     let none : NothingBefore nfa (text_of false (from (whole (bytes ++ more)) (place s))) (length s.kept - s.start)
     = rw (
       text-whole (bytes ++ more) (place s),

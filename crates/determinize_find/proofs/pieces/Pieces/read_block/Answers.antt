@@ -1,14 +1,15 @@
-use Rattle.determinize_find.proofs.Common.{append-nil, moved, None, of_err, refl, rules, [], ◌++◌, ◌∙◌, ◌∷◌, ◌≡◌}
-use Rattle.determinize_find.proofs.streams.Kept.{moved_none}
+use Rattle.determinize_find.proofs.Common.{append-nil, HasMoved, moved, None, of_err, refl, rules, [], ◌++◌, ◌∙◌, ◌∷◌, ◌≡◌}
+use Rattle.determinize_find.proofs.streams.Kept.{moved_nowhere}
 use Rattle.determinize_find.proofs.streams.Steps.{front_fed, joined_none}
 use Rattle.determinize_find.proofs.pieces.Pieces.read_block.Goals as goal
 
 pub returns-in_err-keep-clause-read : goal.returns-in_err-keep-clause-read
 returns-in_err-keep-clause-read g c searching =
-    let none = (moved_none c.in_err-keep.ensures.failed).fed c.args.found.now.items in record {
+    let move : HasMoved c.args.regex.now.nfa c.args.self.now c.keep.new.self
+    = rw c.in_err-keep.ensures.failed (moved_nowhere searching) in record {
       fed = search rules;
-      failed = of_err _ (front_fed c.args.block.now refl none);
-      searching = c.in_err-keep.ensures.searching searching;
+      failed = of_err _ (front_fed c.args.block.now refl (move.fed c.args.found.now.items));
+      searching = move.searching;
     }
 
 pub loop-next-init : goal.loop-next-init
