@@ -4,12 +4,11 @@
 //! [`job`] parses a job, [`verbs`] runs it through public calls and writes its output, and
 //! [`replay`] compares that with the expected lines. [`run`] is the program `determinize_bench`
 //! over any reader and writers. [`outputs`] has the outputs of the example walks, worked out by
-//! hand. [`failing_alloc`] is for tests: an allocator that fails chosen allocations.
+//! hand.
 #![tactic(auto)]
 
 pub mod caches;
 pub mod error;
-pub mod failing_alloc;
 pub mod job;
 pub mod outputs;
 pub mod records;

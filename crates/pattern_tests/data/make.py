@@ -1,7 +1,7 @@
 #!/usr/bin/env python3
-"""make.py TESTS PEER: writes the jobs (../stdin) to standard output. TESTS is the folder tests/ of regex 1.7.1, PEER
-the program of peer.rs. Standard error names what was left out, and counts the jobs, texts and matches of each group.
-See README.md."""
+"""make.py TESTS PEER: writes the jobs, the first lines of ../stdin, to standard output. TESTS is the folder tests/ of
+regex 1.7.1, PEER the program of peer.rs. Standard error names what was left out, and counts the jobs, texts and matches
+of each group. See README.md."""
 import pathlib
 import random
 import re

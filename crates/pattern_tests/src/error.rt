@@ -51,7 +51,7 @@ pub enum ReplayError {
     Unreadable,
     /// The line with this number, starting from 1, belongs to no job.
     NoJob(u64),
-    /// This part of the job at this line is malformed.
+    /// This part of the job or the row at this line is malformed.
     Malformed(u64, &'static str),
     /// An allocation failed.
     OutOfMemory,
@@ -92,7 +92,7 @@ impl fmt::Display for ReplayError {
         match self {
             ReplayError::Unreadable => f.write_str("a line can't be read"),
             ReplayError::NoJob(line) => write!(f, "line {line}: no job before it"),
-            ReplayError::Malformed(line, part) => write!(f, "job at line {line}: not {part}"),
+            ReplayError::Malformed(line, part) => write!(f, "line {line}: not {part}"),
             ReplayError::OutOfMemory => f.write_str("out of memory"),
             ReplayError::Output => f.write_str("the output can't be written"),
         }

@@ -1,9 +1,9 @@
-//! Takes the lines of the input one by one, and judges each job when its last line is known.
-
-ghost use Rattle.std.specs.Prelude.{◌≡◌, ◌≤◌};
+//! Takes the lines of the input one by one. Judges each row of a pattern string, and each job when
+//! its last line is known.
 
 use crate::error::ReplayError;
 use crate::judge::{Judged, judge};
+use crate::strings;
 use std::alloc::{AllocError, Global};
 use std::fmt;
 use std::io::Write;
@@ -22,11 +22,9 @@ pub struct Tally {
 }
 
 impl Tally {
-    /// Returns the exit status of the counts: 0 if no job differs, otherwise 1.
-    pub fn status(self) -> u8
-        ensures { result ≤ 1 }
-    {
-        if self.differ == 0 { 0 } else { 1 }
+    /// Returns whether no job differs.
+    pub fn agree(self) -> bool {
+        self.differ == 0
     }
 }
 
@@ -82,6 +80,7 @@ pub struct Replay {
     line: u64,
     job: Option<Pending>,
     tally: Tally,
+    strings: strings::Tally,
 }
 
 impl Replay {
@@ -97,11 +96,12 @@ impl Replay {
                 matches: 0,
                 differ: 0,
             },
+            strings: strings::Tally::new(),
         }
     }
 
     /// Takes one more line: the first one of a job, the expected text of a pattern of the job, a
-    /// text that is searched, or a comment.
+    /// text that is searched, the row of a pattern string, which has a tab, or a comment.
     ///
     /// The first line of a job ends the job before, which is judged then: what differs is written
     /// to `out`.
@@ -109,6 +109,9 @@ impl Replay {
         self.line = self.line.saturating_add(1);
         if text.starts_with('#') {
             return Ok(());
+        }
+        if text.contains('\t') {
+            return strings::judge(self.alloc, self.line, text, &mut self.strings, out);
         }
         if let Some(head) = text.strip_prefix("> ") {
             self.judge(out)?;
@@ -121,10 +124,13 @@ impl Replay {
         }
     }
 
-    /// Judges the last job and returns the counts.
-    pub fn finish<W: Write>(&mut self, out: &mut W) -> Result<Tally, ReplayError> {
+    /// Judges the last job, and returns the counts of the jobs and of the rows.
+    pub fn finish<W: Write>(
+        &mut self,
+        out: &mut W,
+    ) -> Result<(Tally, strings::Tally), ReplayError> {
         self.judge(out)?;
-        Ok(self.tally)
+        Ok((self.tally, self.strings))
     }
 
     /// Judges the current job, if there is one, and clears it.

@@ -23,12 +23,12 @@ use determinize_below::{Anchored, HalfMatch, Input, MatchKind, NFA};
 use determinize_core::determinize::{last_match, walk, walk_between};
 use determinize_core::state::State;
 use determinize_lazy::Lazy;
-use determinize_replay::failing_alloc::{FailingAllocator, Outcome, fail_each_allocation};
 use determinize_replay::outputs::output_of;
 use example_walks::error::TextError;
 use example_walks::examples::{Example, examples};
 use example_walks::fields::Fields;
 use example_walks::values::bytes;
+use failing_alloc::{FailingAllocator, Outcome, fail_each_allocation};
 use std::alloc::{AllocError, Allocator, Global};
 use std::process::Abort;
 

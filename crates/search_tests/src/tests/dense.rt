@@ -9,13 +9,13 @@ use determinize_below::{Anchored, Input, LookMatcher, MatchKind, NFA, PatternID,
 use determinize_core::state::State;
 use determinize_dense::{Dfa, DfaError};
 use determinize_lazy::Lazy;
-use determinize_replay::failing_alloc::FailingAllocator;
 use determinize_replay::outputs::output_of;
 use determinize_uses::dfa::smallest;
 use example_walks::examples::examples;
 use example_walks::fields::Fields;
 use example_walks::values::LastMatch;
 use example_walks::{states, walk};
+use failing_alloc::FailingAllocator;
 use std::alloc::{AllocError, Allocator, Global};
 use std::process::Abort;
 

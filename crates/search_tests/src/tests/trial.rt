@@ -2,7 +2,7 @@
 
 use crate::tests::{dense, find, same, uses};
 use determinize_below::BuildError;
-use determinize_replay::failing_alloc::{FailingAllocator, Outcome, fail_each_allocation};
+use failing_alloc::{FailingAllocator, Outcome, fail_each_allocation};
 use std::alloc::{AllocError, Allocator, Global};
 use std::process::Abort;
 

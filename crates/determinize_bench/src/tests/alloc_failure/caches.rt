@@ -6,7 +6,7 @@ use crate::tests::caches::{nfa, start_of};
 use crate::tests::{holds, same, same_if_ok};
 use determinize_below::{MatchKind, NFA};
 use determinize_lazy::{Lazy, Scan, Walker};
-use determinize_replay::failing_alloc::FailingAllocator;
+use failing_alloc::FailingAllocator;
 use std::alloc::{AllocError, Allocator, Global};
 use std::process::Abort;
 

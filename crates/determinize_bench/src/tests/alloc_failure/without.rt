@@ -14,7 +14,7 @@ use determinize_core::determinize::{epsilon_closure, set_lookbehind_from_start};
 use determinize_core::start::Config;
 use determinize_core::state::{State, StateBuilderEmpty, StateBuilderMatches, StateBuilderNFA};
 use determinize_lazy::Lazy;
-use determinize_replay::failing_alloc::FailingAllocator;
+use failing_alloc::FailingAllocator;
 use std::alloc::{Allocator, Global};
 use std::process::Abort;
 

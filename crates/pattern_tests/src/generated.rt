@@ -1,10 +1,10 @@
-//! Texts that are made here: random ones, and long ones of a megabyte.
+//! Pattern strings that are made here: random ones, and long ones of a megabyte.
 
-use crate::answer::{RowError, answer, answer_again};
+use crate::error::ReplayError;
+use crate::strings::{answer, answer_again};
 use determinize_syntax::parse;
 use std::alloc::{AllocError, Global};
 use std::fmt;
-use std::io::Write;
 
 /// The characters of random texts. Most of them have a meaning in a pattern.
 const CHARACTERS: &str = "aab019-,^$.*+?|()()()[]{}\\:<>=!PimsRUxuwdbn&~ é";
@@ -93,7 +93,7 @@ fn draw(state: &mut u64, limit: u64) -> u64 {
 }
 
 /// Replaces a text by a random one of at most 40 characters.
-fn make_random(state: &mut u64, text: &mut String) -> Result<(), RowError> {
+fn make_random(state: &mut u64, text: &mut String) -> Result<(), ReplayError> {
     text.clear();
     let count = CHARACTERS.chars().count() as u64;
     for _ in 0..draw(state, 41) {
@@ -107,7 +107,7 @@ fn make_random(state: &mut u64, text: &mut String) -> Result<(), RowError> {
 
 /// Parses random texts. If one is a pattern, then the text that `Display` writes of it must be read
 /// as the same pattern.
-fn parse_random(alloc: Global, counts: &mut Counts) -> Result<(), RowError> {
+fn parse_random(alloc: Global, counts: &mut Counts) -> Result<(), ReplayError> {
     let mut state = 1;
     let mut text = String::new(alloc);
     for _ in 0..RANDOM {
@@ -121,7 +121,7 @@ fn parse_random(alloc: Global, counts: &mut Counts) -> Result<(), RowError> {
 }
 
 /// Returns whether the text that `Display` writes of the pattern of a text is read as the text is.
-fn is_read_again(alloc: Global, text: &str) -> Result<bool, RowError> {
+fn is_read_again(alloc: Global, text: &str) -> Result<bool, ReplayError> {
     let read = answer(alloc, text)?;
     let again = answer_again(alloc, text)?;
     Ok(read == again)
@@ -144,7 +144,7 @@ fn add_repeated(text: &mut String, repeated: &str) -> Result<(), AllocError> {
 }
 
 /// Parses a long text, and returns whether it is read as expected.
-fn is_read(alloc: Global, text: &str, expected: &str) -> Result<bool, RowError> {
+fn is_read(alloc: Global, text: &str, expected: &str) -> Result<bool, ReplayError> {
     match parse(alloc, text) {
         Ok(_) => Ok(expected.is_empty()),
         Err(_) => Ok(answer(alloc, text)?.as_str() == expected),
@@ -152,7 +152,7 @@ fn is_read(alloc: Global, text: &str, expected: &str) -> Result<bool, RowError> 
 }
 
 /// Returns brackets of characters that are all different, no two of them neighbours, of a megabyte.
-fn make_brackets(alloc: Global) -> Result<String, RowError> {
+fn make_brackets(alloc: Global) -> Result<String, ReplayError> {
     let mut text = String::new(alloc);
     text.push_str("(?u)[")?;
     for i in 0..LONG as u32 / 4 {
@@ -165,7 +165,7 @@ fn make_brackets(alloc: Global) -> Result<String, RowError> {
 }
 
 /// Parses long texts.
-fn parse_long(alloc: Global, counts: &mut Counts) -> Result<(), RowError> {
+fn parse_long(alloc: Global, counts: &mut Counts) -> Result<(), ReplayError> {
     for (first, repeated, expected) in long_texts() {
         let text = long_text(alloc, first, repeated)?;
         counts.count_long(is_read(alloc, &text, expected)?);
@@ -175,11 +175,10 @@ fn parse_long(alloc: Global, counts: &mut Counts) -> Result<(), RowError> {
     Ok(())
 }
 
-/// Parses all texts that are made here, and writes the counts.
-pub fn parse_generated<W: Write>(alloc: Global, out: &mut W) -> Result<Counts, RowError> {
+/// Parses all texts that are made here, and returns the counts.
+pub fn parse_generated(alloc: Global) -> Result<Counts, ReplayError> {
     let mut counts = Counts::default();
     parse_random(alloc, &mut counts)?;
     parse_long(alloc, &mut counts)?;
-    writeln!(out, "{counts}")?;
     Ok(counts)
 }

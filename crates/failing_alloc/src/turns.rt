@@ -1,6 +1,6 @@
 //! Runs in which each allocation fails in turn.
 
-use crate::failing_alloc::FailingAllocator;
+use crate::FailingAllocator;
 use std::alloc::Allocator;
 
 /// The limit on the number of runs, more than any test makes.

@@ -31,14 +31,14 @@ use denote.Triple.Statement.{Triple}
 use denote.Triple.Table.{framed}
 use denote.Triple.Walked.{Stays, stay_dropped, walk_of, ends_at, Goes-dropped}
 use Rattle.std.proofs.alloc.Calls.{Al, seen, token, gives_key, Gives, at_gives, Gives-goes, Gives-Gives}
-use Rattle.determinize_replay.proofs.FailingCalls.{given, number, self, Whole, inner_at, gate_at, both_fields, Backs, at_backs, Backs-goes, Backs-gives}
-use Rattle.determinize_replay.proofs.failing_alloc.Gate.take_back.Symbol as noted
-use Rattle.determinize_replay.proofs.failing_alloc.Gate.take_back.Met as noted_met
-use Rattle.determinize_replay.specs.contracts.failing_alloc.Gate as gate
-use Rattle.determinize_replay.specs.contracts.failing_alloc.FailingAllocatorAllocator.deallocate as f
-use Rattle.determinize_replay.specs.contracts.failing_alloc.FailingAllocatorAllocator.deallocate.Key as key
-use Rattle.determinize_replay.proofs.failing_alloc.FailingAllocatorAllocator.deallocate.Statement.{statement}
-use Rattle.determinize_replay.proofs.failing_alloc.FailingAllocatorAllocator.deallocate.Code as code
+use Rattle.failing_alloc.proofs.FailingCalls.{given, number, self, Whole, inner_at, gate_at, both_fields, Backs, at_backs, Backs-goes, Backs-gives}
+use Rattle.failing_alloc.proofs.Gate.take_back.Symbol as noted
+use Rattle.failing_alloc.proofs.Gate.take_back.Met as noted_met
+use Rattle.failing_alloc.specs.contracts.Gate as gate
+use Rattle.failing_alloc.specs.contracts.FailingAllocatorAllocator.deallocate as f
+use Rattle.failing_alloc.specs.contracts.FailingAllocatorAllocator.deallocate.Key as key
+use Rattle.failing_alloc.proofs.FailingAllocatorAllocator.deallocate.Statement.{statement}
+use Rattle.failing_alloc.proofs.FailingAllocatorAllocator.deallocate.Code as code
 
 abbrev pointer : Slot 2
 pointer = plain (λ _. RawPtr)
@@ -149,5 +149,5 @@ deallocate_spec 𝓤 𝓛 𝓜 𝓡 wired row laws g d drops met _ =
     (λ κs. (shr_vals, (rawptr_vals, (uint_vals w64, (uint_vals w64, tt)))))
     (λ κs. ((λ r vs s. s.0), (rawptr_Tells, (uint_Tells w64, (uint_Tells w64, tt)))))
     (λ κs qs bounds a τ are. walk Z 𝓛 𝓜 𝓡 (met.deallocate drops)
-    (noted_met.met 𝓤 𝓛 𝓜 𝓡 (code.calls-determinize_replay::failing_alloc::Gate::take_back 𝓡.env wired)) κs.0 κs.1.0 qs.0 qs.1.0 bounds.0
+    (noted_met.met 𝓤 𝓛 𝓜 𝓡 (code.calls-failing_alloc::Gate::take_back 𝓡.env wired)) κs.0 κs.1.0 qs.0 qs.1.0 bounds.0
     a.0 a.1.1.0 a.1.1.1.0 τ are.1.1.0.1 are.1.1.1.0.1 a.1.0)

@@ -3,10 +3,11 @@
 //! [`FailingAllocator`] wraps another allocator. It fails requests by their number, and counts the
 //! requests and the blocks that have not been freed. [`fail_each_allocation`] repeats a run with it
 //! until every allocation has failed once.
+#![tactic(auto)]
 
 pub mod turns;
 
-pub use crate::failing_alloc::turns::{Outcome, fail_each_allocation};
+pub use crate::turns::{Outcome, fail_each_allocation};
 use std::alloc::{AllocError, Allocator};
 use std::cell::Cell;
 

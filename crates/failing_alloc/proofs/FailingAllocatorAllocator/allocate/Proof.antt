@@ -34,14 +34,14 @@ use denote.Triple.Table.{framed}
 use denote.Triple.Walked.{Stays, stay_dropped, walk_of, ends_at, Goes-dropped}
 use Rattle.std.proofs.VecSteps.Shapes.{after}
 use Rattle.std.proofs.alloc.Calls.{Al, seen, token, Answer, answer_val, Answer-typed, Answer-Ok, Answer-err, takes_key, Takes, at_takes, Answered, Takes-goes, Takes-gives, answers}
-use Rattle.determinize_replay.proofs.FailingCalls.{given, number, self, Whole, inner_at, gate_at, both_fields, Asks, at_asks, Asks-goes, Asks-gives}
-use Rattle.determinize_replay.proofs.failing_alloc.Gate.fails.Symbol as asked
-use Rattle.determinize_replay.proofs.failing_alloc.Gate.fails.Met as asked_met
-use Rattle.determinize_replay.specs.contracts.failing_alloc.Gate as gate
-use Rattle.determinize_replay.specs.contracts.failing_alloc.FailingAllocatorAllocator.allocate as f
-use Rattle.determinize_replay.specs.contracts.failing_alloc.FailingAllocatorAllocator.allocate.Key as key
-use Rattle.determinize_replay.proofs.failing_alloc.FailingAllocatorAllocator.allocate.Statement.{statement}
-use Rattle.determinize_replay.proofs.failing_alloc.FailingAllocatorAllocator.allocate.Code as code
+use Rattle.failing_alloc.proofs.FailingCalls.{given, number, self, Whole, inner_at, gate_at, both_fields, Asks, at_asks, Asks-goes, Asks-gives}
+use Rattle.failing_alloc.proofs.Gate.fails.Symbol as asked
+use Rattle.failing_alloc.proofs.Gate.fails.Met as asked_met
+use Rattle.failing_alloc.specs.contracts.Gate as gate
+use Rattle.failing_alloc.specs.contracts.FailingAllocatorAllocator.allocate as f
+use Rattle.failing_alloc.specs.contracts.FailingAllocatorAllocator.allocate.Key as key
+use Rattle.failing_alloc.proofs.FailingAllocatorAllocator.allocate.Statement.{statement}
+use Rattle.failing_alloc.proofs.FailingAllocatorAllocator.allocate.Code as code
 
 module _ (Z : Al) where
   abbrev here : Fn
@@ -155,5 +155,5 @@ allocate_spec 𝓤 𝓛 𝓜 𝓡 wired row laws g d drops met _ =
     (λ κs. (shr_vals, (uint_vals w64, (uint_vals w64, tt))))
     (λ κs. ((λ r vs s. s.0), (uint_Tells w64, (uint_Tells w64, tt))))
     (λ κs qs bounds a τ are. walk Z 𝓛 𝓜 𝓡 (met.allocate drops)
-    (asked_met.met 𝓤 𝓛 𝓜 𝓡 (code.calls-determinize_replay::failing_alloc::Gate::fails 𝓡.env wired)) κs.0 κs.1.0 qs.0 qs.1.0 bounds.0 a.0
+    (asked_met.met 𝓤 𝓛 𝓜 𝓡 (code.calls-failing_alloc::Gate::fails 𝓡.env wired)) κs.0 κs.1.0 qs.0 qs.1.0 bounds.0 a.0
     a.1.0 a.1.1.0 τ are.1.0.1 are.1.1.0.1)

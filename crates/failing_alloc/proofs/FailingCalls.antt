@@ -23,11 +23,11 @@ use denote.Steps.{nothing, only, facts}
 use denote.Triple.Statement.{Contract}
 use denote.Triple.Spec.{triple_of}
 use Rattle.std.proofs.alloc.Calls.{Al, α, seen}
-use Rattle.determinize_replay.specs.declared.failing_alloc.Gate.{Gate}
-use Rattle.determinize_replay.specs.contracts.failing_alloc.Gate as gate
-use Rattle.determinize_replay.specs.contracts.failing_alloc.Gate.fails as fails
-use Rattle.determinize_replay.specs.contracts.failing_alloc.Gate.take_back as take_back
-use Rattle.determinize_replay.specs.contracts.failing_alloc.FailingAllocator as whole
+use Rattle.failing_alloc.specs.declared.Gate.{Gate}
+use Rattle.failing_alloc.specs.contracts.Gate as gate
+use Rattle.failing_alloc.specs.contracts.Gate.fails as fails
+use Rattle.failing_alloc.specs.contracts.Gate.take_back as take_back
+use Rattle.failing_alloc.specs.contracts.FailingAllocator as whole
 
 -- a size or an alignment
 abbrev pub number : Slot 2

@@ -1,55 +1,12 @@
-//! What a text is read as, in the notation of the rows.
+//! What a pattern string is read as, in the notation of the rows.
 
-ghost use Rattle.std.specs.Prelude.{◌≡◌, ◌≤◌};
-
+use crate::error::ReplayError;
 use determinize_pattern::{ClassBytes, Pattern};
 use determinize_syntax::parse;
-use std::alloc::{AllocError, AllocFailed, Global};
+use example_walks::values;
+use std::alloc::{AllocError, Global};
 use std::fmt;
-use std::io::{self, Write};
-
-/// An error from a row.
-#[derive(Clone, Copy)]
-pub enum RowError {
-    /// An allocation failed.
-    OutOfMemory,
-    /// The input was not read.
-    Unreadable,
-    /// The output was not written.
-    Unwritten,
-    /// A row is malformed.
-    Malformed,
-}
-
-impl From<AllocError> for RowError {
-    fn from(_: AllocError) -> RowError {
-        RowError::OutOfMemory
-    }
-}
-
-impl<T: Drop> From<AllocFailed<T>> for RowError {
-    fn from(_: AllocFailed<T>) -> RowError {
-        RowError::OutOfMemory
-    }
-}
-
-impl From<io::Error> for RowError {
-    fn from(_: io::Error) -> RowError {
-        RowError::Unwritten
-    }
-}
-
-impl fmt::Display for RowError {
-    fn fmt<W: fmt::Write>(&self, f: &mut fmt::Formatter<W>) -> fmt::Result {
-        let text = match self {
-            RowError::OutOfMemory => "out of memory",
-            RowError::Unreadable => "the input was not read",
-            RowError::Unwritten => "the output was not written",
-            RowError::Malformed => "a row is malformed",
-        };
-        write!(f, "{text}")
-    }
-}
+use std::io::Write;
 
 /// The counts of the rows.
 #[derive(Clone, Copy)]
@@ -69,11 +26,9 @@ impl Tally {
         }
     }
 
-    /// Returns the exit status: 0 if no row differs, otherwise 1.
-    pub fn status(self) -> u8
-        ensures { result ≤ 1 }
-    {
-        if self.differ == 0 { 0 } else { 1 }
+    /// Returns whether no row differs.
+    pub fn agree(self) -> bool {
+        self.differ == 0
     }
 
     /// Adds a row to the counts, and returns whether its results are the expected one. A pattern
@@ -107,20 +62,21 @@ impl fmt::Display for Tally {
 /// the result differs, or the text of the pattern is read as another one.
 pub fn judge<W: Write>(
     alloc: Global,
+    line: u64,
     row: &str,
     tally: &mut Tally,
     out: &mut W,
-) -> Result<(), RowError> {
-    let Some((hex, rest)) = row.split_once('\t') else {
-        return Err(RowError::Malformed);
+) -> Result<(), ReplayError> {
+    let mut fields = row.split('\t');
+    let (Some(hex), Some(expected)) = (fields.next(), fields.next()) else {
+        return Err(ReplayError::Malformed(line, "a text and its result"));
     };
-    let Some((expected, _)) = rest.split_once('\t') else {
-        return Err(RowError::Malformed);
+    let Ok(bytes) = values::bytes(alloc, hex) else {
+        return Err(ReplayError::Malformed(line, "a text in hexadecimal"));
     };
-    let bytes = decoded(alloc, hex)?;
     match str::from_utf8(&bytes) {
         Ok(text) => judge_text(alloc, text, expected, tally, out),
-        Err(_) => Err(RowError::Malformed),
+        Err(_) => Err(ReplayError::Malformed(line, "a text in UTF-8")),
     }
 }
 
@@ -131,7 +87,7 @@ fn judge_text<W: Write>(
     expected: &str,
     tally: &mut Tally,
     out: &mut W,
-) -> Result<(), RowError> {
+) -> Result<(), ReplayError> {
     let answer = answer(alloc, text)?;
     let again = answer_again(alloc, text)?;
     if tally.add(answer.as_str(), again.as_str(), expected) {
@@ -147,34 +103,13 @@ fn report<W: Write>(
     again: &str,
     expected: &str,
     out: &mut W,
-) -> Result<(), RowError> {
+) -> Result<(), ReplayError> {
     writeln!(out, "{text:?}: {answer}, again {again}, and not {expected}")?;
     Ok(())
 }
 
-/// Returns the bytes that are written in hexadecimal.
-fn decoded(alloc: Global, hex: &str) -> Result<Vec<u8>, RowError> {
-    let mut bytes = Vec::new(alloc);
-    let mut high = None;
-    for c in hex.chars() {
-        let Some(digit) = c.to_digit(16) else {
-            return Err(RowError::Malformed);
-        };
-        let digit = digit as u8;
-        high = match high {
-            None => Some(digit),
-            Some(first) => {
-                let first: u8 = first;
-                bytes.push(first.wrapping_mul(16).wrapping_add(digit))?;
-                None
-            }
-        };
-    }
-    Ok(bytes)
-}
-
 /// Returns what the text is read as.
-pub fn answer(alloc: Global, text: &str) -> Result<String, RowError> {
+pub fn answer(alloc: Global, text: &str) -> Result<String, ReplayError> {
     let mut out = String::new(alloc);
     write_answer(alloc, text, &mut out)?;
     Ok(out)
@@ -192,7 +127,7 @@ fn write_answer(alloc: Global, text: &str, out: &mut String) -> Result<(), Alloc
 }
 
 /// Returns what the text is read as that the pattern of this text is written as.
-pub fn answer_again(alloc: Global, text: &str) -> Result<String, RowError> {
+pub fn answer_again(alloc: Global, text: &str) -> Result<String, ReplayError> {
     let mut written = String::new(alloc);
     if write_again(alloc, text, &mut written)? {
         answer(alloc, written.as_str())
