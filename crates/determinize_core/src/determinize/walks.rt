@@ -149,6 +149,9 @@ fn states_over<N: Allocator, A: Allocator + Copy>(
 }
 
 /// Returns the state after a state over a unit, and pushes the state itself.
+///
+/// Inlined: with a call, which moves both states once more, a walk takes up to 1.6 times as long.
+#[inline(always)]
 fn keep_and_step<N: Allocator, A: Allocator + Copy>(
     stepper: &mut Stepper<'_, N, A>,
     state: State<A>,
