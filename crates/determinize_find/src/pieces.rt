@@ -11,11 +11,11 @@ ghost use Rattle.determinize_find.specs.Certain.{IsUnsettled};
 ghost use Rattle.determinize_find.specs.Idle.{IsIdle};
 ghost use Rattle.determinize_find.specs.LeftmostIn.{moved};
 ghost use Rattle.determinize_nfa.specs.Prefix.{HasPrefixApart};
-ghost use Rattle.determinize_find.specs.Private.Windows.{HasMoved, IsCertain, IsFresh, IsInside, IsPlaceOf};
-ghost use Rattle.determinize_find.specs.Private.Windows.{after_match, with_bytes, with_scan};
-ghost use Rattle.determinize_find.specs.Private.Windows.{without_first};
+ghost use Rattle.determinize_find.specs.Private.Windows.{HasMoved, IsCertain, IsFresh, IsInside};
+ghost use Rattle.determinize_find.specs.Private.Windows.{IsPlaceOf, after_match, with_bytes};
+ghost use Rattle.determinize_find.specs.Private.Windows.{with_scan};
 ghost use Rattle.determinize_find.specs.Streams.{IsAdvance, IsFed, IsFeeding, IsFinished};
-ghost use Rattle.determinize_find.specs.Streams.{IsFoundInBlock, IsKept, IsKeptScan, IsSearching};
+ghost use Rattle.determinize_find.specs.Streams.{IsFoundInBlock, IsKept, IsSearching};
 ghost use Rattle.determinize_find.specs.Streams.{IsStream, KeepsFew, KeptFewInBlocks, count_kept};
 ghost use Rattle.determinize_find.specs.Streams.{count_read, left_in};
 
@@ -115,8 +115,8 @@ impl<A: Allocator + Copy> Pieces<A> {
         self.is_after_match.then_some(self.start)
     }
 
-    /// Keeps the next bytes of the text, which the search under way reads too. After an error the
-    /// stream is unchanged.
+    /// Keeps the next bytes of the text, which the search under way reads too. After an error
+    /// nothing has changed.
     fn keep<N: Allocator, B: Engine<Error = AllocError>>(
         &mut self,
         regex: &mut Regex<Lazy<'_, N, A>, B>,
@@ -168,7 +168,7 @@ impl<A: Allocator + Copy> Pieces<A> {
         Ok(())
     }
 
-    /// Ends the search under way.
+    /// Ends the search under way, if there is one.
     #[inline(always)]
     fn end_scan(&mut self)
         ensures { self.new ≡ with_scan None self.old }
@@ -207,8 +207,8 @@ impl<A: Allocator + Copy> Pieces<A> {
         }
     }
 
-    /// Begins a new search at the end of the kept bytes, if no match begins before. The search
-    /// under way has no match that is certain.
+    /// Begins a new search at the end of the kept bytes if the one under way is idle: then no match
+    /// begins before. Called where no match is certain.
     fn skip_idle<N: Allocator, B: Engine<Error = AllocError>>(
         &mut self,
         regex: &mut Regex<Lazy<'_, N, A>, B>,
@@ -232,8 +232,8 @@ impl<A: Allocator + Copy> Pieces<A> {
         self.begin_scan(regex)
     }
 
-    /// Begins a new search where the one under way is idle, and drops the bytes that no search
-    /// needs any more. The search under way has no match that is certain.
+    /// Begins a new search if the one under way is idle, and drops the bytes that no search needs
+    /// any more. Called where no match is certain.
     fn settle<N: Allocator, B: Engine<Error = AllocError>>(
         &mut self,
         regex: &mut Regex<Lazy<'_, N, A>, B>,
@@ -254,8 +254,8 @@ impl<A: Allocator + Copy> Pieces<A> {
         Ok(())
     }
 
-    /// Returns the leftmost match of the kept bytes from the start on if it is certain by the
-    /// search under way, by indices into these bytes.
+    /// Returns the leftmost match of the kept bytes from the start on, by indices into these bytes,
+    /// if the search under way makes it certain.
     #[inline(always)]
     fn certain_now<N: Allocator, B: Engine<Error = AllocError>>(
         &self,
@@ -401,7 +401,7 @@ impl<A: Allocator + Copy> Pieces<A> {
     /// it certain. Its bytes are kept (`bytes_of`) until the next call of `advance` or `feed`.
     ///
     /// Returns `AllocError` as `feed` does. The piece is then what is left after the blocks that
-    /// were read. To continue, call it again with what is left.
+    /// were read. To continue, call it again with what is left, through a `Regex` as `feed` needs.
     pub fn advance<N: Allocator, B: Engine<Error = AllocError>>(
         &mut self,
         regex: &mut Regex<Lazy<'_, N, A>, B>,

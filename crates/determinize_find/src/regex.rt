@@ -334,7 +334,8 @@ impl<'n, N: Allocator, A: Allocator + Copy, B: Engine<Error = AllocError>> Regex
             .scan_text(unanchored, behind, &haystack[start..])
     }
 
-    /// Reads the next piece of the text of such a search. After an error the search is unchanged.
+    /// Reads the next piece of the text of a search that `scan` began. After an error the search is
+    /// unchanged.
     pub(crate) fn feed(&mut self, scan: &mut Scan<A>, piece: &[u8]) -> Result<(), AllocError>
         ensures fed { (behind : Option ℕ) (bytes : List ℕ)
             → IsEndScan self.old.nfa behind bytes scan.old

@@ -1,9 +1,9 @@
 //! Searches of a text that comes in pieces, as from a socket or a file.
 //!
 //! A [`Scan`] owns a copy of the state where it is and the last match so far, so that it does not
-//! depend on what the cache is used for between two pieces. For each piece `feed` finds that state
-//! in the cache, first at the id that it had at the end of the piece before, and copies the state
-//! at the end of this one.
+//! depend on what the cache is used for between two pieces. For each piece `feed` looks for that
+//! state in the cache, first at the id that it had at the end of the piece before, and copies the
+//! state at the end of this one.
 
 ghost use Rattle.std.specs.Prelude.{◌≡◌, ◌+◌, ◌++◌, ◌<◌, ◌≤◌, ℕ, [], List, Option, length, map, not, option_map, true, IfOk, OnErr, OnOk, None, Some};
 ghost use Rattle.std.specs.Option.{IfSome, option_or};
@@ -38,7 +38,7 @@ use std::marker::Model;
 pub struct Scan<A: Allocator = Global> {
     state: State<A>,
     /// The id of the state when the last piece was read, if it was cached then. The cache may have
-    /// been cleared since, or the next piece is read through another one.
+    /// been cleared since, and the next piece may be read through another one, so it is compared.
     id: Option<LazyStateId>,
     last: Option<HalfMatch>,
     read: usize,

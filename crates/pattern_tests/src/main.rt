@@ -1,6 +1,7 @@
 //! Compiles the patterns of the jobs of standard input, searches their texts, and prints each job
 //! whose NFA or matches are not the expected ones. Parses the pattern strings of the rows of
-//! standard input, and others that it makes itself, and prints each that is not read as expected.
+//! standard input, and prints each row that is not read as expected. Then parses strings that it
+//! makes itself, and counts those that are not.
 #![tactic(auto)]
 
 mod error;

@@ -101,7 +101,7 @@ impl Replay {
     }
 
     /// Takes one more line: the first one of a job, the expected text of a pattern of the job, a
-    /// text that is searched, the row of a pattern string, which has a tab, or a comment.
+    /// text that is searched, a row of a pattern string (any line with a tab), or a comment.
     ///
     /// The first line of a job ends the job before, which is judged then: what differs is written
     /// to `out`.

@@ -3,6 +3,7 @@
 use crate::error::ReplayError;
 use determinize_pattern::{ClassBytes, Pattern};
 use determinize_syntax::parse;
+use example_walks::error::TextError;
 use example_walks::values;
 use std::alloc::{AllocError, Global};
 use std::fmt;
@@ -68,11 +69,13 @@ pub fn judge<W: Write>(
     out: &mut W,
 ) -> Result<(), ReplayError> {
     let mut fields = row.split('\t');
-    let (Some(hex), Some(expected)) = (fields.next(), fields.next()) else {
-        return Err(ReplayError::Malformed(line, "a text and its result"));
+    let (Some(hex), Some(expected), Some(_)) = (fields.next(), fields.next(), fields.next()) else {
+        return Err(ReplayError::Malformed(line, "a text, its result and more"));
     };
-    let Ok(bytes) = values::bytes(alloc, hex) else {
-        return Err(ReplayError::Malformed(line, "a text in hexadecimal"));
+    let bytes = match values::bytes(alloc, hex) {
+        Ok(bytes) => bytes,
+        Err(TextError::OutOfMemory) => return Err(ReplayError::OutOfMemory),
+        Err(_) => return Err(ReplayError::Malformed(line, "a text in hexadecimal")),
     };
     match str::from_utf8(&bytes) {
         Ok(text) => judge_text(alloc, text, expected, tally, out),
