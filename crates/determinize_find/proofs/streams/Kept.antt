@@ -1,13 +1,15 @@
 -- How far a search for the next match moves in a text, and what `Pieces` keeps.
--- Main statements: moved_none, moved_nowhere, moved_begun, moved_on, settled, few_kept, skipped, advanced, in_block, read_more, all_read.
+-- Main statements: moved_none, moved_nowhere, moved_begun, moved_on, settled, few_kept, skipped, advanced, in_block,
+-- read_more, all_read.
 -- Used by: the calls of `Pieces` that search or read.
 -- Idea: moves that read nothing and find nothing are chained; then a match is found, or bytes are read. What was so at
 -- the end of a block stays so, as more blocks are read.
 use Rattle.determinize_find.proofs.Common.{add-one, ap, append-nil, append_assoc, arith, by_cases, cases_lt}
 use Rattle.determinize_find.proofs.Common.{drop-append-le, drop-drop, drop_all, end_before, false, false≢true, HasMoved}
-use Rattle.determinize_find.proofs.Common.{HasPrefixApart, IfOk-weaker, IfSome, IfSome_then, inl, inr, is_capture, is_touching}
-use Rattle.determinize_find.proofs.Common.{IsAdvance, IsCertain, IsEndScan, IsFed, IsFoundInBlock, IsFrontFed, IsIdle}
-use Rattle.determinize_find.proofs.Common.{IsSearching, IsUnsettled, KeepsFew, KeptFewAt, KeptFewInBlocks}
+use Rattle.determinize_find.proofs.Common.{HasPrefixApart, IfOk-weaker, IfSome, IfSome_then, inl, inr, is_capture}
+use Rattle.determinize_find.proofs.Common.{is_touching, IsAdvance, IsCertain, IsEndScan, IsFed, IsFoundInBlock}
+use Rattle.determinize_find.proofs.Common.{IsFrontFed, IsIdle, IsSearching, IsUnsettled, KeepsFew, KeptFewAt}
+use Rattle.determinize_find.proofs.Common.{KeptFewInBlocks}
 use Rattle.determinize_find.proofs.Common.{length, length-append, length-drop, List, Match, min, Nfa, nil_from_length}
 use Rattle.determinize_find.proofs.Common.{None, on_err_weaker, Option, option_to_list, pattern_in, pattern_of, reach}
 use Rattle.determinize_find.proofs.Common.{refl, Result, Scanned, Some, Streamed, take-append-le, take_all}
@@ -34,7 +36,10 @@ moved_nowhere {nfa} {s} searching = record { fed = fed_scan nfa s s.scan; search
 -- where a search was begun
 pub moved_begun : {nfa : Nfa} {old new : Streamed} → new ≡ with_scan new.scan old → IsSearching nfa new
     → HasMoved nfa old new
-moved_begun {nfa} {old} {new} e searching = record { fed = λ list. rw e (fed_scan nfa old new.scan list); searching = searching }
+moved_begun {nfa} {old} {new} e searching = record {
+  fed = λ list. rw e (fed_scan nfa old new.scan list);
+  searching = searching;
+}
 
 -- after the bytes that the search under way does not need are dropped
 module _ (nfa : Nfa) (now : Streamed) {new : Streamed} (within : now.start ≤ length now.kept)

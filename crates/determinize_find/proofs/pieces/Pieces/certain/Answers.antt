@@ -22,6 +22,6 @@ returns-clause-moved g c searching =
     let begun = moved_begun c.begin_scan.ensures.value now in elim c.if-is_some.branch [
       | then-is_some w ↦ rw w.self-is (moved_on begun (moved_none w.end_scan.ensures))
       | else-is_some+in_ok-settle w ↦
-          let settle = rw (c.in_ok-next.ensures.same, c.in_ok-begin_scan.ensures.same) at w.in_ok-settle.ensures.moved in
-          rw w.self-is (moved_on begun (settle now))
+          let next = rw (c.in_ok-next.ensures.same, c.in_ok-begin_scan.ensures.same) at w.in_ok-settle.ensures.moved in
+          rw w.self-is (moved_on begun (next now))
     ]

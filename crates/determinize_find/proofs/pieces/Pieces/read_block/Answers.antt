@@ -1,4 +1,5 @@
-use Rattle.determinize_find.proofs.Common.{append-nil, HasMoved, moved, None, of_err, refl, rules, [], ◌++◌, ◌∙◌, ◌∷◌, ◌≡◌}
+use Rattle.determinize_find.proofs.Common.{append-nil, HasMoved, moved, None, of_err, refl, rules}
+use Rattle.determinize_find.proofs.Common.{[], ◌++◌, ◌∙◌, ◌∷◌, ◌≡◌}
 use Rattle.determinize_find.proofs.streams.Kept.{moved_nowhere}
 use Rattle.determinize_find.proofs.streams.Steps.{front_fed, joined_none}
 use Rattle.determinize_find.proofs.pieces.Pieces.read_block.Goals as goal
