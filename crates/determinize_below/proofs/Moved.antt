@@ -1,8 +1,8 @@
 -- A list that takes what another gives, element by element.
--- Main statements: one_more, none_left, next_of.
+-- Main statements: one_more, next_of.
 -- Used by: loops over a slice or a `Vec`, as those of `looks_in`, and of the crates above.
 -- Idea: an element at the end of the one list is an element before the rest of the other.
-use Rattle.std.proofs.Common.{◌≡◌, ◌<◌, ◌+◌, ◌++◌, ◌∙◌, ◌∷◌, ℕ, List, [], ap, append-nil, append_assoc, arith, drop, get_or, length, map, suc, sym}
+use Rattle.std.proofs.Common.{◌≡◌, ◌<◌, ◌+◌, ◌++◌, ◌∙◌, ◌∷◌, ℕ, List, [], ap, append_assoc, arith, drop, get_or, length, map, suc, sym}
 use Rattle.std.proofs.Math.Seq.{drop-cons}
 use Rattle.std.proofs.lemmas.List.{map-append}
 
@@ -10,11 +10,6 @@ module _ {V W : Type 0} (f : V → W) (made : List V) (whole : List W) where
   pub one_more : (new : List V) (x : V) (y : W) (rest : List W) → new ≡ made ++ x ∷ [] → f x ≡ y
       → map f made ++ y ∷ rest ≡ whole → map f new ++ rest ≡ whole
   one_more new x y rest e n h = rw (e, map-append f made (x ∷ []), append_assoc, n) h
-
-  pub none_left : {X : Type 0} (g : X → W) (rest : List X) → length rest ≡ 0 → map f made ++ map g rest ≡ whole
-      → map f made ≡ whole
-  none_left g [] z h = sym (append-nil (map f made)) ∙ h
-  none_left g (x ∷ rest) z h = absurd (cc)
 
 -- the next element of a slice
 pub next_of : {X : Type 0} (xs : List X) (i : ℕ) (x : X) → i < length xs → x ≡ get_or xs i x

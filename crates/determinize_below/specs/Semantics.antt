@@ -89,8 +89,10 @@ holds r t p q Start = is_none p
 holds r t p q End = is_none q
 holds r t p q StartLF = is_none p || is p t
 holds r t p q EndLF = is_none q || is q t
-holds r t p q StartCRLF = is_none p || is p (crlf_second r) || (is p (crlf_first r) && not (is q (crlf_second r)))
-holds r t p q EndCRLF = is_none q || is q (crlf_first r) || (is q (crlf_second r) && not (is p (crlf_first r)))
+holds r t p q StartCRLF = is_none p || is p (crlf_second r)
+    || (is p (crlf_first r) && not (is q (crlf_second r)))
+holds r t p q EndCRLF = is_none q || is q (crlf_first r)
+    || (is q (crlf_second r) && not (is p (crlf_first r)))
 holds r t p q WordAscii = not (beq (is_word p) (is_word q))
 holds r t p q WordAsciiNegate = beq (is_word p) (is_word q)
 holds r t p q WordUnicode = not (beq (is_word p) (is_word q))

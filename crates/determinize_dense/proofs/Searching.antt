@@ -89,7 +89,8 @@ module _ {d : DfaValue} {text : Text} {from now : Reached} {next : ℕ} (come : 
   come-lists : is_nonempty (patterns_at d.table number) ≡ true → HasCome d text from
       record { row = next; read = now.read + 1; matched = next; offset = now.read }
   come-lists some =
-      let lists = match_of_some now.read (patterns_at d.table (row_at d.table next)) (rw (row-of d.table here.1) some) in
+      let lists = match_of_some now.read (patterns_at d.table (row_at d.table next))
+      (rw (row-of d.table here.1) some) in
       record {
         at = next-offset come.at r;
         listing = next-offset come.at r;

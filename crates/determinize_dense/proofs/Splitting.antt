@@ -1,6 +1,6 @@
 -- How the blocks of a partition are split, one row at a time.
 -- Main statements: few_blocks, row-kept, row-split, splitting-split.
--- Used by: Collecting, Merging, Ordering, `split`, `len`, and the loops over rows.
+-- Used by: Merging, Ordering, `split`, `len`, and the loops over rows.
 -- Idea: a row stays in its block if it has the value of the member; else its block and value are a key of a new number.
 use Rattle.determinize_dense.proofs.Common.{AreBlocks, AreEqual, arith, Blocks, by_cases, fun_ext, get_or_append_left}
 use Rattle.determinize_dense.proofs.Common.{get_or_push, IsNumbered, IsSplit, IsSplitting, length, length_push, List}

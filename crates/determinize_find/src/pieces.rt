@@ -12,7 +12,7 @@ ghost use Rattle.determinize_find.specs.Idle.{IsIdle};
 ghost use Rattle.determinize_find.specs.LeftmostIn.{moved};
 ghost use Rattle.determinize_nfa.specs.Prefix.{HasPrefixApart};
 ghost use Rattle.determinize_find.specs.Private.Windows.{HasMoved, IsCertain, IsFresh, IsInside};
-ghost use Rattle.determinize_find.specs.Private.Windows.{IsPlaceOf, after_match, with_bytes};
+ghost use Rattle.determinize_find.specs.Private.Windows.{IsPlaceOf, past_match, with_bytes};
 ghost use Rattle.determinize_find.specs.Private.Windows.{with_scan};
 ghost use Rattle.determinize_find.specs.Streams.{IsAdvance, IsFed, IsFeeding, IsFinished};
 ghost use Rattle.determinize_find.specs.Streams.{IsFoundInBlock, IsKept, IsSearching};
@@ -336,7 +336,7 @@ impl<A: Allocator + Copy> Pieces<A> {
     /// Moves the start to the end of the next match.
     fn pass(&mut self, next: &Match)
         requires { IsPlaceOf next.now self.old }
-        ensures value { self.new ≡ after_match next.now self.old }
+        ensures value { self.new ≡ past_match next.now self.old }
         ensures fed { (nfa : Nfa) → IsCertain nfa self.old.kept self.old.start next.now
             → (list : List Found) → IsFed nfa self.old self.new [] list
             (list ++ moved self.old.dropped next.now ∷ []) }

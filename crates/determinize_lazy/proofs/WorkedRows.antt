@@ -1,4 +1,7 @@
 -- The example walks and searches over one cache, computed.
+-- Main statements: are_worked_rows.
+-- Used by: `cache_rows_law`.
+-- Idea: each side of an equation computes to the same value, once the definitions are unfolded.
 use Rattle.determinize_below.specs.Edges.{reach}
 use Rattle.determinize_below.specs.Look.{has, insert, meets}
 use Rattle.determinize_below.specs.Semantics.{is_word_byte}

@@ -24,8 +24,7 @@ pub use Rattle.ordered_reach.proofs.runs.ByPosition.{same_pairs}
 pub use Rattle.ordered_reach.specs.Paths.{IsPath}
 pub use Rattle.ordered_reach.specs.Runs.{placed}
 pub use Rattle.determinize_below.proofs.Exits.{if_err_and}
-pub use Rattle.determinize_below.proofs.Moved.{none_left, one_more}
-pub use Rattle.determinize_below.proofs.looks.ReversedLooks.{reversed_twice}
+pub use Rattle.determinize_below.proofs.Moved.{one_more}
 pub use Rattle.determinize_below.proofs.nfas.SoundNfa.{each_passes}
 pub use Rattle.determinize_below.specs.Edges.{edges, is_match_node, pattern_in, pattern_of, target}
 pub use Rattle.determinize_below.specs.Look.{reversed}
@@ -47,8 +46,8 @@ pub use Rattle.determinize_nfa.specs.Private.Arcs.{arcs_of, next_of, runs, targe
 pub use Rattle.determinize_nfa.specs.Private.Closed.{IsClosed, all_visited}
 pub use Rattle.determinize_nfa.specs.Private.Gathered.{gathered, states_of}
 pub use Rattle.determinize_nfa.specs.Private.Turning.{Turned, added, none_turned, range_to, sources, total}
-pub use Rattle.determinize_nfa.specs.Private.Turning.{turned_over, with_arc, with_arcs, with_end, with_node}
-pub use Rattle.determinize_nfa.specs.Private.Turning.{with_nodes, with_state}
+pub use Rattle.determinize_nfa.specs.Private.Turning.{turned_over, with_all_reversed, with_arc, with_arcs}
+pub use Rattle.determinize_nfa.specs.Private.Turning.{with_end, with_reversed, with_state}
 pub use Rattle.determinize_nfa.specs.Reversal.{IsReverseOf, IsTooLarge, is_first, most_states, turned, upto}
 pub use Rattle.determinize_nfa.specs.Runs.{AcceptsFrom}
 pub use Rattle.determinize_nfa.specs.declared.arcs.Arc.{Arc}

@@ -120,9 +120,9 @@ impl<A: Allocator + Copy> Turned<A> {
         requires whole { is_dense_sound (node_of state.now) ≡ true }
         requires small { length self.old.into ≤ ID_LIMIT }
         ensures turned { OnOk result
-            (self.new ≡ turning.with_node self.old id (node_of state.now)) }
+            (self.new ≡ turning.with_reversed self.old id (node_of state.now)) }
         ensures err { IfErr result (λ e.
-            IsTooLarge (turning.total (turning.with_node self.old id (node_of state.now))) e) }
+            IsTooLarge (turning.total (turning.with_reversed self.old id (node_of state.now))) e) }
     {
         for arc in arcs_of(state) {
             self.add_arc(id, arc)?;

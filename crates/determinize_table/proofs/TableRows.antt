@@ -92,7 +92,8 @@ module _ {states : List Value} {rows : List ℕ} {target : Value → Option ℕ 
     rows-set = let inside = slice_get_within states s v at_s in record {
       size = length-set rows (s * 258 + column u) (t * 258) ∙ r.size;
       apart = r.apart;
-      entries = λ p x y at unit_y. with_target-by (shares None u) target v w x y (λ o. Leads states (entry_at written p y) o)
+      entries = λ p x y at unit_y. with_target-by (shares None u) target v w x y
+          (λ o. Leads states (entry_at written p y) o)
           (λ (x_is, over). let y_is = (Decides-unit y u).0 over in
           let p_is = r.apart p s v (rw x_is at at) at_s in
           (t, grind (arith, places, get_or-set_at {X = ℕ}, r.size, column-lt u unit), at_t))
@@ -108,7 +109,8 @@ module _ {states : List Value} {rows : List ℕ} {target : Value → Option ℕ 
           ) in
           rw e (r.entries p x y at unit_y));
       others = λ x y never. with_target-by (shares None u) target v w x y (λ o. o ≡ None)
-          (λ (x_is, over). absurd (never s (rw x_is at_s) (rw ((Decides-unit y u).0 over) unit))) (λ _. r.others x y never);
+          (λ (x_is, over). absurd (never s (rw x_is at_s) (rw ((Decides-unit y u).0 over) unit)))
+          (λ _. r.others x y never);
       tags = λ p x at. grind (arith, places, get_or-set_at {X = ℕ}, column-lt u unit, r.tags p x at);
     }
 

@@ -46,7 +46,8 @@ module _ (f : Value → Option ℕ → Value) where
       more : (x : Value) → Contains (with_value t.states v) x → Contains all x
       more = has_more (with_value t.states v) w
 
-      stays : (x : Value) (y : Option ℕ) (z : Value) → t.target x y ≡ Some z → with_target over t.target v w x y ≡ Some z
+      stays : (x : Value) (y : Option ℕ) (z : Value) → t.target x y ≡ Some z
+          → with_target over t.target v w x y ≡ Some z
       stays x y z k = with_target-by over t.target v w x y (λ o. o ≡ Some z)
           (λ (x_is, y_in). let s : z ≡ f x y = is.steps x y z k in
           let e : w ≡ f v y = w_is y y_in in cc) (λ _. k)

@@ -1,4 +1,7 @@
 -- A test of the names of examples is a test of the examples.
+-- Main statements: is_name_of.
+-- Used by: `named`.
+-- Idea: by induction on the list.
 use Rattle.std.proofs.Common.{◌≡◌, ◌∷◌, ◌||◌, [], refl, ap, ℕ, Bool, List, map, bytes_eq}
 use Rattle.std.specs.List.{list_any}
 use Rattle.example_walks.specs.Names.{has_name, names_of}

@@ -1,5 +1,7 @@
--- Shared by both proofs of `FailingAllocator`: their parameters, a `&FailingAllocator` as a `&` to each field, and
--- the results of the two calls of the gate. Assumes `Logic`.
+-- What both proofs of `FailingAllocator` share: their parameters, and the results of the two calls of the gate.
+-- Main statements: both_fields, Asks-goes, Asks-gives, Backs-goes, Backs-gives.
+-- Used by: `allocate` and `deallocate`.
+-- Idea: a `&FailingAllocator` is a `&` to each of its fields. Assumes `Logic`.
 use Rattle.std.proofs.Common.{◌≡◌, ℕ, ◌+◌, Bool, List, [], ◌∷◌, refl, ap}
 use seplogic.Ra.Ura.{Ura}
 use mir.Syntax.{Args, a_type, dnil, dcons}

@@ -13,7 +13,7 @@ use Rattle.determinize_find.proofs.Common.{take-append-le, take_at, text_of, tou
 use Rattle.determinize_find.proofs.Common.{with_scan, without_first, [], ℕ, ◌++◌, ◌+◌, ◌-◌, ◌<◌, ◌∙◌, ◌∷◌, ◌≡◌, ◌≤◌}
 use Rattle.std.proofs.Math.Seq.{take-append-add}
 use Rattle.determinize_find.specs.Idle.{NothingBefore}
-use Rattle.determinize_find.specs.Private.Windows.{after_match, IsWindow}
+use Rattle.determinize_find.specs.Private.Windows.{IsWindow, past_match}
 use Rattle.determinize_find.proofs.matches.NextMatch.{next_further, next_plain}
 use Rattle.determinize_find.proofs.matches.OneList.{apart, lies}
 use Rattle.determinize_find.proofs.streams.Rests.{byte_before-append, rest-drop, shift_leftmost, skip_leftmost}
@@ -106,7 +106,7 @@ touches_before s m = rw before-kept (touches_moved s.dropped (end_before s) m)
 -- the start is at the end of a match
 pub fed_match : (nfa : Nfa) (s : Streamed) (m : Match) (list : List Match)
     → IsWindow s.kept s.dropped s.start s.scan → IsCertain nfa s.kept s.start m → touches (end_before s) m ≡ false
-    → IsFed nfa s (after_match m s) [] list (list ++ moved s.dropped m ∷ [])
+    → IsFed nfa s (past_match m s) [] list (list ++ moved s.dropped m ∷ [])
 fed_match nfa s m list window certain apart =
     moved_start nfa s m.end true s.scan (moved s.dropped m ∷ []) (λ bytes given is more small ms h.
     (next_plain nfa _ _ _ (certain_in is window certain more small) (touches_before s m ∙ apart), h)) list

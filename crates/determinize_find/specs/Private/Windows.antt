@@ -51,8 +51,8 @@ abbrev pub with_bytes : List ℕ → Streamed → Streamed
 with_bytes more s = record s { kept = s.kept ++ more }
 
 -- the start is at the end of a match
-abbrev pub after_match : Match → Streamed → Streamed
-after_match m s = record s { start = m.end; is_after = true }
+abbrev pub past_match : Match → Streamed → Streamed
+past_match m s = record s { start = m.end; is_after = true }
 
 -- the end of the match before, in the kept bytes
 abbrev pub end_before : Streamed → Option ℕ

@@ -14,5 +14,6 @@ use Rattle.determinize_lazy.specs.Scanning.{IsFoundBeforeLast}
 pub found-before_last : (s : Scanned) → IsFoundBeforeLast s
 found-before_last s nfa kind start behind bytes last accepted is =
     is-search nfa kind start (between behind bytes (Some last)) s.last accepted
-    (is.last ∙ ap (λ us. last_match (future nfa kind (start_value nfa start behind) us)) (map-append Some bytes (last ∷ []))
+    (is.last ∙ ap (λ us. last_match (future nfa kind (start_value nfa start behind) us))
+    (map-append Some bytes (last ∷ []))
     ∙ sym (ap last_match (chain_is_future nfa kind start behind (Some last) bytes)))

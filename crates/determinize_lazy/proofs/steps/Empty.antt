@@ -16,7 +16,8 @@ use Rattle.determinize_start.specs.StartSlots.{slot_number}
 use Rattle.determinize_table.proofs.Transitions.{empty-is}
 use Rattle.determinize_table.specs.Rows.{IsEmpty, StoredTable}
 
-pub empty_is_lazy : (nfa : Nfa) (kind : MatchKind) (limit computed : ℕ) (classes : Option Classes) (stored : StoredTable)
+pub empty_is_lazy : (nfa : Nfa) (kind : MatchKind) (limit computed : ℕ) (classes : Option Classes)
+    (stored : StoredTable)
     → IsAccepted nfa → computed ≤ 18446744073709551615 → IfSome classes (λ p. AreClassesOf nfa p) → IsEmpty stored
     → IsLazy nfa kind limit computed classes stored
 empty_is_lazy nfa kind limit computed classes stored accepted small are is = record {

@@ -153,7 +153,8 @@ pub small-over : {E : Type 0} {earliest : Bool} {us : List (Option ℕ)} {p : Pl
     → IsSmall p.cache.nfa p.value → AllResolve p.cache.nfa p.value.states → IsOver earliest us p r new
     → Each (IsSmall p.cache.nfa) new.table.states
 small-over {earliest = earliest} {us} {p} (Ok x) accepted each one resolve over =
-    rw over.after (small-walk (units_read (step_of p.cache) earliest p.value us) p.cache p.value accepted each one resolve)
+    rw over.after
+    (small-walk (units_read (step_of p.cache) earliest p.value us) p.cache p.value accepted each one resolve)
 small-over (Err e) accepted each one resolve over = small-cut_off accepted each one resolve over.failed
 
 -- the memory of a cache
@@ -161,7 +162,8 @@ pub few_bytes : (limit : ℕ) (nfa : Nfa) (states : List Value) → length state
     → cache_bytes states ≤ most_bytes limit nfa
 few_bytes limit nfa states within each =
     let m : ℕ = 26 + 8 * pattern_count nfa + 10 * length nfa.states in
-    let one : (v : Value) → IsSmall nfa v → heap_bytes v * 2 ≤ m = λ v small. grind (arith, spell_short v, small.0, small.1) in
+    let one : (v : Value) → IsSmall nfa v → heap_bytes v * 2 ≤ m =
+    λ v small. grind (arith, spell_short v, small.0, small.1) in
     let sum = sum_by-le (λ v. heap_bytes v * 2) m states
     (All-weaker (IsSmall nfa) (λ v. heap_bytes v * 2 ≤ m) one states each) in
     let more : length states * (1104 + m) ≤ limit * (1104 + m) = mul-le-mul_right (1104 + m) within in

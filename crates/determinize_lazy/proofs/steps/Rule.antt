@@ -72,7 +72,8 @@ lazy-kept {A} {E} {nfa} {kind} {limit} {classes = classes} {t = t} {t' = t'} {w}
     kept_table : Table
     kept_table = keep (shares (classes_from nfa v classes) u) limit (table_of t) v w
 
-    by : (r : Result (Cursor A) E) (P : Table → Type 0) → IsKept t kept_table w r t' → P kept_table → P (table_of t) → P empty → P (table_of t')
+    by : (r : Result (Cursor A) E) (P : Table → Type 0) → IsKept t kept_table w r t' → P kept_table → P (table_of t)
+        → P empty → P (table_of t')
     by (Ok x) P kept new old none = rw kept.table new
     by (Err x) P kept new old none = by_cases kept.failed (λ e. rw e none) (λ e. rw e old)
 

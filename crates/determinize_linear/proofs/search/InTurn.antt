@@ -71,13 +71,14 @@ module _ (nfa : Nfa) (asked : Asked) where
       (let z : at ≡ cond (is_anchored nfa asked.anchored) start asked.end = omega arith in rw z at rest))
 
   -- the next match from where an empty one ended
-  module _ (at : ℕ) (m : Match) (is : IsLeftmostIn nfa (from asked at) (Some m)) (empty : touches (Some at) m ≡ true) where
+  module _ (at : ℕ) (m : Match) (is : IsLeftmostIn nfa (from asked at) (Some m))
+      (empty : touches (Some at) m ≡ true) where
     further : (found : Option Match) → IsNext nfa (from asked (at + 1)) None found
         → IsNext nfa (from asked at) (Some at) found
     further found h = (Some m, is, (λ e. one h.0 h.1 h.2, λ e. absurd (true≢false (sym empty ∙ e))))
       where
-        one : (o : Option Match) → IsLeftmostIn nfa (from asked (at + 1)) o → IsTaken nfa (from asked (at + 1)) None o found
-            → IsLeftmostIn nfa (from asked (at + 1)) found
+        one : (o : Option Match) → IsLeftmostIn nfa (from asked (at + 1)) o
+            → IsTaken nfa (from asked (at + 1)) None o found → IsLeftmostIn nfa (from asked (at + 1)) found
         one None x e = subst (λ f. IsLeftmostIn nfa (from asked (at + 1)) f) (sym e) x
         one (Some n) x e = subst (λ f. IsLeftmostIn nfa (from asked (at + 1)) f) (sym (e.1 refl)) x
 
@@ -101,7 +102,8 @@ module _ (nfa : Nfa) (asked : Asked) where
   module _ (before : Option ℕ) (at : ℕ) (turned : IsTurned nfa asked before at) (high : at ≤ asked.end) where
     module _ (m : Match) (best : IsBestIn nfa asked at (Some m)) (starts : m.start ≡ at) where
       again : IsLeftmostIn nfa (from asked at) (Some m)
-      again = leftmost at at m (omega (arith, turned.inside, turned.low)) (omega arith) high (λ k l. absurd (omega arith))
+      again = leftmost at at m (omega (arith, turned.inside, turned.low)) (omega arith) high
+          (λ k l. absurd (omega arith))
           (λ e. refl) best
 
       one : touches turned.last m ≡ false → IsNext nfa (rest_of asked before) before (Some m)
@@ -147,7 +149,8 @@ module _ (nfa : Nfa) (asked : Asked) where
           let is = last_is before at old in
           let was = turned.touched is in
           after_skip before at (omega (arith, turned.inside, turned.low)) is
-          (λ found h. turned.same found (rw (was.0, was.1) (further at m again (grind (arith, nat_tests, starts, ends)) found h)))
+          (λ found h. turned.same found
+          (rw (was.0, was.1) (further at m again (grind (arith, nat_tests, starts, ends)) found h)))
 
     module _ (none : IsBestIn nfa asked at None) where
       pub turned_none : is_anchored nfa asked.anchored ≡ false → IsTurned nfa asked before (at + 1)

@@ -4,7 +4,7 @@
 -- Idea: sums over the pairs of a text: at each position they have at most one choice for each state and one for each
 -- epsilon transition of the NFA.
 use Rattle.std.specs.List.{flat_map}
-use Rattle.std.specs.Option.{IfNone, IfSome}
+use Rattle.std.specs.Option.{IfNone}
 use Rattle.std.specs.Prelude.{nat_lt, slice_get, slice_index_or}
 use Rattle.std.proofs.Common.{◌≡◌, ◌<◌, ◌≤◌, ◌*◌, ◌+◌, ◌++◌, ◌∷◌, ◌||◌, ◌==◌, ℕ, Bool, List, None, Option, Some}
 use Rattle.std.proofs.Common.{[], ap, arith, false, length, length-append, map, nat_eq, not, refl, suc, true, zero}
@@ -187,10 +187,6 @@ module _ (nfa : Nfa) (text : Text) where
     further = λ k h. omega (arith, left_past at k rows l h, left_later from k rows (omega arith), one, paid, some);
     here = omega (arith, left_cleared at rows l, left_later from at rows low, one, paid, some);
   }
-
-pub if_some : {A : Type 0} (P Q : A → Type 0) (o : Option A) → ((a : A) → P a → Q a) → IfSome o P → IfSome o Q
-if_some P Q None f h = h
-if_some P Q (Some a) f h = f a h
 
 pub if_none : {A : Type 0} (P Q : Type 0) (o : Option A) → (P → Q) → IfNone o P → IfNone o Q
 if_none P Q None f h = f h

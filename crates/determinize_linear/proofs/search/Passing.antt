@@ -68,9 +68,11 @@ module _ (nfa : Nfa) (c : CursorValue) (is : IsCursor nfa c) (l : c.at ≤ lengt
       let turned = is.turned l in
       let here = best_found nfa c.asked c.text c.at None (is.text (is.order l)) best in (
         by_test c.is_anchored
-            (λ t. subst (λ (b : Bool). IsCursor nfa (record c { at = cond b (length c.text.bytes + 1) (c.at + 1) })) (sym t)
+            (λ t. subst (λ (b : Bool). IsCursor nfa (record c { at = cond b (length c.text.bytes + 1) (c.at + 1) }))
+            (sym t)
             (cursor_done (next_none nfa c.asked c.before (index_of c) turned high here (sym is.anchored ∙ t))))
-            (λ f. subst (λ (b : Bool). IsCursor nfa (record c { at = cond b (length c.text.bytes + 1) (c.at + 1) })) (sym f)
+            (λ f. subst (λ (b : Bool). IsCursor nfa (record c { at = cond b (length c.text.bytes + 1) (c.at + 1) }))
+            (sym f)
             (cursor_at c.before (c.at + 1)
             (rw further_on (turned_none nfa c.asked c.before (index_of c) turned high here (sym is.anchored ∙ f))))),
         λ m e. absurd (none-some m e),
@@ -128,7 +130,8 @@ moved_some nfa old c found m same e p = record {
     next : IsNext nfa (rest_of old.asked old.before) old.before (Some m)
     next = subst (λ (d : CursorValue). IsNext nfa (rest_of d.asked d.before) d.before (Some m)) same (p.1 m e)
 
-    again : (before : Option ℕ) (asked : Asked) → rest_of (rest_of asked before) (Some m.end) ≡ rest_of asked (Some m.end)
+    again : (before : Option ℕ) (asked : Asked)
+        → rest_of (rest_of asked before) (Some m.end) ≡ rest_of asked (Some m.end)
     again None asked = refl
     again (Some end) asked = refl
 
@@ -215,7 +218,8 @@ pub record IsSought (nfa : Nfa) (text : Text) (Ready : ℕ → Type 0) (first le
 
 -- one more search from its position
 module _ (nfa : Nfa) (text : Text) (Ready : ℕ → Type 0) (first left : ℕ → ℕ) (most extra : ℕ) (Counts : Type 0)
-    (before total : ℕ) (old c : CursorValue) (s : IsSought nfa text Ready first left most extra Counts before total old c)
+    (before total : ℕ) (old c : CursorValue)
+    (s : IsSought nfa text Ready first left most extra Counts before total old c)
     (at : ℕ) (here : at ≡ c.at) (high : at ≤ length text.bytes) (found : Option HalfMatch)
     (best : IsBestAt nfa text at (option_map (from_index at) found)) where
   within : c.at ≤ length c.text.bytes
@@ -281,7 +285,8 @@ module _ (nfa : Nfa) (text : Text) (Ready : ℕ → Type 0) (first left : ℕ �
 
 -- where no search is left
 module _ (nfa : Nfa) (text : Text) (Ready : ℕ → Type 0) (first left : ℕ → ℕ) (most extra : ℕ) (Counts : Type 0)
-    (before total : ℕ) (old c : CursorValue) (s : IsSought nfa text Ready first left most extra Counts before total old c)
+    (before total : ℕ) (old c : CursorValue)
+    (s : IsSought nfa text Ready first left most extra Counts before total old c)
     (past : length text.bytes < c.at) where
   pub sought_none : HasMoved nfa old None c
   sought_none = moved_none nfa old c s.same s.is (rw (← s.same_text) past)

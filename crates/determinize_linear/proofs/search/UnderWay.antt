@@ -214,10 +214,6 @@ spent_new nfa text k positions states = record {
   closed = λ p q v i c. absurd (false≢true (sym (is_marked-none positions states p) ∙ v));
 }
 
-pub spent_later : (nfa : Nfa) (text : Text) (k j : ℕ) (rows : List (List Bool)) → k ≤ j → IsSpent nfa text k rows
-    → IsSpent nfa text j rows
-spent_later nfa text k j rows l h = record { none = h.none; closed = λ p q v i c. h.closed p q v (omega arith) c }
-
 -- a pair is on top of the stack, and has a place for its mark
 pub record IsTop (nfa : Nfa) (text : Text) (k : ℕ) (rows : List (List Bool)) (before : List (ℕ × ℕ)) (p : ℕ × ℕ)
     (ps : List (ℕ × ℕ)) : Type 0 where

@@ -34,7 +34,8 @@ no_token nfa asked within past = λ cs i pattern acc. omega (
 
 -- a position of the text is an index of the range
 pub position_within : (asked : Asked) (text : Text) (at : ℕ) → text ≡ text_of false asked
-    → asked.end ≤ length asked.haystack → asked.start ≤ asked.end → at ≤ length text.bytes → asked.start + at ≤ asked.end
+    → asked.end ≤ length asked.haystack → asked.start ≤ asked.end → at ≤ length text.bytes
+    → asked.start + at ≤ asked.end
 position_within asked text at is within order l =
     omega (arith, ap (λ (t : Text). length t.bytes) is, length-range asked within, within, order, l)
 

@@ -76,7 +76,8 @@ module _ (d : Table) (text : Text) where
     spent = λ p r l n b e. inl (none p r l n b e);
   }
 
-  module _ (m : RowMarks) (from at row : ℕ) (found all : Option HalfMatch) (is : IsFollowed d text m from at row found all)
+  module _ (m : RowMarks) (from at row : ℕ) (found all : Option HalfMatch)
+      (is : IsFollowed d text m from at row found all)
     where
       -- a step
       pub followed_step : (next : ℕ) (u : Option ℕ) (now : Option HalfMatch) → slice_get (units text) at ≡ Some u
@@ -129,7 +130,12 @@ module _ (d : Table) (text : Text) where
         spent = λ q s j k b e. by_test (nat_eq q p && nat_eq s r)
             (λ z. inr (grind (arith, nat_tests, z, l, here)))
             (λ z. is.spent q s j k b
-            (grind (arith, z, e, is_set-with d (length text.bytes + 1) m has new p r q s more (omega arith) (omega arith))));
+            (grind (
+              arith,
+              z,
+              e,
+              is_set-with d (length text.bytes + 1) m has new p r q s more (omega arith) (omega arith),
+            )));
       }
 
       pub following-marked : at ≤ length text.bytes → row < length d.patterns → is_set d m at row ≡ true

@@ -36,7 +36,8 @@ bit_set words first index other h =
 behind : (row columns span at : ℕ) → 64 * (row * columns * span) + at ≡ row * (64 * (columns * span)) + at
 behind row columns span at = omega arith
 
-one_pair : (w at row other next : ℕ) → at < w → other < w → row * w + at ≡ next * w + other → (row ≡ next) × (at ≡ other)
+one_pair : (w at row other next : ℕ) → at < w → other < w → row * w + at ≡ next * w + other
+    → (row ≡ next) × (at ≡ other)
 one_pair w at row other next a b e = (
   sym (div-mul-add row w at a) ∙ ap (λ n. n / w) e ∙ div-mul-add next w other b,
   sym (mod-mul-add row w at a) ∙ ap (λ n. n % w) e ∙ mod-mul-add next w other b,

@@ -1,6 +1,6 @@
 -- A walk from a position, with its marks and the number of steps.
--- Main statements: walked_start, walked_more, walked_listing, walked_mark, none_follows, none_past, walked_all, has_walked,
--- has_bit_here, ends_before, cost_some, cost_none, cost_most, steps_enough.
+-- Main statements: walked_start, walked_more, walked_listing, walked_mark, none_follows, none_past, walked_all,
+-- has_walked, has_bit_here, ends_before, cost_some, cost_none, cost_most, steps_enough.
 -- Used by: `walk_bytes`, `walk_from`, `search_from`, `find_all_with` and `Searcher::new`.
 -- Idea: a step finds a match at its position, or it marks a pair, or it is the first or the last one.
 use Rattle.std.proofs.Common.{◌≡◌, ◌<◌, ◌≤◌, ◌*◌, ◌+◌, ◌∙◌, ℕ, Bool, List, None, Option, Some, [], ◌∷◌, arith, false}
@@ -95,8 +95,9 @@ module _ (text : Text) (first : WalkValue) (old : RowMarks)
       stepped : (ps : List ℕ) → patterns_at first.dfa.table next.row ≡ ps → Walked m next (extra ps + more) sum
       stepped ps e = record {
         dfa = step.dfa ∙ is.dfa;
-        followed = rw step.at (followed_step first.dfa.table text m first.at now.at now.row now.found _ is.followed next.row
-            u next.found unit goes takes);
+        followed = rw step.at
+            (followed_step first.dfa.table text m first.at now.at now.row now.found _ is.followed
+            next.row u next.found unit goes takes);
         below = rw goes (can.rows.rows now.row u is.below (unit_at (units text) now.at u are unit));
         passed = passed ps e;
         within = within ps e;
@@ -149,7 +150,8 @@ module _ (text : Text) (first : WalkValue) (old : RowMarks)
       walked_mark e new mark free =
           let none : patterns_at first.dfa.table next.row ≡ [] = lists_none _ (sym e ∙ rw is.dfa at step.lists) in
           let w : Walked m next (1 + more) sum = stepped [] none in
-          let mark : HasMark m (bit_of m now.at (now.row * (first.dfa.table.class_count + 1))) new = rw is.dfa at mark in
+          let mark : HasMark m (bit_of m now.at (now.row * (first.dfa.table.class_count + 1))) new =
+          rw is.dfa at mark in
           let free : is_set first.dfa.table m now.at now.row ≡ false = rw is.dfa at free in
           record {
             dfa = w.dfa;
@@ -191,7 +193,8 @@ module _ (text : Text) (first : WalkValue) (old : RowMarks)
           same = refl;
           rows = can.rows;
           bits = bits;
-          none = λ p r i n b e. followed_end first.dfa.table text m first.at now.at now.row now.found _ is.followed none p
+          none = λ p r i n b e. followed_end first.dfa.table text m first.at now.at now.row now.found _
+              is.followed none p
               r (omega arith) n b e;
         };
         cost = omega (arith, is.cost, few);

@@ -8,8 +8,8 @@ use Rattle.determinize_nfa.proofs.Common.{[], added, ap, arcs_of, arith, by_case
 use Rattle.determinize_nfa.proofs.Common.{get_or, get_or-set_other, inl, inr, length, length-append, length-map}
 use Rattle.determinize_nfa.proofs.Common.{length-replicate, length-set, map, most_states, nat_eq, none_turned, range_to}
 use Rattle.determinize_nfa.proofs.Common.{refl, replicate, reversed, runs, set, slice_get, sources, state_at, states_of}
-use Rattle.determinize_nfa.proofs.Common.{suc, sym, total, turned_over, with_arc, with_arcs, with_end, with_node}
-use Rattle.determinize_nfa.proofs.Common.{with_nodes, zero, ℕ, ◌++◌, ◌+◌, ◌<◌, ◌∙◌, ◌∷◌, ◌≡◌, ◌≤◌}
+use Rattle.determinize_nfa.proofs.Common.{suc, sym, total, turned_over, with_arc, with_arcs, with_end, with_reversed}
+use Rattle.determinize_nfa.proofs.Common.{with_all_reversed, zero, ℕ, ◌++◌, ◌+◌, ◌<◌, ◌∙◌, ◌∷◌, ◌≡◌, ◌≤◌}
 use Rattle.std.specs.List.{AllByRecursion, sum_by}
 use Rattle.std.proofs.lemmas.List.Sums.{sum_by-cons}
 use Rattle.determinize_nfa.proofs.kinds.TableRuns.{length-runs}
@@ -32,7 +32,7 @@ count-end : (s : ℕ) (node : Node) (h : Turned) → length (with_end h s node).
 count-end s (Match pattern) h = refl
 count-end s node h = refl
 
-count-node : (s : ℕ) (node : Node) (h : Turned) → length (with_node h s node).into ≡ length h.into
+count-node : (s : ℕ) (node : Node) (h : Turned) → length (with_reversed h s node).into ≡ length h.into
 count-node s node h = count-end s node (with_arcs h s (arcs_of node)) ∙ count-arcs s (arcs_of node) h
 
 pub count-none : (nfa : Nfa)
@@ -74,7 +74,7 @@ reads_arcs (Union ids) = reads_frees ids
 reads_arcs s = refl
 
 total_nodes : (nfa : Nfa) (ss : List ℕ) (h : Turned)
-    → total (with_nodes nfa h ss) ≡ total h + sum_by (λ s. reads_in (get_or nfa.states s Fail)) ss
+    → total (with_all_reversed nfa h ss) ≡ total h + sum_by (λ s. reads_in (get_or nfa.states s Fail)) ss
 total_nodes nfa [] h = omega arith
 total_nodes nfa (s ∷ ss) h =
     let node = state_at nfa s in
@@ -83,7 +83,7 @@ total_nodes nfa (s ∷ ss) h =
       total_arcs s (arcs_of node) h,
       total_end s node (with_arcs h s (arcs_of node)),
       reads_arcs node,
-      total_nodes nfa ss (with_node h s node),
+      total_nodes nfa ss (with_reversed h s node),
       sum_by-cons (λ s. reads_in (get_or nfa.states s Fail)) s ss,
     )
 
@@ -143,7 +143,7 @@ most nfa h over =
 -- there is room for the next transition of a state
 pub room_arc : (s : ℕ) (node : Node) (a : Arc) (left arcs : List Arc) (old h : Turned)
     → with_arcs old s (arcs_of node) ≡ with_arcs h s left → left ≡ a ∷ arcs
-    → total (with_arc h s a) ≤ total (with_node old s node)
+    → total (with_arc h s a) ≤ total (with_reversed old s node)
 room_arc s node a left arcs old h w e =
     let b : total (with_arcs old s (arcs_of node)) ≡ total (with_arcs (with_arc h s a) s arcs) = ap total (rw e at w) in
     omega (arith, b, total_arcs s arcs (with_arc h s a), total_end s node (with_arcs old s (arcs_of node)))
@@ -151,10 +151,10 @@ room_arc s node a left arcs old h w e =
 -- the states of a list, one by one: those that are left
 pub record IsOver (nfa : Nfa) (whole h : Turned) (left : List ℕ) : Type 0 where
   pub count : length h.into ≡ length nfa.states
-  pub rest : whole ≡ with_nodes nfa h left
+  pub rest : whole ≡ with_all_reversed nfa h left
 
 pub over_more : (nfa : Nfa) (whole h : Turned) (s : ℕ) (all left : List ℕ) (node : Node) → IsOver nfa whole h all
-    → all ≡ s ∷ left → slice_get nfa.states s ≡ Some node → IsOver nfa whole (with_node h s node) left
+    → all ≡ s ∷ left → slice_get nfa.states s ≡ Some node → IsOver nfa whole (with_reversed h s node) left
 over_more nfa whole h s all left node o e n = record {
   count = count-node s node h ∙ o.count;
   rest = rw (e, state_is nfa s node n) at o.rest;
@@ -164,7 +164,7 @@ over_more nfa whole h s all left node o e n = record {
 pub room : (nfa : Nfa) (met left : List ℕ) (h : Turned) → IsDistinct nat_eq met
     → IsOver nfa (turned_over nfa met) h left → total h ≤ most_states nfa
 room nfa met left h d o =
-    let e : total (turned_over nfa met) ≡ total (with_nodes nfa h left) = ap total o.rest in
+    let e : total (turned_over nfa met) ≡ total (with_all_reversed nfa h left) = ap total o.rest in
     omega (arith, e, total_nodes nfa left h, total_turned nfa met d)
 
 pub larger : (m n : ℕ) (e : BuildError) → m ≤ n → IsTooLarge m e → IsTooLarge n e

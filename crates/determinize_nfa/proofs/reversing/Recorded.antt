@@ -9,9 +9,9 @@ use Rattle.determinize_nfa.proofs.Common.{List, Look, Match, Nfa, Node, None, Ra
 use Rattle.determinize_nfa.proofs.Common.{arcs_of, arith, by_cases, cases_lt, each_passes, get_or, get_or-set_other}
 use Rattle.determinize_nfa.proofs.Common.{get_or_past, inl, inr, is_sparse_sound, length, length-replicate, length-set}
 use Rattle.determinize_nfa.proofs.Common.{next_of, none_turned, pattern_in, pattern_of, refl, replicate, reversed}
-use Rattle.determinize_nfa.proofs.Common.{slice_get, slice_get-get_or, sources, state_at, suc, sym, true, with_arc}
-use Rattle.determinize_nfa.proofs.Common.{with_arcs, with_end, with_node, with_nodes, with_state, zero, ℕ, ◌++◌, ◌+◌}
-use Rattle.determinize_nfa.proofs.Common.{◌<◌, ◌∙◌, ◌∷◌, ◌≡◌, ◌⊎◌}
+use Rattle.determinize_nfa.proofs.Common.{slice_get, slice_get-get_or, sources, state_at, suc, sym, true}
+use Rattle.determinize_nfa.proofs.Common.{with_all_reversed, with_arc, with_arcs, with_end, with_reversed, with_state}
+use Rattle.determinize_nfa.proofs.Common.{zero, ℕ, ◌++◌, ◌+◌, ◌<◌, ◌∙◌, ◌∷◌, ◌≡◌, ◌⊎◌}
 use Rattle.std.specs.Prelude.{slice_set}
 use Rattle.determinize_below.proofs.nfas.Edges.{state_past}
 use Rattle.determinize_below.specs.Semantics.{Capture}
@@ -221,8 +221,8 @@ module _ (nfa : Nfa) where
     )
     end_more h node e sound = (more_self h sound, λ pattern z. absurd (let k : None ≡ Some pattern = z in cc))
 
-    node_more : (h : Turned) → IsSound nfa h → IsMore nfa h (with_node h s (state_at nfa s))
-        × HasNode nfa (with_node h s (state_at nfa s)) s (state_at nfa s)
+    node_more : (h : Turned) → IsSound nfa h → IsMore nfa h (with_reversed h s (state_at nfa s))
+        × HasNode nfa (with_reversed h s (state_at nfa s)) s (state_at nfa s)
     node_more h sound =
         let node = state_at nfa s in
         let arcs = arcs_more h (arcs_of node) sound (λ a k. k) in
@@ -233,12 +233,12 @@ module _ (nfa : Nfa) where
 
   -- the states of a list
   nodes_more : IsAccepted nfa → (h : Turned) (ss : List ℕ) → IsSound nfa h → ((s : ℕ) → In s ss → s < n)
-      → IsMore nfa h (with_nodes nfa h ss)
-      × ((s : ℕ) → In s ss → HasNode nfa (with_nodes nfa h ss) s (state_at nfa s))
+      → IsMore nfa h (with_all_reversed nfa h ss)
+      × ((s : ℕ) → In s ss → HasNode nfa (with_all_reversed nfa h ss) s (state_at nfa s))
   nodes_more accepted h [] sound f = (more_self h sound, λ s k. In_none s k)
   nodes_more accepted h (x ∷ ss) sound f =
       let first = node_more accepted x (f x (In_head x ss)) h sound in
-      let all = nodes_more accepted (with_node h x (state_at nfa x)) ss first.0.sound
+      let all = nodes_more accepted (with_reversed h x (state_at nfa x)) ss first.0.sound
       (λ s k. f s (In_tail s x ss k)) in (
         more_then first.0 all.0,
         λ s k. In_cases s x ss k

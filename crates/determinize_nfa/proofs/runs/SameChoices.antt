@@ -1,11 +1,11 @@
 -- Where two texts, with two sets of assertions, give a run the same choices.
--- Main statements: same_choices, free_more, capture_same.
+-- Main statements: same_choices, free_more.
 -- Used by: runs over a text up to a position (Cuts).
 -- Idea: the choices at a pair depend on the next byte and on the assertions there, and no state has transitions of both
 -- kinds.
 use Rattle.determinize_nfa.proofs.Common.{Assertion, Bool, In, In_none, List, Nfa, Node, Option, Some, Text, [], arith}
-use Rattle.determinize_nfa.proofs.Common.{by_cases, edges, edges_of, map, placed, refl, slice_get, state_at, suc, sym}
-use Rattle.determinize_nfa.proofs.Common.{target, true, ℕ, ◌++◌, ◌∙◌, ◌∷◌, ◌≡◌}
+use Rattle.determinize_nfa.proofs.Common.{by_cases, edges, edges_of, map, placed, refl, slice_get, state_at, suc}
+use Rattle.determinize_nfa.proofs.Common.{target, true, ℕ, ◌++◌, ◌∷◌, ◌≡◌}
 use Rattle.determinize_below.specs.Edges.{is_capture}
 use Rattle.determinize_below.proofs.nfas.Edges.{edges-capture, edges-or-target, next_of, target-capture}
 use Rattle.determinize_nfa.proofs.runs.Choices.{choices_under, under_cases}
@@ -50,8 +50,3 @@ module _ (nfa : Nfa) (text other : Text) (h g : ℕ → Assertion → Bool) wher
           = rw (no_target f (slice_get text.bytes p.0)) at e in
           rw (no_target f (slice_get other.bytes p.0))
           (edges_at (h p.0) (g p.0) (state_at nfa p.1) p.0 c q m k)
-
-  -- and at a capture
-  pub capture_same : (p : ℕ × ℕ) → is_capture nfa p.1 ≡ true
-      → choices_under nfa text h p ≡ choices_under nfa other g p
-  capture_same p e = one_choice nfa text h p e ∙ sym (one_choice nfa other g p e)

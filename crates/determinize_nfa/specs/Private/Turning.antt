@@ -62,13 +62,13 @@ with_end h s (Match pattern) = record { into = h.into; rest = h.rest; ends = h.e
 with_end h s _ = h
 
 -- the transitions of a state, reversed, and the state itself if it has a pattern
-abbrev pub with_node : Turned → ℕ → Node → Turned
-with_node h s node = with_end (with_arcs h s (arcs_of node)) s node
+abbrev pub with_reversed : Turned → ℕ → Node → Turned
+with_reversed h s node = with_end (with_arcs h s (arcs_of node)) s node
 
 -- the transitions of the states of a list, reversed
-abbrev pub with_nodes : Nfa → Turned → List ℕ → Turned
-with_nodes nfa h [] = h
-with_nodes nfa h (s ∷ ss) = with_nodes nfa (with_node h s (state_at nfa s)) ss
+abbrev pub with_all_reversed : Nfa → Turned → List ℕ → Turned
+with_all_reversed nfa h [] = h
+with_all_reversed nfa h (s ∷ ss) = with_all_reversed nfa (with_reversed h s (state_at nfa s)) ss
 
 -- no transition yet
 abbrev pub none_turned : ℕ → Turned
@@ -76,7 +76,7 @@ none_turned count = record { into = replicate count []; rest = []; ends = [] }
 
 -- all that the states of a list make of an NFA
 abbrev pub turned_over : Nfa → List ℕ → Turned
-turned_over nfa met = with_nodes nfa
+turned_over nfa met = with_all_reversed nfa
     (added (none_turned (length nfa.states)) nfa.start_anchored (length nfa.states)) met
 
 -- they are those of a list that has each state once that the anchored start reaches

@@ -1,7 +1,7 @@
 -- Runs that accept an earlier pattern are preferred to those that accept a later one.
 -- Main statements: earlier_first.
 -- Used by: Leftmost.
--- Idea: the list of a search has the labels in the order of the walks, and the patterns of `all_ends` in ascending order.
+-- Idea: the list of a search has the labels in the order of the walks, and the patterns of `all_ends` ascend.
 use Rattle.std.specs.Prelude.{Contains, slice_get}
 use Rattle.std.proofs.Common.{◌≡◌, ◌<◌, ◌≤◌, ◌++◌, ◌⊎◌, ◌∙◌, ◌∷◌, ℕ, List, Some, [], ap, arith, inl, inr, map, refl, suc, sym, zero}
 use Rattle.std.proofs.lemmas.Bool.{cases_lt}

@@ -52,5 +52,6 @@ counted k (x ∷ xs) are (suc n) s e = counted (suc k) xs are.1 n s e ∙ omega 
 -- the slot of a number has this number
 pub slot_number-from : (n : ℕ) (s : StartSlot) → slot_of_number n ≡ Some s → slot_number s ≡ n
 slot_number-from n s e =
-    counted 0 each_slot (refl, (refl, (refl, (refl, (refl, (refl, (refl, (refl, (refl, (refl, (refl, (refl, tt)))))))))))) n s e
+    counted 0 each_slot
+    (refl, (refl, (refl, (refl, (refl, (refl, (refl, (refl, (refl, (refl, (refl, (refl, tt)))))))))))) n s e
     ∙ omega arith

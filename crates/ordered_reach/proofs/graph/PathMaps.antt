@@ -1,4 +1,5 @@
--- Paths in a graph are the paths in its image under an injective map, and in a graph that agrees with it, with the same choices.
+-- Paths in a graph are, with the same choices, the paths in its image under an injective map, and in a graph that
+-- agrees with it.
 -- Main statements: path_map, path_unmap, path_agree.
 -- Used by: runs that move in a text, and runs over the beginning of a text.
 -- Idea: induction on the choices; a visited node and its image are visited together, since the map is injective.

@@ -1,8 +1,8 @@
 -- Elements of lists as indices, and their order in the list.
--- Main statements: In, Earlier, same_by_order, In_flat_map, In_Contains, Contains_In.
+-- Main statements: In, same_by_order, In_flat_map, In_Contains, Contains_In.
 -- Used by: PathLists, LeastPaths, UniqueOrder, the folders runs and walks, and the crates above.
 -- Idea: two lists with the same elements in the same strict order are equal (same_by_order).
-use Rattle.ordered_reach.proofs.Common.{[], option_map, ap, arith, Bool, by_test, Contains, Decides, false, false≢true, List, map, member, None, or_left, or_right, refl, slice_get, Some, suc, sym, true, without, zero, ℕ, ◌++◌, ◌<◌, ◌∙◌, ◌∷◌, ◌≡◌, All, take, flat_map, get_or_from_slice_get, slice_get-get_or, slice_get-map, slice_get_within, All-cons, All-nil}
+use Rattle.ordered_reach.proofs.Common.{[], option_map, ap, arith, Bool, by_test, Contains, Decides, false, false≢true, List, map, member, None, or_left, or_right, refl, slice_get, Some, suc, sym, true, zero, ℕ, ◌++◌, ◌<◌, ◌∙◌, ◌∷◌, ◌≡◌, All, take, flat_map, get_or_from_slice_get, slice_get-get_or, slice_get-map, slice_get_within, All-cons, All-nil}
 use Rattle.ordered_reach.proofs.lists.NewNodes.{eq-self}
 
 -- an element of a list
@@ -50,12 +50,6 @@ In_map_from g z (y ∷ xs) h f = In_cases z (g y) (map g xs) h
     (λ e. f y (In_head y xs) e)
     (λ k. In_map_from g z xs k (λ x l e. f x (In_tail x y xs l) e))
 
-pub without-In : {A : Type 0} (cap : A → Bool) (xs : List A) (s : A) → In s xs → cap s ≡ false → In s (without cap xs)
-without-In cap [] s h c = h
-without-In cap (x ∷ xs) s h c = by_test (cap x)
-    (λ e. rw e (In_cases s x xs h (λ q. absurd (false≢true (sym c ∙ ap cap q ∙ e))) (λ l. without-In cap xs s l c)))
-    (λ e. rw e (In_cases s x xs h (λ q. rw q (In_head x _)) (λ l. In_tail s x _ (without-In cap xs s l c))))
-
 pub In_take_one : {A : Type 0} (ps : List A) (x : A) → In x (take 1 ps) → In x ps
 In_take_one [] x h = h
 In_take_one (y ∷ ps) x h = In_append_left x (y ∷ []) ps h
@@ -88,16 +82,6 @@ In_from_Contains xs x h = (h.0, slice_get-get_or xs h.0 x h.1 ∙ ap Some h.2)
 
 pub All_at : {A : Type 0} (P : A → Type 0) (xs : List A) → All P xs → (x : A) → In x xs → P x
 All_at P xs h x k = rw (get_or_from_slice_get xs k.0 x x k.1) at (h k.0 x (slice_get_within xs k.0 x k.1))
-
--- x precedes y in a list
-abbrev pub Earlier : {A : Type 0} → List A → A → A → Type 0
-Earlier xs x y = (i : ℕ) × (j : ℕ) × (i < j) × (slice_get xs i ≡ Some x) × (slice_get xs j ≡ Some y)
-
-pub Earlier_tail : {A : Type 0} (xs : List A) (x y z : A) → Earlier xs x y → Earlier (z ∷ xs) x y
-Earlier_tail xs x y z h = (suc h.0, suc h.1, omega (arith, h.2), h.3, h.4)
-
-pub Earlier_head : {A : Type 0} (xs : List A) (x y : A) → In y xs → Earlier (x ∷ xs) x y
-Earlier_head xs x y h = (0, suc h.0, omega arith, refl, h.1)
 
 -- where no element is at two indices in order, each has one index
 pub once_by_order : {A : Type 0} (xs : List A)

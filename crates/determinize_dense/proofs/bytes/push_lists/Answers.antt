@@ -11,7 +11,8 @@ loop-list-preserved g c =
     ∙ items-at (λ list. list.items) c.args.lists.now c.loop-list-test.true c.list-item.is in
     let inside : c.loop-list.list-index < length lists = omega (arith, c.loop-list-test.true) in record {
       rest = rw c.in_ok-push_list.ensures.list (list_more lists inside _ list c.loop-list.invariant.rest);
-      ids = ids_more lists inside (λ id. id ≤ MAX_ID) c.loop-list.invariant.ids (rw list at c.in_ok-push_list.ensures.ids);
+      ids = ids_more lists inside (λ id. id ≤ MAX_ID) c.loop-list.invariant.ids
+          (rw list at c.in_ok-push_list.ensures.ids);
     }
 
 pub returns-clause-ids : goal.returns-clause-ids

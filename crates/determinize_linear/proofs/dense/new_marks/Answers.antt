@@ -39,7 +39,8 @@ returns-clause-walkable g c =
     let columns : c.alphabet_len-columns.result ≡ c.args.dfa.now.table.class_count + 1
     = c.alphabet_len-columns.ensures.count ∙ ap (λ (n : ℕ). n + 1) c.byte_classes.ensures.count in
     dead_set c.args.dfa.now c.args.text.now _ _ c.new.result c.len-2.ensures.rows c.requires c.len.ensures.units
-    (ap (λ (n : ℕ). n + 1) c.len.ensures.value) columns c.new.ensures.room (rw c.len-2.ensures.value at c.new.ensures.words)
+    (ap (λ (n : ℕ). n + 1) c.len.ensures.value) columns c.new.ensures.room
+    (rw c.len-2.ensures.value at c.new.ensures.words)
     c.new.ensures.first
 
 pub returns-clause-few : goal.returns-clause-few

@@ -15,9 +15,11 @@ loop-walk-init g c =
           (g.C.Counter.total c.args.counter.now) c.args.marks.now c.args.walk.now 0
           (g.C.Counter.total c.args.counter.now)
           (walked_start c.args.text.now c.args.walk.now c.args.marks.now c.requires.walkable
-          (g.C.Counter.total c.args.counter.now) c.requires.below c.requires.start) (Some c.byte.result) c.step-2.new.self
+          (g.C.Counter.total c.args.counter.now) c.requires.below c.requires.start) (Some c.byte.result)
+          c.step-2.new.self
           c.step-2.result c.step-2.ensures (g.C.Counter.total c.count.new.self)
-          (unit-here c.args.text.now c.args.walk.now.at c.byte.result (rw here at c.byte.ensures)) c.len.ensures.units within
+          (unit-here c.args.text.now c.args.walk.now.at c.byte.result (rw here at c.byte.ensures))
+          c.len.ensures.units within
           c.count.ensures.most;
       high = omega (arith, c.step-2.ensures.at, c.len.ensures.value, c.if-walk-len.false, at, within);
       more = omega (arith, c.step-2.ensures.at);
@@ -46,8 +48,10 @@ loop-walk-preserved-then-not-step g c =
           (g.C.Counter.total c.args.counter.now) c.loop-walk.marks c.loop-walk.walk 1 _
           c.loop-walk.invariant.walked (Some c.byte-in-loop-walk.result) c.step-in-loop-walk.new.self
           c.step-in-loop-walk.result c.step-in-loop-walk.ensures (g.C.Counter.total c.count-in-loop-walk.new.self)
-          (unit-here c.args.text.now c.loop-walk.walk.at c.byte-in-loop-walk.result (rw here at c.byte-in-loop-walk.ensures))
-          c.len.ensures.units c.loop-walk.invariant.high c.count-in-loop-walk.ensures.most c.if-not-step.true c.set.new.self
+          (unit-here c.args.text.now c.loop-walk.walk.at c.byte-in-loop-walk.result
+          (rw here at c.byte-in-loop-walk.ensures))
+          c.len.ensures.units c.loop-walk.invariant.high c.count-in-loop-walk.ensures.most c.if-not-step.true
+          c.set.new.self
           (rw (← c.walk-in-loop-walk.view_is) (rw c.offset-offset.ensures at c.set.ensures)) more.1;
       high = omega (arith, c.step-in-loop-walk.ensures.at, more.0);
       more = omega (arith, c.step-in-loop-walk.ensures.at, c.loop-walk.invariant.more);
@@ -69,7 +73,8 @@ loop-walk-preserved g c =
           (g.C.Counter.total c.args.counter.now) c.loop-walk.marks c.loop-walk.walk 1 _
           c.loop-walk.invariant.walked (Some c.byte-in-loop-walk.result) c.step-in-loop-walk.new.self
           c.step-in-loop-walk.result c.step-in-loop-walk.ensures (g.C.Counter.total c.count-in-loop-walk.new.self)
-          (unit-here c.args.text.now c.loop-walk.walk.at c.byte-in-loop-walk.result (rw here at c.byte-in-loop-walk.ensures))
+          (unit-here c.args.text.now c.loop-walk.walk.at c.byte-in-loop-walk.result
+          (rw here at c.byte-in-loop-walk.ensures))
           c.len.ensures.units c.loop-walk.invariant.high c.count-in-loop-walk.ensures.most c.if-not-step.false;
       high = omega (arith, c.step-in-loop-walk.ensures.at, more.0);
       more = omega (arith, c.step-in-loop-walk.ensures.at, c.loop-walk.invariant.more);

@@ -29,13 +29,14 @@ returns-then-walk-len-clause-found g c =
     let l = (goal.at.returns-then-walk-len-clause-found g c).After-len in
     let at : c.walk.inside.at ≡ c.walk_bytes.new.walk.at = ap (λ (w : WalkValue). w.at) c.walk.view_is in
     let none = c.walk_bytes.ensures.ends (omega (arith, at, c.if-walk-len.true, c.len.ensures.value)) in
-    last_found g l c.found.result (c.found.ensures ∙ walked_all c.args.text.now c.new-walk.result c.args.marks.now (can g l)
+    last_found g l c.found.result
+    (c.found.ensures ∙ walked_all c.args.text.now c.new-walk.result c.args.marks.now (can g l)
     (g.C.Counter.total c.args.counter.now) c.walk_bytes.new.marks c.walk_bytes.new.walk 1 _
     c.walk_bytes.ensures.walked none)
 
 -- the walk with its last step
-last : (g : Over) (c : After-step g) → IsWalked c.args.text.now c.new-walk.result c.args.marks.now c.walk_bytes.new.marks
-    c.step.new.self 2 (g.C.Counter.total c.args.counter.now)
+last : (g : Over) (c : After-step g) → IsWalked c.args.text.now c.new-walk.result c.args.marks.now
+    c.walk_bytes.new.marks c.step.new.self 2 (g.C.Counter.total c.args.counter.now)
     (g.C.Counter.total c.count.new.self)
 last g c =
     let at : c.walk.inside.at ≡ c.walk_bytes.new.walk.at = ap (λ (w : WalkValue). w.at) c.walk.view_is in
@@ -74,7 +75,8 @@ pub returns-clause-found : goal.returns-clause-found
 returns-clause-found g c =
     let s = (goal.at.returns-clause-found g c).After-step in
     let l = (goal.at.returns-clause-found g c).After-len in
-    last_found g l c.found-2.result (c.found-2.ensures ∙ walked_all c.args.text.now c.new-walk.result c.args.marks.now (can g l)
+    last_found g l c.found-2.result
+    (c.found-2.ensures ∙ walked_all c.args.text.now c.new-walk.result c.args.marks.now (can g l)
     (g.C.Counter.total c.args.counter.now) c.walk_bytes.new.marks c.step.new.self 2 _
     (last g s) (none g s))
 

@@ -44,7 +44,8 @@ loop-at-preserved g c =
     = rw c.start-base.ensures.value at c.in_ok-push_moved-in-Some.ensures in
     record {
       first = rw items (more_tokens c.args.dfa.now.nfa c.args.input.now (c.args.input.now.start + c.loop-at.at)
-          c.loop-at.found.items (in_haystack c.args.input.now.start c.loop-at.at c.in-Some.next) c.loop-at.invariant.first
+          c.loop-at.found.items (in_haystack c.args.input.now.start c.loop-at.at c.in-Some.next)
+          c.loop-at.invariant.first
           (is_token c.args.dfa.now.nfa c.args.input.now c.of_input-text.result c.loop-at.at c.of_input-text.ensures here
           c.in-Some.next (c.in-Some.ensures.found.longest c.requires.kind) c.if-next-at.true));
       high = c.in-Some.ensures.walked.within;

@@ -7,7 +7,8 @@ pub loop-i-init : goal.loop-i-init
 loop-i-init c = rw c.new-patterns.ensures.items spelled.none
 
 pub loop-i-preserved : goal.loop-i-preserved
-loop-i-preserved c = spells_one_more (λ t. t.now) c.args.flags c.loop-i.patterns.items c.push.new.self.items c.in-Ok.pattern
+loop-i-preserved c = spells_one_more (λ t. t.now) c.args.flags c.loop-i.patterns.items c.push.new.self.items
+    c.in-Ok.pattern
     c.args.texts.now c.loop-i.i _ c.loop-i-test.true (search rules) c.loop-i.invariant c.in-Ok.ensures.spells
 
 pub returns-in-Err-clause-rejected : goal.returns-in-Err-clause-rejected

@@ -18,7 +18,8 @@ loop-piece-preserved c =
     record {
       same = c.in_ok-feed.ensures.same ∙ c.loop-piece.invariant.same;
       stream = subst (λ (ms : List Match). IsStreamOf c.feed.new.self
-          (concat (map (λ piece. piece.now) (take (c.loop-piece.piece-index + 1) c.args.pieces.now))) ms) (sym fed.added)
+          (concat (map (λ piece. piece.now) (take (c.loop-piece.piece-index + 1) c.args.pieces.now))) ms)
+          (sym fed.added)
           (subst (λ (t : List ℕ). IsStreamOf c.feed.new.self t (c.loop-piece.found.items ++ fed.found))
           (sym (one_piece (λ piece. piece.now) c.args.pieces.now c.loop-piece.piece-index _ c.loop-piece-test.true))
           (fed.stream _ _ c.loop-piece.invariant.stream));

@@ -17,7 +17,8 @@ pub returns-in_err-check_states-clause-err : goal.returns-in_err-check_states-cl
 returns-in_err-check_states-clause-err g c =
     let count : c.len-count.result ≡ length c.args.states.items = omega (arith, c.len-count.ensures) in
     let first = after_starts node_of c.args.states.items c.len-count.result c.args.start_anchored
-    c.args.start_unanchored count c.if-count-gt-ID_LIMIT.false (omega (arith, c.as_usize.ensures.value, c.if-as_usize-count.false))
+    c.args.start_unanchored count c.if-count-gt-ID_LIMIT.false
+    (omega (arith, c.as_usize.ensures.value, c.if-as_usize-count.false))
     (omega (arith, c.as_usize-else-as_usize-count.ensures.value, c.if-as_usize-count-2.false))
     c.as_slice.result.now c.as_slice.ensures.value in
     if_err_and c.from_residual.result (λ (e : BuildError). e ≡ c.in_err-check_states.field-0.0)
@@ -36,7 +37,8 @@ accepted : (g : _) (c : goal.After-looks_in-look_set_any g)
 accepted g c =
     let count : c.len-count.result ≡ length c.args.states.items = omega (arith, c.len-count.ensures) in
     after_starts node_of c.args.states.items c.len-count.result c.args.start_anchored
-    c.args.start_unanchored count c.if-count-gt-ID_LIMIT.false (omega (arith, c.as_usize.ensures.value, c.if-as_usize-count.false))
+    c.args.start_unanchored count c.if-count-gt-ID_LIMIT.false
+    (omega (arith, c.as_usize.ensures.value, c.if-as_usize-count.false))
     (omega (arith, c.as_usize-else-as_usize-count.ensures.value, c.if-as_usize-count-2.false))
     c.as_slice.result.now c.as_slice.ensures.value
     ∙ c.in_ok-check_states.ensures.ok

@@ -12,7 +12,8 @@ pub loop-offset-preserved : goal.loop-offset-preserved
 loop-offset-preserved g c =
     let v = c.index-others-offset.result in
     elim c.if-is_match.branch [
-      | then-is_match w ↦ rw w.last-is (last_ended_found c.in-Some.others.now c.loop-offset.offset v c.loop-offset.last _
+      | then-is_match w ↦ rw w.last-is
+          (last_ended_found c.in-Some.others.now c.loop-offset.offset v c.loop-offset.last _
           c.loop-offset-test.true c.index-others-offset.is c.loop-offset.invariant
           w.match_pattern-pattern.result (sym c.is_match.ensures ∙ w.if-is_match.true) w.match_pattern-pattern.ensures)
       | else-is_match w ↦ rw w.last-is (last_ended_kept c.in-Some.others.now c.loop-offset.offset v c.loop-offset.last _

@@ -15,7 +15,8 @@ pub loop-state-preserved : goal.loop-state-preserved
 loop-state-preserved g c =
     let same : c.deref-state-items.result.now ≡ c.args.self.now = c.deref-state-items.ensures.value ∙ c.self.view_is in
     let inside : c.loop-state.state-index < length c.args.self.now = rw same at c.loop-state-test.true in
-    let more = sum_by_more (λ v. heap_bytes v * 2) c.args.self.now c.loop-state.state-index c.state-item.result inside in
+    let more = sum_by_more (λ v. heap_bytes v * 2) c.args.self.now c.loop-state.state-index
+    c.state-item.result inside in
     let item : c.state-item.result ≡ get_or c.args.self.now c.loop-state.state-index c.state-item.result =
     rw same at c.state-item.is in
     let bytes = c.memory_usage-len.ensures.bytes in

@@ -62,4 +62,5 @@ returns g c =
     let n = c.in_ok-at-2.ensures.next in
     over-at (come_twice (c.in_ok-at.ensures.at.come _ (unit-here c.args.text.now))
     (come-next (ahead g d).1 (more g d) n.place n.grows))
-    (inl (rw (ap (λ (p : Place). p.read) n.place) (all_read c.args.text.now (next c.in_ok-at.at.read) (ahead g d).0))) c.found-2.ensures
+    (inl (rw (ap (λ (p : Place). p.read) n.place) (all_read c.args.text.now (next c.in_ok-at.at.read) (ahead g d).0)))
+    c.found-2.ensures

@@ -6,7 +6,8 @@ use Rattle.determinize_lazy.proofs.owned.OwnedLazy.memory_usage.Goals as goal
 
 pub returns-clause-most : goal.returns-clause-most
 returns-clause-most g c =
-    let few = subst (λ (x : LazyValue). cache_bytes c.self.inside.kept.table.states ≤ most_bytes x.limit x.nfa) c.self.view_is
+    let few = subst (λ (x : LazyValue). cache_bytes c.self.inside.kept.table.states ≤ most_bytes x.limit x.nfa)
+    c.self.view_is
     (few_bytes c.self.inside.limit c.self.inside.nfa c.self.inside.kept.table.states c.self.invariant.lazy.within
     c.self.invariant.small) in
     omega (arith, few, c.memory_usage.ensures.value)

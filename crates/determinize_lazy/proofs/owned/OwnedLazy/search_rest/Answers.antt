@@ -10,7 +10,8 @@ use Rattle.determinize_lazy.proofs.owned.OwnedLazy.search_rest.Goals.{After-into
 use Rattle.determinize_lazy.proofs.owned.OwnedLazy.search_rest.Goals as goal
 
 -- the cache is lent as it is
-over : (g : Over) (c : After-into_kept g) → IsOverText c.args.earliest (cache c.args.self.now) c.args.start c.args.text.now
+over : (g : Over) (c : After-into_kept g)
+    → IsOverText c.args.earliest (cache c.args.self.now) c.args.start c.args.text.now
     c.search_rest-found.result (cache c.search_rest-found.new.self)
 over g c =
     let lent : c.lent-lazy.result ≡ c.args.self.now

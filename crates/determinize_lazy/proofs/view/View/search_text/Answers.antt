@@ -36,7 +36,8 @@ returns-then-at-len-clause-reached g c =
     (ap (λ (x : LazyValue). slice_get x.states at.id) c.self.view_is
     ∙ slice_get-get_or c.args.self.now.states at.id dead c.follow_to_end-at.ensures.position.cursor) in
     over-at (cached g d) (elim c.then-at-len.branch [
-      | then-at-len-via-then-at-len w ↦ inl (all_read c.args.text.now (omega (arith, w.if-at-len.true)) c.len.ensures.value)
+      | then-at-len-via-then-at-len w ↦ inl
+          (all_read c.args.text.now (omega (arith, w.if-at-len.true)) c.len.ensures.value)
       | then-at-len-via-else-at-len+then-is_last w ↦
           inr (tag-last c.args.earliest c.tag-tag.result.bits v tag w.is_last.ensures w.if-is_last.true)
     ]) (c.get.ensures ∙ c.or_match.ensures c.follow_to_end-at.ensures.position.unmatched

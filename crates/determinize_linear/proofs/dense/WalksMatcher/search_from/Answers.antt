@@ -17,7 +17,8 @@ walk_from-requires-clause-alike g c = c.requires.ready.1
 pub returns-clause-best : goal.returns-clause-best
 returns-clause-best g c =
     subst (λ (n : Nfa). IsBestAt n c.args.text.now c.args.from
-    (option_map (from_index c.args.from) c.walk_from.result)) c.requires.ready.2.same (c.walk_from.ensures.found.preferred c.requires.ready.0)
+    (option_map (from_index c.args.from) c.walk_from.result)) c.requires.ready.2.same
+    (c.walk_from.ensures.found.preferred c.requires.ready.0)
 
 pub returns-clause-within : goal.returns-clause-within
 returns-clause-within g c = c.walk_from.ensures.walked.within

@@ -65,20 +65,23 @@ returns-clause-ready g c = subst (λ (t : Text). (k : ℕ) → c.loop-text.self.
 
 pub returns-clause-paid : goal.returns-clause-paid
 returns-clause-paid g c = subst (λ (t : Text). g.C.Counter.total c.loop-text.counter
-    + most_left (g.S.Matcher.left c.loop-text.search c.args.nfa.now t) (g.S.Matcher.most c.args.nfa.now + g.S.Matcher.extra)
+    + most_left (g.S.Matcher.left c.loop-text.search c.args.nfa.now t)
+    (g.S.Matcher.most c.args.nfa.now + g.S.Matcher.extra)
     c.loop-text.self ≤ g.C.Counter.total c.args.counter.now
     + most_left (g.S.Matcher.left c.args.search.now c.args.nfa.now t)
     (g.S.Matcher.most c.args.nfa.now + g.S.Matcher.extra) c.args.self.now) c.text-text.ensures
     c.loop-text.invariant.sought.paid
 
 pub returns-in-Some-clause-moved : goal.returns-in-Some-clause-moved
-returns-in-Some-clause-moved g c = rw c.pass.ensures.passed (sought_moved c.args.nfa.now c.text-text.result _ _ _ _ _ _ _ _
+returns-in-Some-clause-moved g c = rw c.pass.ensures.passed
+    (sought_moved c.args.nfa.now c.text-text.result _ _ _ _ _ _ _ _
     _ c.loop-text.self c.loop-text.invariant.sought c.position-in-loop-text.result c.position-in-loop-text.ensures
     (omega (arith, c.position.ensures, c.position-in-loop-text.ensures, c.loop-text-test.true, c.len.ensures.value))
     c.in_ok-found.found c.in_ok-found.ensures.best c.in-Some.next (sym c.pass.ensures.taken ∙ c.in-Some.is))
 
 pub returns-in-Some-clause-paid : goal.returns-in-Some-clause-paid
-returns-in-Some-clause-paid g c = rw c.pass.ensures.passed (subst (λ (t : Text). g.C.Counter.total c.search_from.new.counter
+returns-in-Some-clause-paid g c = rw c.pass.ensures.passed
+    (subst (λ (t : Text). g.C.Counter.total c.search_from.new.counter
     + most_left (g.S.Matcher.left c.search_from.new.self c.args.nfa.now t)
     (g.S.Matcher.most c.args.nfa.now + g.S.Matcher.extra) (passed c.loop-text.self c.in_ok-found.found)
     ≤ g.C.Counter.total c.args.counter.now

@@ -88,7 +88,11 @@ branches-loop-i-preserved g t c =
     let sub = c.index-subs-i.result in
     let entry = get_or_default_zero c.part.new.ids 0 c.index-ids-0.result
     (omega (arith, c.in_ok-part.ensures.compiled.len)) in (
-      rw (map_take_more meaning c.args.subs.now i sub (omega arith) c.index-subs-i.is, c.in_ok-push.ensures.items, entry)
+      rw (
+        map_take_more meaning c.args.subs.now i sub (omega arith) c.index-subs-i.is,
+        c.in_ok-push.ensures.items,
+        entry,
+      )
           (branches_more _ _ _ _ _ _ _ _ c.loop-i.invariant.0 (begun_of _ _ _ _ _ c.in_ok-part.ensures.compiled)),
       omega (arith, c.loop-i.invariant.1, c.in_ok-part.ensures.paid),
     )
@@ -182,7 +186,12 @@ repetition-returns-in_ok-plus-in-None-2-clause-compiled g t c = on_ok_weaker c.c
 
 pub part-returns-then-always_reads-clause-paid : goal.part-returns-then-always_reads-clause-paid
 part-returns-then-always_reads-clause-paid g t c =
-    omega (arith, ap (λ b. length b.states) c.spend.ensures.kept, c.in_ok-spend.ensures.spent, c.in_ok-node.ensures.paid)
+    omega (
+      arith,
+      ap (λ b. length b.states) c.spend.ensures.kept,
+      c.in_ok-spend.ensures.spent,
+      c.in_ok-node.ensures.paid,
+    )
 
 pub part-returns-clause-paid : goal.part-returns-clause-paid
 part-returns-clause-paid g t c =

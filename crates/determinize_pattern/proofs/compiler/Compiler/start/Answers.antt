@@ -21,7 +21,11 @@ loop-i-preserved g c =
     = length-map (take i c.args.patterns.now) meaning ∙ length-take-le i c.args.patterns.now (omega arith) in
     let entry = get_or_default_zero c.part.new.ids 0 c.index-ids-0.result
     (omega (arith, c.in_ok-part.ensures.compiled.len)) in (
-      rw (map_take_more meaning c.args.patterns.now i sub (omega arith) c.index-patterns-i.is, c.in_ok-push.ensures.items, entry)
+      rw (
+        map_take_more meaning c.args.patterns.now i sub (omega arith) c.index-patterns-i.is,
+        c.in_ok-push.ensures.items,
+        entry,
+      )
           (begins_more _ _ _ _ _ _ _ i _ c.loop-i.invariant.0 long (omega (arith, c.requires))
           (begun_of _ _ _ _ _ (rw m at c.in_ok-part.ensures.compiled))),
       omega (arith, c.loop-i.invariant.1, c.in_ok-part.ensures.paid),
@@ -29,7 +33,8 @@ loop-i-preserved g c =
 
 pub returns-clause-begins : goal.returns-clause-begins
 returns-clause-begins g c = IfOk-weaker c.join.result _ _
-    (λ s h. begins_all _ _ _ _ _ _ s (rw (take_all c.loop-i.i c.args.patterns.now (omega arith)) at c.loop-i.invariant.0)
+    (λ s h. begins_all _ _ _ _ _ _ s
+    (rw (take_all c.loop-i.i c.args.patterns.now (omega arith)) at c.loop-i.invariant.0)
     (rw c.deref.ensures.value at h)) c.join.ensures.start
 
 pub returns-clause-terminator : goal.returns-clause-terminator
