@@ -21,7 +21,7 @@ use std::process::Abort;
 
 /// The states of an NFA, its anchored start, and how many states its DFAs have under both match
 /// kinds, with all starts, and the smallest of them.
-struct Row {
+pub struct Row {
     states: &'static str,
     start_anchored: u8,
     all: usize,
@@ -43,9 +43,9 @@ pub const TOKENS: &str = "BU:2,1 B:00-ff>0 U:3,6 B:61-7a>4 BU:3,5 M:0 B:30-39>7 
 pub const FOO_OR_BAR: &str = "\
 BU:2,1 B:00-ff>0 BU:3,8 B:66>4 B:6f>5 B:6f>6 B:30-39>7 BU:6,11 B:62>9 B:61>10 B:72>11 M:0";
 
-/// `\b\w+\b`, and after the prefix `foo[0-9]+|bar`, `(?:\b|%)+`, `[a-z]+` with `[0-9]+`, and
-/// `(?mR)$`. A program that shares no code with this one has counted the states.
-static ROWS: [Row; 5] = [
+/// `\b\w+\b`, and after the prefix `foo[0-9]+|bar`, `(?:\b|%)+`, `[a-z]+` with `[0-9]+`,
+/// `(?mR)$`, and `1[01]{4}`. A program that shares no code with this one has counted the states.
+pub static ROWS: [Row; 6] = [
     Row {
         states: WORD,
         start_anchored: 0,
@@ -85,6 +85,14 @@ static ROWS: [Row; 5] = [
         leftmost_first: 8,
         smallest_all: 8,
         smallest_first: 6,
+    },
+    Row {
+        states: "BU:2,1 B:00-ff>0 B:31>3 B:30-31>4 B:30-31>5 B:30-31>6 B:30-31>7 M:0",
+        start_anchored: 2,
+        all: 72,
+        leftmost_first: 40,
+        smallest_all: 72,
+        smallest_first: 13,
     },
 ];
 
@@ -160,13 +168,20 @@ fn expect_counts<R: Abort + AllocGlobal>(
     same(rt, count_least(rt, nfa, kind, wanted), least);
 }
 
-/// Asserts the numbers of states of a row.
-fn expect_row<R: Abort + AllocGlobal>(rt: &R, row: &Row) {
-    let nfa = nfa(
+/// Returns the NFA of a row.
+fn nfa_of<R: Abort + AllocGlobal>(rt: &R, row: &Row) -> NFA
+    ensures { result.reverse ≡ false }
+{
+    nfa(
         rt,
         row.states,
         StateID::must(usize::from(row.start_anchored)),
-    );
+    )
+}
+
+/// Asserts the numbers of states of a row.
+fn expect_row<R: Abort + AllocGlobal>(rt: &R, row: &Row) {
+    let nfa = nfa_of(rt, row);
     let (all, first) = (MatchKind::All, MatchKind::LeftmostFirst);
     expect_counts(rt, &nfa, all, row.all, row.smallest_all);
     expect_counts(rt, &nfa, first, row.leftmost_first, row.smallest_first);
@@ -378,29 +393,32 @@ fn dense_size_and_text(rt: HostRuntime) {
     expect_size_and_text(&rt, &dfa(&rt, &nfa, MatchKind::All, 5));
 }
 
-/// Minimizes a DFA of five states, which leaves four.
+/// Minimizes the DFA of a row under `MatchKind::LeftmostFirst`.
 fn minimize<R: Abort, A: Allocator + Copy>(
     rt: &R,
     alloc: A,
+    row: &Row,
     dfa: &Dfa<'_, Global, A>,
 ) -> Result<(), AllocError> {
     match dfa.minimize(alloc) {
         Ok(smallest) => {
-            same(rt, (dfa.len(), smallest.len()), (5, 4));
+            same(rt, dfa.len(), row.leftmost_first);
+            same(rt, smallest.len(), row.smallest_first);
             Ok(())
         }
         Err(error) => Err(error),
     }
 }
 
-/// Builds the DFA of `\b\w+\b`, and minimizes it.
+/// Builds the DFA of a row under `MatchKind::LeftmostFirst`, and minimizes it.
 pub fn build_and_minimize<R: Abort + AllocGlobal, A: Allocator + Copy>(
     rt: &R,
     alloc: A,
+    row: &Row,
 ) -> Result<(), AllocError> {
-    let nfa = nfa(rt, WORD, StateID::ZERO);
-    match Dfa::build(alloc, &nfa, MatchKind::All, 5) {
-        Ok(dfa) => minimize(rt, alloc, &dfa),
+    let nfa = nfa_of(rt, row);
+    match Dfa::build(alloc, &nfa, MatchKind::LeftmostFirst, row.leftmost_first) {
+        Ok(dfa) => minimize(rt, alloc, row, &dfa),
         Err(error) => {
             same(rt, error, DfaError::OutOfMemory);
             Err(AllocError)

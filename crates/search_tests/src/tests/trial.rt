@@ -15,8 +15,8 @@ pub enum Trial<'r> {
     SearchPlain(&'r find::Row, usize, &'r find::PlainSearch),
     /// Finds the matches of a row by a `Regex`, through caches of this limit.
     Search(&'r find::Row, usize, &'r find::Search),
-    /// Builds a whole DFA, and minimizes it.
-    Minimize,
+    /// Builds the whole DFA of a row, and minimizes it.
+    Minimize(&'r dense::Row),
 }
 
 impl Trial<'_> {
@@ -32,7 +32,7 @@ impl Trial<'_> {
                 build_error(find::search_plain(rt, alloc, row, limit, search))
             }
             Trial::Search(row, limit, search) => find::search_regex(rt, alloc, row, limit, search),
-            Trial::Minimize => build_error(dense::build_and_minimize(rt, alloc)),
+            Trial::Minimize(row) => build_error(dense::build_and_minimize(rt, alloc, row)),
         }
     }
 }
@@ -74,5 +74,7 @@ pub fn fail_each_in_turn<R: Abort + AllocGlobal>(rt: &R, trial: &Trial<'_>) {
 #[test]
 fn builds(rt: HostRuntime) {
     fail_each_in_turn(&rt, &Trial::Build);
-    fail_each_in_turn(&rt, &Trial::Minimize);
+    for row in &dense::ROWS {
+        fail_each_in_turn(&rt, &Trial::Minimize(row));
+    }
 }
