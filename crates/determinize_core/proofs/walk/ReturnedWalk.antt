@@ -1,12 +1,13 @@
 -- The values of a chain are what a walk returns.
--- Main statements: is_walk, walk_begins, walk_goes_on, walk_ends.
+-- Main statements: is_walk, walk_begins, walk_goes_on, walk_ends, walk_pushes, walk_pushes_last.
 -- Used by: `states_over`, and `walk_between` of the cache.
 -- Idea: the values so far are followed by those over the bytes that are left.
-use Rattle.determinize_core.proofs.Common.{[], All-cons, All-nil, AllResolve, append_assoc, between, chain, drop}
-use Rattle.determinize_core.proofs.Common.{future, get_or, IsAccepted, map, Some, start_value, sym, ◌++◌, ◌+◌, ◌≤◌}
-use Rattle.determinize_core.proofs.Common.{length, List, MatchKind, Nfa, Option, refl, step, Text, Value, ℕ, ◌<◌}
-use Rattle.determinize_core.proofs.Common.{◌∷◌, ◌≡◌}
+use Rattle.determinize_core.proofs.Common.{[], All-cons, All-nil, AllResolve, append_assoc, arith, between, chain}
+use Rattle.determinize_core.proofs.Common.{dead, drop, future, get_or, IsAccepted, length, List, map, MatchKind, Nfa}
+use Rattle.determinize_core.proofs.Common.{Option, refl, Some, start_value, step, sym, take, take_all, take_more, Text}
+use Rattle.determinize_core.proofs.Common.{Value, ℕ, ◌++◌, ◌+◌, ◌<◌, ◌∙◌, ◌∷◌, ◌≡◌, ◌≤◌}
 use Rattle.std.proofs.Common.{All as Each}
+use Rattle.std.proofs.Math.Seq.{get_or-append_seam, take-append_seam}
 use Rattle.std.proofs.lemmas.List.{drop_all, drop_more}
 use Rattle.determinize_core.specs.WholeWalk.{IsWalk}
 use Rattle.determinize_core.proofs.step.Resolving.{start_resolves, step_resolves}
@@ -56,3 +57,26 @@ pub walk_ends : (nfa : Nfa) (kind : MatchKind) (ahead : Option ℕ) (bytes : Lis
     → all ≡ after ++ last ∷ [] → all ≡ states ++ future nfa kind v (map Some (drop i bytes) ++ ahead ∷ [])
 walk_ends nfa kind ahead bytes i v last states after all none is pushed whole =
     rw (whole, pushed, is, drop_all i bytes none) (append_assoc states (v ∷ []) _)
+
+-- a list is its elements before the one at index i, and that one, if it is the last
+up_to_last : (states : List Value) (i : ℕ) → length states ≡ i + 1 → states ≡ take i states ++ get_or states i dead ∷ []
+up_to_last states i count =
+    sym (take_all (i + 1) states (omega (arith, count))) ∙ take_more states i dead (omega (arith, count))
+
+-- the same after a byte and at the end, where the last state so far is in the list
+module _ (nfa : Nfa) (kind : MatchKind) (ahead : Option ℕ) (bytes : List ℕ) (i : ℕ) (states after : List Value)
+    (count : length states ≡ i + 1) where
+  pub walk_pushes : i < length bytes
+      → after ≡ states ++ step nfa kind (get_or states i dead) (Some (get_or bytes i 0)) ∷ []
+      → take (i + 1) after ++ future nfa kind (get_or after (i + 1) dead) (map Some (drop (i + 1) bytes) ++ ahead ∷ [])
+      ≡ take i states ++ future nfa kind (get_or states i dead) (map Some (drop i bytes) ++ ahead ∷ [])
+  walk_pushes within pushed =
+      walk_goes_on nfa kind ahead bytes i (get_or states i dead) (get_or after (i + 1) dead) (take i states)
+      (take (i + 1) after) within (rw (pushed, ← count) (get_or-append_seam states _ [] dead))
+      (rw (pushed, ← count) (take-append_seam states _) ∙ up_to_last states i count)
+
+  pub walk_pushes_last : length bytes ≤ i → after ≡ states ++ step nfa kind (get_or states i dead) ahead ∷ []
+      → after ≡ take i states ++ future nfa kind (get_or states i dead) (map Some (drop i bytes) ++ ahead ∷ [])
+  walk_pushes_last none pushed =
+      walk_ends nfa kind ahead bytes i (get_or states i dead) _ (take i states) states after none refl
+      (up_to_last states i count) pushed

@@ -1,6 +1,6 @@
 //! The start state, and walks: the states of a DFA over a text, from the start state on.
 
-ghost use Rattle.std.specs.Prelude.{◌≡◌, ◌<◌, ◌++◌, ◌∷◌, [], None, length, IfOk, OnOk};
+ghost use Rattle.std.specs.Prelude.{◌≡◌, ◌<◌, ◌+◌, ◌++◌, ◌∷◌, [], None, get_or, length, IfOk, OnOk};
 ghost use Rattle.determinize_below.specs.Nfa.{AllResolve, IsAccepted};
 ghost use Rattle.determinize_below.specs.Semantics.{between};
 ghost use Rattle.determinize_below.specs.Unit.{byte_of};
@@ -8,6 +8,7 @@ ghost use Rattle.determinize_core.specs.Scratch.{IsScratch};
 ghost use Rattle.determinize_core.specs.Step.{IsStartOf, start_value, step};
 ghost use Rattle.determinize_core.specs.LastMatch as matches;
 ghost use Rattle.determinize_core.specs.WholeWalk.{IsWalk};
+ghost use Rattle.determinize_state.specs.Value.{dead};
 
 use crate::determinize::closure::epsilon_closure;
 use crate::determinize::lookbehind::set_lookbehind_from_start;
@@ -138,36 +139,39 @@ fn states_over<N: Allocator, A: Allocator + Copy>(
     ensures { IfOk result (λ states. IsWalk stepper.old.nfa stepper.old.kind start
         (between look_behind text.now look_ahead) states.items) }
 {
-    let mut state = stepper.start(start, look_behind)?;
     let mut states = Vec::new(alloc);
-    for byte in text {
-        state = keep_and_step(stepper, state, Unit::u8(*byte), &mut states)?;
+    states.push(stepper.start(start, look_behind)?)?;
+    for index in 0..text.len() {
+        push_next(stepper, &mut states, index, Unit::u8(text[index]))?;
     }
-    let last = keep_and_step(stepper, state, Unit::from(look_ahead), &mut states)?;
-    states.push(last)?;
+    push_next(stepper, &mut states, text.len(), Unit::from(look_ahead))?;
     Ok(states)
 }
 
-/// Returns the state after a state over a unit, and pushes the state itself.
+/// Pushes the state that follows the last one over a unit.
 ///
-/// Inlined: with a call, which moves both states once more, a walk takes up to 1.6 times as long.
+/// - `last` is the index of the last state.
+///
+/// Inlined, and the last state is read where it is, since each move of a state takes time.
 #[inline(always)]
-fn keep_and_step<N: Allocator, A: Allocator + Copy>(
+fn push_next<N: Allocator, A: Allocator + Copy>(
     stepper: &mut Stepper<'_, N, A>,
-    state: State<A>,
-    unit: Unit,
     states: &mut Vec<State<A>, A>,
-) -> Result<State<A>, AllocError>
-    requires { AllResolve stepper.old.nfa state.states }
-    ensures ok { IfOk result
-        (λ after. after ≡ step stepper.old.nfa stepper.old.kind state (byte_of unit)) }
-    ensures resolve { IfOk result (λ after. AllResolve stepper.old.nfa after.states) }
-    ensures pushed { OnOk result (states.new.items ≡ states.old.items ++ state ∷ []) }
+    last: usize,
+    unit: Unit,
+) -> Result<(), AllocError>
+    requires last { length states.old.items ≡ last + 1 }
+    requires resolve { AllResolve stepper.old.nfa (get_or states.old.items last dead).states }
+    ensures pushed { OnOk result (states.new.items ≡ states.old.items
+        ++ step stepper.old.nfa stepper.old.kind (get_or states.old.items last dead) (byte_of unit)
+        ∷ []) }
+    ensures resolve { OnOk result
+        (AllResolve stepper.old.nfa (get_or states.new.items (last + 1) dead).states) }
     ensures unchanged { stepper.new ≡ stepper.old }
 {
-    let next = stepper.next(&state, unit)?;
-    states.push(state)?;
-    Ok(next)
+    let next = stepper.next(&states[last], unit)?;
+    states.push(next)?;
+    Ok(())
 }
 
 /// Returns the last match of a walk: the first pattern of the last state that lists one, and the
