@@ -1,6 +1,6 @@
 -- The distance of a row to one that lists patterns, and rows of different distance.
 -- Main statements: apart-distance, shortened.
--- Used by: `shorten`, `partition`.
+-- Used by: `shorten`, `first_blocks`.
 -- Idea: where one of two rows comes to a row that lists patterns first, the other lists none.
 use Rattle.determinize_dense.proofs.Common.{All, All-cons, All-head, All-tail, AreApart, AreDistances}
 use Rattle.determinize_dense.proofs.Common.{AreDistancesSoFar, AreEqual, arith, by_cases, cases_eq, cases_lt, column_of}

@@ -1,12 +1,12 @@
 -- Partitions of the rows of a table, which are split until each column is settled.
 -- Main statements: entry-below, partition-first, partition-apart, partition-split, refined-more, refined-fewer.
--- Used by: Offsets, `entry`, `partition`, `split_by` and `refine`.
+-- Used by: Distances, Offsets, `entry`, `first_blocks`, `split_by` and `refine`.
 -- Idea: rows that are split were apart, or have entries in a column that were apart.
 use Rattle.determinize_dense.proofs.Common.{All-cons, All-nil, AreApart, AreEqual, AreFirstAlike, AreTargets, arith}
 use Rattle.determinize_dense.proofs.Common.{Blocks, by_cases, cases_eq, entry, get_or-replicate, IsFilled, IsPartition}
-use Rattle.determinize_dense.proofs.Common.{IsRefined, IsSplit, IsSplitBy, IsUnit, length, length-replicate, List}
-use Rattle.determinize_dense.proofs.Common.{patterns_at, replicate, slice_index, Table, [], ℕ, ◌+◌, ◌<◌, ◌∙◌, ◌∷◌, ◌≡◌}
-use Rattle.determinize_dense.proofs.Common.{◌≤◌}
+use Rattle.determinize_dense.proofs.Common.{IsRefined, IsSettled, IsSplit, IsSplitBy, IsUnit, length}
+use Rattle.determinize_dense.proofs.Common.{length-replicate, List, patterns_at, refl, replicate, slice_index, Table}
+use Rattle.determinize_dense.proofs.Common.{[], ℕ, ◌+◌, ◌<◌, ◌∙◌, ◌∷◌, ◌≡◌, ◌≤◌}
 
 -- the row after a row in a column is a row
 pub entry-below : (d : Table) → IsFilled d → (r c : ℕ) → r < length d.patterns → c < d.class_count + 1
@@ -66,6 +66,10 @@ partition-split d is p q c values inside part targets split = record {
   more = split.more;
   stays = grind (arith, split.stays, split.together);
 }
+
+-- a pass over a column in which the blocks are settled
+pub partition-settled : {d : Table} {p : Blocks} {c : ℕ} → IsPartition d p → IsSettled d p c → IsSplitBy d c p p
+partition-settled part settled = record { partition = part; more = omega arith; stays = λ same. (refl, settled) }
 
 -- the first pass of a cycle
 pub refined-first : {d : Table} {p q : Blocks} → IsSplitBy d 0 p q → IsRefined d 1 p q

@@ -6,8 +6,8 @@
 //! blocks of its entries in the column. When a cycle of passes over all columns splits no block,
 //! each block becomes one row.
 
-ghost use Rattle.std.specs.Prelude.{◌≡◌, ℕ, ◌<◌, ◌≤◌, ◌+◌, IfOk, IsTrue, false, length, slice_index, sum_by};
-ghost use Rattle.determinize_dense.specs.Private.Minimizing.{AreDistances, AreFirstAlike, AreMergedRows, AreDistancesSoFar, entry, IsGrouping, IsMerged, IsPartition, IsDistanceSoFar, IsRefined, IsShort, IsSplitBy, IsStable};
+ghost use Rattle.std.specs.Prelude.{◌≡◌, ◌↔◌, ℕ, ◌<◌, ◌≤◌, ◌+◌, IfOk, IsTrue, false, length, slice_index, sum_by};
+ghost use Rattle.determinize_dense.specs.Private.Minimizing.{AreDistances, AreFirstAlike, AreMergedRows, AreDistancesSoFar, entry, IsGrouping, IsMerged, IsPartition, IsDistanceSoFar, IsRefined, IsSettled, IsShort, IsSplitBy, IsStable};
 
 use crate::partition::Partition;
 use crate::rows::Rows;
@@ -103,17 +103,36 @@ impl<'n, N: Allocator, A: Allocator + Copy> Rows<'n, N, A> {
         Ok(distances)
     }
 
-    /// Splits the blocks by their entries in a column.
+    /// Returns whether, in a column, the entries of the rows of each block are in one block.
+    fn is_settled(&self, parts: &Partition<A>, column: usize) -> bool
+        requires parts { IsPartition self.now.table parts.now }
+        requires column { column < self.now.table.class_count + 1 }
+        ensures { IsTrue result ↔ IsSettled self.now.table parts.now column }
+    {
+        for row in 0..self.len() {
+            let member = parts.members()[parts.block(row)];
+            let target = parts.block(self.entry(row, column));
+            if target != parts.block(self.entry(member, column)) {
+                return false;
+            }
+        }
+        true
+    }
+
+    /// Splits the blocks by their entries in a column. Does not allocate if none is split.
     fn split_by(
         &self,
         alloc: A,
-        parts: &Partition<A>,
+        parts: Partition<A>,
         column: usize,
     ) -> Result<Partition<A>, AllocError>
-        requires parts { IsPartition self.now.table parts.now }
+        requires parts { IsPartition self.now.table parts }
         requires column { column < self.now.table.class_count + 1 }
-        ensures { IfOk result (λ p. IsSplitBy self.now.table column parts.now p) }
+        ensures { IfOk result (λ p. IsSplitBy self.now.table column parts p) }
     {
+        if self.is_settled(&parts, column) {
+            return Ok(parts);
+        }
         let mut targets = Vec::with_capacity(alloc, self.len())?;
         for row in 0..self.len() {
             targets.push(parts.block(self.entry(row, column)))?;
@@ -122,16 +141,27 @@ impl<'n, N: Allocator, A: Allocator + Copy> Rows<'n, N, A> {
     }
 
     /// Splits the blocks by their entries in each column.
-    fn refine(&self, alloc: A, parts: &Partition<A>) -> Result<Partition<A>, AllocError>
-        requires { IsPartition self.now.table parts.now }
+    fn refine(&self, alloc: A, parts: Partition<A>) -> Result<Partition<A>, AllocError>
+        requires { IsPartition self.now.table parts }
         ensures { IfOk result
-            (λ p. IsRefined self.now.table (self.now.table.class_count + 1) parts.now p) }
+            (λ p. IsRefined self.now.table (self.now.table.class_count + 1) parts p) }
     {
         let mut refined = self.split_by(alloc, parts, 0)?;
         for column in 1..self.classes.alphabet_len() {
-            refined = self.split_by(alloc, &refined, column)?;
+            refined = self.split_by(alloc, refined, column)?;
         }
         Ok(refined)
+    }
+
+    /// Returns the first blocks: rows that list the same patterns and have the same distance.
+    fn first_blocks(&self, alloc: A) -> Result<Partition<A>, AllocError>
+        ensures { IfOk result (λ p. IsPartition self.now.table p) }
+    {
+        let whole = Partition::whole(alloc, self.len())?;
+        let first_rows = self.first_rows(alloc)?;
+        let listing = whole.split(alloc, first_rows.as_slice())?;
+        let distances = self.distances(alloc)?;
+        listing.split(alloc, distances.as_slice())
     }
 
     /// Returns the blocks of rows that list the same patterns along all units.
@@ -139,17 +169,13 @@ impl<'n, N: Allocator, A: Allocator + Copy> Rows<'n, N, A> {
         ensures partition { IfOk result (λ p. IsPartition self.now.table p) }
         ensures stable { IfOk result (λ p. IsStable self.now.table p) }
     {
-        let whole = Partition::whole(alloc, self.len())?;
-        let first_rows = self.first_rows(alloc)?;
-        let listing = whole.split(alloc, first_rows.as_slice())?;
-        let distances = self.distances(alloc)?;
-        let mut parts = listing.split(alloc, distances.as_slice())?;
+        let mut parts = self.first_blocks(alloc)?;
         loop {
-            let refined = self.refine(alloc, &parts)?;
-            if refined.len() == parts.len() {
-                return Ok(refined);
+            let count = parts.len();
+            parts = self.refine(alloc, parts)?;
+            if parts.len() == count {
+                return Ok(parts);
             }
-            parts = refined;
         }
     }
 

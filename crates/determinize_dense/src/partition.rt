@@ -125,21 +125,20 @@ impl<A: Allocator + Copy> Partition<A> {
 
     /// Splits each block by the values of its rows. A block keeps its number and its member, and
     /// the rows with the value of the member.
-    pub(crate) fn split(&self, alloc: A, values: &[usize]) -> Result<Partition<A>, AllocError>
-        requires { length values.now ≡ length self.now.numbers }
-        ensures { IfOk result (λ p. IsSplit values.now self.now p) }
+    pub(crate) fn split(self, alloc: A, values: &[usize]) -> Result<Partition<A>, AllocError>
+        requires { length values.now ≡ length self.numbers }
+        ensures { IfOk result (λ p. IsSplit values.now self p) }
     {
-        let mut blocks = Vec::with_capacity(alloc, self.blocks.len())?;
-        let mut members = self.members.clone()?;
+        let Partition {
+            mut blocks,
+            mut members,
+        } = self;
         let mut numbers = HashMap::new(alloc);
-        for row in 0..self.blocks.len() {
-            let (block, value) = (self.blocks[row], values[row]);
-            let number = if value == values[self.members[block]] {
-                block
-            } else {
-                number_of(&mut numbers, &mut members, (block, value), row)?
-            };
-            blocks.push(number)?;
+        for row in 0..blocks.len() {
+            let (block, value) = (blocks[row], values[row]);
+            if value != values[members[block]] {
+                blocks[row] = number_of(&mut numbers, &mut members, (block, value), row)?;
+            }
         }
         Ok(Partition { blocks, members })
     }
