@@ -1,6 +1,6 @@
 -- Scans by tables.
 -- Main statements: zeros-more, zeros-stay, stays-on, staying-none, all-staying-none, staying-at.
--- Used by: `are_zeros`, `leaving`, `all_leaving` and `scan_by_table`.
+-- Used by: `are_zeros`, `leaving`, `all_leaving`, `scan_by_table` and `scan`.
 -- Idea: a byte with a 0 leads the row to itself, and the or of some numbers is 0 only if each of them is.
 use Rattle.determinize_dense.proofs.Common.{All, arith, by_cases, cases_lt, get_or_from_slice_get, IsUnit, List}
 use Rattle.determinize_dense.proofs.Common.{slice_get, slice_get_within, slice_index, Some, StaysOver, sym, Table, Text}

@@ -177,8 +177,8 @@ impl<'n, N: Allocator, A: Allocator + Copy> Dfa<'n, N, A> {
         read
     }
 
-    /// Returns what `scan` returns, for a scan that is not over after a few bytes: by the table of
-    /// the row, if it has one, and then byte by byte.
+    /// Returns the index of the first byte from `read` on that leaves a row, or the length of the
+    /// text: by the table of the row, if it has one, and then byte by byte.
     ///
     /// - `row` is the offset of the row, and `read` the number of bytes read before.
     #[inline(never)]
@@ -192,22 +192,25 @@ impl<'n, N: Allocator, A: Allocator + Copy> Dfa<'n, N, A> {
     }
 
     /// Returns the index of the first byte from `read` on that leaves a row, or the length of the
-    /// text.
+    /// text, but `read` where a scan by the table of the row would be over at once: fewer than
+    /// eight bytes are left, or one of the next eight leaves the row.
     ///
     /// - `row` is the offset of the row, and `read` the number of bytes read before.
     ///
-    /// The first bytes are read without a table, since most scans are over after a few.
+    /// Most scans are over after a few bytes, and a loop over these would end at a jump that is
+    /// hard to predict.
     #[inline(always)]
     pub(crate) fn scan(&self, row: usize, text: &Text<'_>, read: usize) -> usize
         requires row { IsOffset self.now.table row }
         requires read { read ≤ length text.now.bytes }
         ensures { IsScan self.now.table row text.now read (length text.now.bytes) result }
     {
-        let few = text.len().min(read.saturating_add(WORTHWHILE));
-        let first = self.scan_upto(row, text, read, few);
-        if first - read < WORTHWHILE {
-            return first;
+        let Some(table) = self.leaving(row) else {
+            return self.scan_upto(row, text, read, text.len());
+        };
+        if text.len() - read < AT_ONCE || !are_zeros(table, text, read) {
+            return read;
         }
-        self.scan_far(row, text, first)
+        self.scan_far(row, text, read + AT_ONCE)
     }
 }
