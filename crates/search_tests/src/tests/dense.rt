@@ -19,15 +19,29 @@ use failing_alloc::FailingAllocator;
 use std::alloc::{AllocError, Allocator, Global};
 use std::process::Abort;
 
-/// The states of an NFA, its anchored start, and how many states its DFAs have under both match
-/// kinds, with all starts, and the smallest of them.
+/// The numbers of states of a whole DFA with all starts, and of the smallest one.
+#[derive(Clone, Copy)]
+struct Counts {
+    len: usize,
+    least: usize,
+}
+
+/// The states of an NFA, its anchored start, and the counts of its DFAs under both match kinds.
 pub struct Row {
     states: &'static str,
     start_anchored: u8,
-    all: usize,
-    leftmost_first: usize,
-    smallest_all: usize,
-    smallest_first: usize,
+    all: Counts,
+    leftmost_first: Counts,
+}
+
+impl Row {
+    /// Returns the counts under a match kind.
+    fn counts(&self, kind: MatchKind) -> Counts {
+        match kind {
+            MatchKind::All => self.all,
+            MatchKind::LeftmostFirst => self.leftmost_first,
+        }
+    }
 }
 
 /// The states of `\b\w+\b`.
@@ -49,50 +63,38 @@ pub static ROWS: [Row; 6] = [
     Row {
         states: WORD,
         start_anchored: 0,
-        all: 5,
-        leftmost_first: 5,
-        smallest_all: 4,
-        smallest_first: 4,
+        all: Counts { len: 5, least: 4 },
+        leftmost_first: Counts { len: 5, least: 4 },
     },
     Row {
         states: FOO_OR_BAR,
         start_anchored: 2,
-        all: 23,
-        leftmost_first: 19,
-        smallest_all: 23,
-        smallest_first: 17,
+        all: Counts { len: 23, least: 23 },
+        leftmost_first: Counts { len: 19, least: 17 },
     },
     Row {
         states: "BU:4,1 B:00-ff>0 L:WordAscii>5 B:25>5 BU:2,3 BU:4,6 M:0",
         start_anchored: 4,
-        all: 12,
-        leftmost_first: 9,
-        smallest_all: 12,
-        smallest_first: 8,
+        all: Counts { len: 12, least: 12 },
+        leftmost_first: Counts { len: 9, least: 8 },
     },
     Row {
         states: TOKENS,
         start_anchored: 2,
-        all: 17,
-        leftmost_first: 11,
-        smallest_all: 17,
-        smallest_first: 9,
+        all: Counts { len: 17, least: 17 },
+        leftmost_first: Counts { len: 11, least: 9 },
     },
     Row {
         states: "BU:2,1 B:00-ff>0 L:EndCRLF>3 M:0",
         start_anchored: 2,
-        all: 10,
-        leftmost_first: 8,
-        smallest_all: 8,
-        smallest_first: 6,
+        all: Counts { len: 10, least: 8 },
+        leftmost_first: Counts { len: 8, least: 6 },
     },
     Row {
         states: "BU:2,1 B:00-ff>0 B:31>3 B:30-31>4 B:30-31>5 B:30-31>6 B:30-31>7 M:0",
         start_anchored: 2,
-        all: 72,
-        leftmost_first: 40,
-        smallest_all: 72,
-        smallest_first: 13,
+        all: Counts { len: 72, least: 72 },
+        leftmost_first: Counts { len: 40, least: 13 },
     },
 ];
 
@@ -152,20 +154,15 @@ fn expect_count<R: Abort + AllocGlobal>(
     same(rt, count(rt.alloc(), nfa, kind, limit), wanted);
 }
 
-/// Asserts that a DFA has this number of states: it is built with this limit and with one more,
-/// but not with one less. Asserts that the smallest one has the other number.
-fn expect_counts<R: Abort + AllocGlobal>(
-    rt: &R,
-    nfa: &NFA,
-    kind: MatchKind,
-    wanted: usize,
-    least: usize,
-) {
-    let (fewer, more) = (wanted.saturating_sub(1), wanted.saturating_add(1));
+/// Asserts that a DFA has `len` states, and the smallest one `least`: it is built with this limit
+/// and with one more, but not with one less.
+fn expect_counts<R: Abort + AllocGlobal>(rt: &R, nfa: &NFA, kind: MatchKind, wanted: Counts) {
+    let Counts { len, least } = wanted;
+    let (fewer, more) = (len.saturating_sub(1), len.saturating_add(1));
     expect_count(rt, nfa, kind, fewer, Err(DfaError::TooManyStates));
-    expect_count(rt, nfa, kind, wanted, Ok(wanted));
-    expect_count(rt, nfa, kind, more, Ok(wanted));
-    same(rt, count_least(rt, nfa, kind, wanted), least);
+    expect_count(rt, nfa, kind, len, Ok(len));
+    expect_count(rt, nfa, kind, more, Ok(len));
+    same(rt, count_least(rt, nfa, kind, len), least);
 }
 
 /// Returns the NFA of a row.
@@ -182,9 +179,8 @@ fn nfa_of<R: Abort + AllocGlobal>(rt: &R, row: &Row) -> NFA
 /// Asserts the numbers of states of a row.
 fn expect_row<R: Abort + AllocGlobal>(rt: &R, row: &Row) {
     let nfa = nfa_of(rt, row);
-    let (all, first) = (MatchKind::All, MatchKind::LeftmostFirst);
-    expect_counts(rt, &nfa, all, row.all, row.smallest_all);
-    expect_counts(rt, &nfa, first, row.leftmost_first, row.smallest_first);
+    expect_counts(rt, &nfa, MatchKind::All, row.all);
+    expect_counts(rt, &nfa, MatchKind::LeftmostFirst, row.leftmost_first);
 }
 
 #[test]
@@ -393,32 +389,32 @@ fn dense_size_and_text(rt: HostRuntime) {
     expect_size_and_text(&rt, &dfa(&rt, &nfa, MatchKind::All, 5));
 }
 
-/// Minimizes the DFA of a row under `MatchKind::LeftmostFirst`.
+/// Minimizes a DFA, and asserts both numbers of states.
 fn minimize<R: Abort, A: Allocator + Copy>(
     rt: &R,
     alloc: A,
-    row: &Row,
     dfa: &Dfa<'_, Global, A>,
+    wanted: Counts,
 ) -> Result<(), AllocError> {
     match dfa.minimize(alloc) {
         Ok(smallest) => {
-            same(rt, dfa.len(), row.leftmost_first);
-            same(rt, smallest.len(), row.smallest_first);
+            same(rt, (dfa.len(), smallest.len()), (wanted.len, wanted.least));
             Ok(())
         }
         Err(error) => Err(error),
     }
 }
 
-/// Builds the DFA of a row under `MatchKind::LeftmostFirst`, and minimizes it.
+/// Builds the DFA of a row under a match kind, and minimizes it.
 pub fn build_and_minimize<R: Abort + AllocGlobal, A: Allocator + Copy>(
     rt: &R,
     alloc: A,
     row: &Row,
+    kind: MatchKind,
 ) -> Result<(), AllocError> {
-    let nfa = nfa_of(rt, row);
-    match Dfa::build(alloc, &nfa, MatchKind::LeftmostFirst, row.leftmost_first) {
-        Ok(dfa) => minimize(rt, alloc, row, &dfa),
+    let (nfa, wanted) = (nfa_of(rt, row), row.counts(kind));
+    match Dfa::build(alloc, &nfa, kind, wanted.len) {
+        Ok(dfa) => minimize(rt, alloc, &dfa, wanted),
         Err(error) => {
             same(rt, error, DfaError::OutOfMemory);
             Err(AllocError)

@@ -1,7 +1,7 @@
 //! What is done while each allocation fails in turn.
 
 use crate::tests::{dense, find, same, uses};
-use determinize_below::BuildError;
+use determinize_below::{BuildError, MatchKind};
 use failing_alloc::{FailingAllocator, Outcome, fail_each_allocation};
 use std::alloc::{AllocError, Allocator, Global};
 use std::process::Abort;
@@ -15,8 +15,8 @@ pub enum Trial<'r> {
     SearchPlain(&'r find::Row, usize, &'r find::PlainSearch),
     /// Finds the matches of a row by a `Regex`, through caches of this limit.
     Search(&'r find::Row, usize, &'r find::Search),
-    /// Builds the whole DFA of a row, and minimizes it.
-    Minimize(&'r dense::Row),
+    /// Builds the whole DFA of a row under a match kind, and minimizes it.
+    Minimize(&'r dense::Row, MatchKind),
 }
 
 impl Trial<'_> {
@@ -32,7 +32,9 @@ impl Trial<'_> {
                 build_error(find::search_plain(rt, alloc, row, limit, search))
             }
             Trial::Search(row, limit, search) => find::search_regex(rt, alloc, row, limit, search),
-            Trial::Minimize(row) => build_error(dense::build_and_minimize(rt, alloc, row)),
+            Trial::Minimize(row, kind) => {
+                build_error(dense::build_and_minimize(rt, alloc, row, kind))
+            }
         }
     }
 }
@@ -75,6 +77,7 @@ pub fn fail_each_in_turn<R: Abort + AllocGlobal>(rt: &R, trial: &Trial<'_>) {
 fn builds(rt: HostRuntime) {
     fail_each_in_turn(&rt, &Trial::Build);
     for row in &dense::ROWS {
-        fail_each_in_turn(&rt, &Trial::Minimize(row));
+        fail_each_in_turn(&rt, &Trial::Minimize(row, MatchKind::All));
+        fail_each_in_turn(&rt, &Trial::Minimize(row, MatchKind::LeftmostFirst));
     }
 }
