@@ -9,10 +9,17 @@ loop-at-init g c = record {
   within = c.requires.read;
 }
 
-pub loop-at-preserved : goal.loop-at-preserved
-loop-at-preserved g c = record {
-  come = come-above c.loop-at.invariant.come c.over_byte-row.ensures.read c.requires.stop
+pub loop-preserved : goal.loop-preserved
+loop-preserved g c = record {
+  come = come-above c.loop.invariant.come c.over_byte-row.ensures.read c.requires.stop
       (omega (arith, c.if-row-stop.false));
-  more = omega (arith, c.loop-at.invariant.more);
-  within = omega (arith, c.loop-at-test.true);
+  read = omega (arith, c.loop.invariant.read);
+}
+
+pub loop-at-2-preserved : goal.loop-at-2-preserved
+loop-at-2-preserved g c = record {
+  come = come-above c.loop-at-2.invariant.come c.over_byte-row-in-loop-at-2.ensures.read c.requires.stop
+      (omega (arith, c.if-row-stop-2.false));
+  more = omega (arith, c.loop-at-2.invariant.more);
+  within = omega (arith, c.loop-at-2-test.true);
 }
