@@ -16,5 +16,5 @@ pub use Rattle.determinize_table.specs.Rows.{AreRows, IsStored, Leads, StoredTab
 pub use Rattle.determinize_table.specs.Changes.{IsInterned, IsKept, IsWritten}
 pub use Rattle.determinize_table.specs.Tags.{tag_in, tag_of}
 pub use Rattle.determinize_table.specs.Stored.{column, entry_at, is_unit, state_at, table_in, target_in}
-pub use Rattle.determinize_table.specs.Table.{empty, in_one_class, index_in, IsTable, same_unit, shares, Table}
-pub use Rattle.determinize_table.specs.Table.{with_target, with_transition, with_value}
+pub use Rattle.determinize_table.specs.Table.{empty, in_one_class, in_range, index_in, IsTable, same_unit, shares}
+pub use Rattle.determinize_table.specs.Table.{Table, with_target, with_transition, with_value}

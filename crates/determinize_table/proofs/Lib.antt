@@ -1,6 +1,6 @@
 pub mod Changes
+pub mod ClassRuns
 pub mod Common
-pub mod Lasts
 pub mod TableRows
 pub mod Transitions
 pub mod Values

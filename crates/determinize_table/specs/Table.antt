@@ -34,6 +34,11 @@ in_one_class p (Some b) None = false
 in_one_class p (Some b) (Some c) =
     nat_lt b 256 && nat_lt c 256 && nat_eq (class_of p b) (class_of p c)
 
+-- whether a unit is a byte from `first` up to, but not including, `end`, which is at most 256
+abbrev pub in_range : ℕ → ℕ → Option ℕ → Bool
+in_range first end None = false
+in_range first end (Some b) = nat_le first b && nat_lt b end
+
 -- whether a computed step over a unit is cached for another unit: for the unit itself and, if there
 -- are classes, for each byte of its class
 abbrev pub shares : Option Classes → Option ℕ → Option ℕ → Bool

@@ -13,7 +13,7 @@ ghost use Rattle.determinize_table.specs.Cursors.{IsCursor, IsIndexBefore, curso
 ghost use Rattle.determinize_table.specs.CacheBytes.{cache_bytes};
 ghost use Rattle.determinize_table.specs.Rows.{IsEmpty, IsTarget, table_of};
 ghost use Rattle.determinize_table.specs.Stored.{column, is_unit};
-ghost use Rattle.determinize_table.specs.Table.{in_one_class, keep, shares, with_transition, with_value};
+ghost use Rattle.determinize_table.specs.Table.{in_one_class, in_range, keep, shares, with_transition, with_value};
 ghost use Rattle.determinize_table.specs.Tags.{tag_in, tag_of};
 
 use crate::spans::ClassSpans;
@@ -279,7 +279,20 @@ impl<A: Allocator + Copy> TransitionTable<A> {
         self.rows[source.row() + column(unit)] = target.entry();
     }
 
-    /// Caches the transitions between two cached states over each byte of the class of a byte.
+    /// Caches the transitions between two cached states over each byte from `first` up to, but not
+    /// including, `end`.
+    fn write_range(&mut self, source: LazyStateId, first: usize, end: usize, target: LazyStateId)
+        requires source { source < length self.old.states }
+        requires target { target < length self.old.states }
+        requires range { first ≤ end × end ≤ 256 }
+        ensures { IsWritten (in_range first end) self.old source target self.new }
+    {
+        let row = source.row();
+        self.rows[row + first..row + end].fill(target.entry());
+    }
+
+    /// Caches the transitions between two cached states over each byte of the class of a byte, run
+    /// by run.
     #[inline(always)]
     fn write_class(
         &mut self,
@@ -292,10 +305,14 @@ impl<A: Allocator + Copy> TransitionTable<A> {
         requires target { target < length self.old.states }
         ensures { IsWritten (in_one_class spans.now (Some byte)) self.old source target self.new }
     {
-        for other in spans.start(byte)..spans.end(byte) {
-            if spans.are_in_one(byte, other as u8) {
-                self.write(source, Some(other as u8), target);
+        let end = spans.end(byte);
+        let mut first = spans.start(byte);
+        while first < end {
+            let run_end = spans.run_end(first as u8);
+            if spans.are_in_one(byte, first as u8) {
+                self.write_range(source, first, run_end, target);
             }
+            first = run_end;
         }
     }
 
