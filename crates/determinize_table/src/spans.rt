@@ -72,8 +72,8 @@ impl ClassSpans {
         usize::from(self.lasts[usize::from(self.classes.get(byte))]) + 1
     }
 
-    /// Returns the number after the last byte of the run that begins with a byte, or the number
-    /// after the byte itself if no run begins with it.
+    /// Returns the number after the last byte of the run that begins with a byte, or after the byte
+    /// itself if none does. The clauses let a run end early, which would only take longer.
     #[inline(always)]
     pub(crate) fn run_end(&self, byte: u8) -> usize
         ensures limit { byte < result × result ≤ 256 }
