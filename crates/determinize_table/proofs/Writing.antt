@@ -87,8 +87,8 @@ module _ (old : StoredTable) (is : IsStored old.states old.rows) (s t first : �
   range-next n small =
       let place : s * 258 + (first + n) ≡ s * 258 + first + n = omega arith in
       let more : n + 1 ≡ suc n = omega arith in
-      rw place (fill_from_more old.rows (s * 258 + first) n (t * 258) (omega (arith, source, is.size, small)))
-      ∙ ap (λ m. (with_range m).rows) more
+      let e = fill_from_more old.rows (s * 258 + first) n (t * 258) (omega (arith, source, is.size, small)) in
+      cc
 
   range-with : (n : ℕ) (y : Option ℕ)
       → (in_range first (first + n) y || shares None (Some (first + n)) y) ≡ in_range first (first + suc n) y
