@@ -1,12 +1,12 @@
 -- The parts of a step make the step.
--- Main statements: step_tries, entered_by, tries_are, left-none, tries-none, stepped.
--- Used by: `enter_targets`, `step_over`, `reopen`.
+-- Main statements: step_tries, recorded_by, entered_by, tries_are, left-none, tries-none, stepped.
+-- Used by: `enter`, `enter_targets`, `step_over`, `reopen`.
 -- Idea: flags depend on whether a state is entered, and that on whether there is a target.
 use Rattle.determinize_core.proofs.Common.{[], add-one, added, added_one, AllResolve, ap, append_assoc, arith}
 use Rattle.determinize_core.proofs.Common.{Assertion, begun, Bool, by_test, edges_in_all, false, fold, from_word_after}
 use Rattle.determinize_core.proofs.Common.{half_crlf_after, has, have_after, is_capture, is_nonempty, IsAccepted}
-use Rattle.determinize_core.proofs.Common.{length, List, MatchKind, member, nat_eq, nat_tests, Nfa, Option}
-use Rattle.determinize_core.proofs.Common.{patterns_of, patterns_read, reach, reach_past, refl, same_decides, step, sym}
+use Rattle.determinize_core.proofs.Common.{length, List, MatchKind, member, nat_eq, nat_tests, Nfa, Option, patterns_of}
+use Rattle.determinize_core.proofs.Common.{patterns_read, reach, reach_past, recorded, refl, same_decides, step, sym}
 use Rattle.determinize_core.proofs.Common.{tables_of, targets, tries, tries_left, tries_of, true, true≢false, Value}
 use Rattle.determinize_core.proofs.Common.{without, working_list, ℕ, ◌*◌, ◌+◌, ◌<◌, ◌==◌, ◌∙◌, ◌∷◌, ◌≡◌, ◌≤◌}
 use Rattle.std.proofs.Common.{All as Each}
@@ -50,28 +50,26 @@ pub have_left : (nfa : Nfa) (v now : Value) (xs : List ℕ) → now ≡ fold (ad
     → now.look_have ≡ v.look_have
 have_left nfa v now xs e = ap (λ (w : Value). w.look_have) (e ∙ fold-added nfa v xs)
 
-module _ (nfa : Nfa) (u : Option ℕ) (have : ℕ) (have_is : have ≡ have_after (tables_of nfa) u) (held row : List ℕ)
-    (held_is : held ≡ []) where
-  -- what is recorded from one or more targets, with this look-have, is what the unit leaves
-  pub entered_by : (flagged now : Value) (patterns : List ℕ)
-      → flagged ≡ begun (from_word_after (tables_of nfa) u) (half_crlf_after (tables_of nfa) u) 0 patterns
-      → is_nonempty row ≡ true → now ≡ fold (added_one nfa) flagged (reach_past nfa (has have) held row)
+module _ (nfa : Nfa) (have looks : ℕ) (have_is : have ≡ looks) (held row : List ℕ) (held_is : held ≡ []) where
+  -- what is recorded from some states, with this look-have, is their closure
+  pub recorded_by : (flagged now : Value) (from_word half_crlf : Bool) (patterns : List ℕ)
+      → flagged ≡ begun from_word half_crlf 0 patterns
+      → now ≡ fold (added_one nfa) flagged (reach_past nfa (has have) held row)
       → settled (record now { look_have = have })
-      ≡ left_by nfa u patterns (reach nfa (has (have_after (tables_of nfa) u)) row)
-  entered_by flagged now patterns flagged_is some recorded_is = rw (
-    recorded_is,
-    fold-added,
-    held_is,
-    reach_past-empty,
-    flagged_is,
-    have_is,
-    is_nonempty-reach nfa (has (have_after (tables_of nfa) u)) row,
-    some,
-  ) refl
+      ≡ recorded nfa (begun from_word half_crlf looks patterns) (reach nfa (has looks) row)
+  recorded_by flagged now from_word half_crlf patterns flagged_is recorded_is =
+      rw (recorded_is, fold-added, held_is, reach_past-empty, flagged_is, have_is) refl
 
-  -- the tries for the states entered
-  pub tries_are : tries_left nfa (has have) held row ≡ tries_of nfa (has (have_after (tables_of nfa) u)) row
+  -- the tries for them
+  pub tries_are : tries_left nfa (has have) held row ≡ tries_of nfa (has looks) row
   tries_are = rw (held_is, tries_left-empty, have_is) refl
+
+-- the closure of one or more targets, after the look-behind of the unit, is what the unit leaves
+pub entered_by : (nfa : Nfa) (u : Option ℕ) (row patterns : List ℕ) → is_nonempty row ≡ true
+    → recorded nfa (begun (from_word_after (tables_of nfa) u) (half_crlf_after (tables_of nfa) u)
+    (have_after (tables_of nfa) u) patterns) (reach nfa (has (have_after (tables_of nfa) u)) row)
+    ≡ left_by nfa u patterns (reach nfa (has (have_after (tables_of nfa) u)) row)
+entered_by nfa u row patterns some = rw (is_nonempty-reach nfa (has (have_after (tables_of nfa) u)) row, some) refl
 
 module _ (nfa : Nfa) (holds : Assertion → Bool) where
   -- without targets the value has its patterns only

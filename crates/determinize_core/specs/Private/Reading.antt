@@ -19,6 +19,11 @@ pub record IsReopened (nfa : Nfa) (v : Value) (u : Option ℕ) (set : ℕ) : Typ
   pub reopened : is_reopened nfa v u ≡ true
   pub set_is : has set ≡ joined (has v.look_have) (opened_by nfa v u)
 
+-- the number of a unit: the byte, or 256 for EOI, which is in no range of bytes
+abbrev pub number_of : Option ℕ → ℕ
+number_of None = 256
+number_of (Some byte) = byte
+
 -- the items of a list, each once
 abbrev pub distinct : List ℕ → List ℕ
 distinct xs = fresh nat_eq none_held xs

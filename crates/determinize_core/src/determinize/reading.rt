@@ -12,9 +12,11 @@ ghost use Rattle.determinize_below.specs.Semantics.{state_at, target_of};
 ghost use Rattle.determinize_below.specs.Members.{has_id};
 ghost use Rattle.determinize_below.specs.Nfa.{AllResolve, IsAccepted};
 ghost use Rattle.determinize_below.specs.Search.{continues};
+ghost use Rattle.determinize_below.specs.Transition.{matches_unit};
 ghost use Rattle.determinize_below.specs.Unit.{byte_of};
-ghost use Rattle.determinize_core.specs.Private.Reading.{distinct, found_in, IsListRead, IsStateRead};
+ghost use Rattle.determinize_core.specs.Private.Reading.{distinct, found_in, number_of, IsListRead, IsStateRead};
 
+use determinize_below::nfa::Transition;
 use determinize_below::{MatchKind, NFA, PatternID, SparseSet, SparseSetIter, StateID, Unit, nfa};
 use determinize_state::state::{NfaStateIds, StateBuilderNFA};
 use std::alloc::{AllocError, Allocator};
@@ -30,15 +32,39 @@ pub(crate) enum Reading {
     Match(PatternID),
 }
 
+/// Returns the number of a unit: the byte, or 256 for EOI.
+///
+/// A range of bytes is compared with the number, which needs no test for EOI at each NFA state.
+#[inline(always)]
+pub(crate) fn number_of(unit: Unit) -> usize
+    ensures { result ≡ number_of (byte_of unit) }
+{
+    match unit.as_u8() {
+        Some(byte) => usize::from(byte),
+        None => 256,
+    }
+}
+
+/// Returns whether a transition is on a unit. `number` is the number of the unit.
+#[inline(always)]
+#[tactic(auto, using(crate::proofs::step::FirstReading::on_number))]
+fn is_on(transition: &Transition, unit: Unit, number: usize) -> bool
+    requires { number ≡ number_of (byte_of unit) }
+    ensures { result ≡ matches_unit transition.now (byte_of unit) }
+{
+    usize::from(transition.start) <= number && number <= usize::from(transition.end)
+}
+
 /// Returns the pattern of an NFA state, or its target over a unit, or `Nothing`.
 #[inline(always)]
-fn read<N: Allocator>(nfa: &NFA<N>, id: StateID, unit: Unit) -> Reading
-    requires { id < length nfa.now.states }
+fn read<N: Allocator>(nfa: &NFA<N>, id: StateID, unit: Unit, number: usize) -> Reading
+    requires resolve { id < length nfa.now.states }
+    requires number { number ≡ number_of (byte_of unit) }
     ensures { result
         ≡ found_in (pattern_of nfa.now id) (target_of (byte_of unit) (state_at nfa.now id)) }
 {
     let target = match nfa.state(id) {
-        nfa::State::ByteRange { trans } => trans.matches_unit(unit).then_some(trans.next),
+        nfa::State::ByteRange { trans } => is_on(trans, unit, number).then_some(trans.next),
         nfa::State::Sparse(sparse) => sparse.matches_unit(unit),
         nfa::State::Dense(dense) => dense.matches_unit(unit),
         nfa::State::Match { pattern_id } => return Reading::Match(*pattern_id),
@@ -58,11 +84,13 @@ fn read_state<N: Allocator, A: Allocator>(
     match_kind: MatchKind,
     id: StateID,
     unit: Unit,
+    number: usize,
     kept: &mut SparseSet<A>,
     stack: &mut Vec<StateID, A>,
     builder: &mut StateBuilderNFA<A>,
 ) -> Result<bool, AllocError>
     requires resolve { id < length nfa.now.states }
+    requires number { number ≡ number_of (byte_of unit) }
     requires capacity { kept.old.capacity ≡ length nfa.now.states }
     requires unrecorded { builder.old.states ≡ [] }
     requires new_pattern { (p : ℕ) → pattern_of nfa.now id ≡ Some p → has_id kept.old.ids id ≡ false
@@ -73,7 +101,7 @@ fn read_state<N: Allocator, A: Allocator>(
         (λ stops. stops ≡ (not (continues match_kind) && is_match nfa.now id)) }
     ensures capacity { kept.new.capacity ≡ kept.old.capacity }
 {
-    match read(nfa, id, unit) {
+    match read(nfa, id, unit, number) {
         Reading::Nothing => Ok(false),
         Reading::Target(next) => {
             if kept.insert(id) {
@@ -112,17 +140,19 @@ impl<'a> Ids for SparseSetIter<'a> {
 
 /// Reads the states of a list: pushes the targets and adds the patterns, under
 /// `MatchKind::LeftmostFirst` up to the first match. Repeats are skipped: `kept` has the states so
-/// far that gave a pattern or a target.
+/// far that gave a pattern or a target. `number` is the number of the unit.
 #[inline(always)]
 pub(crate) fn read_states<N: Allocator, A: Allocator, I: Ids>(
     nfa: &NFA<N>,
     match_kind: MatchKind,
     ids: I,
     unit: Unit,
+    number: usize,
     kept: &mut SparseSet<A>,
     stack: &mut Vec<StateID, A>,
     builder: &mut StateBuilderNFA<A>,
 ) -> Result<(), AllocError>
+    requires number { number ≡ number_of (byte_of unit) }
     requires can { I.can_next ids }
     requires ends { IsFinite (I.remaining ids) }
     requires accepted { IsAccepted nfa.now }
@@ -137,7 +167,7 @@ pub(crate) fn read_states<N: Allocator, A: Allocator, I: Ids>(
     ensures capacity { kept.new.capacity ≡ kept.old.capacity }
 {
     for id in ids {
-        let stops = read_state(nfa, match_kind, id, unit, kept, stack, builder)?;
+        let stops = read_state(nfa, match_kind, id, unit, number, kept, stack, builder)?;
         if stops {
             return Ok(());
         }

@@ -1,8 +1,8 @@
 //! Recording what a search finds.
 //!
-//! One search serves all closures. The closure of the targets of a transition records each new
-//! state in the builder at once, so the set is not read again. The others only fill the set: their
-//! recorder is `()`, which compiles to nothing.
+//! One search serves all closures. Those of a start state and of the targets of a transition record
+//! each new state in the builder at once, so the set is not read again. The others only fill the
+//! set: their recorder is `()`, which compiles to nothing.
 
 ghost use Rattle.std.specs.Prelude.{◌≡◌, ℕ, ◌<◌, length, OnOk};
 ghost use Rattle.determinize_below.specs.Semantics.{Nfa};

@@ -4,20 +4,22 @@
 //! targets, the look-behind is computed from the unit, and their closure adds the NFA states. Many
 //! transitions enter no state, and then no look-behind is computed.
 
-ghost use Rattle.std.specs.Prelude.{◌≡◌, ◌+◌, ◌*◌, ◌<◌, ◌≤◌, [], false, IsTrue, length, IfOk, OnOk};
+ghost use Rattle.std.specs.Prelude.{◌≡◌, ◌+◌, ◌*◌, ◌<◌, ◌≤◌, ◌++◌, [], false, IsTrue, length, IfOk, OnOk};
 ghost use Rattle.determinize_below.specs.Edges.{reach};
 ghost use Rattle.determinize_below.specs.Look.{has};
-ghost use Rattle.determinize_below.specs.Nfa.{AllResolve};
+ghost use Rattle.determinize_below.specs.Nfa.{AllResolve, IsAccepted};
 ghost use Rattle.determinize_below.specs.Unit.{byte_of};
 ghost use Rattle.determinize_below.specs.declared.search.MatchKind.TheVariants as kinds;
+ghost use Rattle.determinize_core.specs.Private.Reading.{number_of};
 ghost use Rattle.determinize_core.specs.Scratch.{IsScratch};
 ghost use Rattle.determinize_core.specs.Step.{begun, left_by, step};
 ghost use Rattle.determinize_core.specs.Tries.{edges_in_all, tries, tries_of};
 ghost use Rattle.determinize_start.specs.LookTables.{have_after, tables_of};
-ghost use Rattle.determinize_state.specs.Recording.{settled};
+ghost use Rattle.determinize_state.specs.Recording.{recorded, settled};
 ghost use Rattle.determinize_state.specs.Value.{dead, with_flags};
 
 use crate::determinize::closure::explore;
+use crate::determinize::reading::number_of;
 use crate::determinize::steps::{Counter, Steps};
 use crate::determinize::working_list::read_working_list;
 use determinize_below::{LookSet, MatchKind, NFA, SparseSet, SparseSets, StateID, Unit};
@@ -47,6 +49,40 @@ fn set_look_have<A: Allocator>(looks: LookSet, builder: &mut StateBuilderNFA<A>)
     if !builder.look_need().is_empty() {
         builder.set_look_have(|_| looks);
     }
+}
+
+/// Adds the closure of `first`, and then of the states on the stack, to a builder that has nothing
+/// but patterns, and sets the look-behind. The set may have any contents before. On error the stack
+/// is not cleared.
+#[inline(always)]
+pub(crate) fn enter<N: Allocator, A: Allocator, C: Counter>(
+    nfa: &NFA<N>,
+    look_behind: LookBehind,
+    first: &[StateID],
+    stack: &mut Vec<StateID, A>,
+    set: &mut SparseSet<A>,
+    builder: &mut StateBuilderNFA<A>,
+    counter: &mut C,
+) -> Result<(), AllocError>
+    requires accepted { IsAccepted nfa.now }
+    requires resolve { AllResolve nfa.now (first.now ++ stack.old.items) }
+    requires capacity { set.old.capacity ≡ length nfa.now.states }
+    requires unrecorded { builder.old ≡ begun false false 0 builder.old.patterns }
+    ensures ok { OnOk result (builder.new ≡ recorded nfa.now
+        (begun look_behind.from_word look_behind.half_crlf look_behind.looks builder.old.patterns)
+        (reach nfa.now (has look_behind.looks) (first.now ++ stack.old.items))) }
+    ensures stack { OnOk result (stack.new.items ≡ []) }
+    ensures capacity { set.new.capacity ≡ set.old.capacity }
+    ensures counted { IsTrue C.counts → OnOk result (C.total counter.new ≡ C.total counter.old
+        + tries_of nfa.now (has look_behind.looks) (first.now ++ stack.old.items)) }
+    ensures bounded { IsTrue C.counts → C.total counter.new ≤ C.total counter.old
+        + tries_of nfa.now (has look_behind.looks) (first.now ++ stack.old.items) }
+{
+    set.clear();
+    set_flags(look_behind, builder);
+    explore(nfa, first, look_behind.looks, stack, set, builder, counter)?;
+    set_look_have(look_behind.looks, builder);
+    Ok(())
 }
 
 /// Adds the closure of the targets on the stack to a builder that has nothing but patterns, and
@@ -80,14 +116,11 @@ fn enter_targets<N: Allocator, A: Allocator, C: Counter>(
         return Ok(());
     }
     let look_behind = LookTables::of(nfa).after(unit);
-    set.clear();
-    set_flags(look_behind, builder);
-    explore(nfa, &[], look_behind.looks, stack, set, builder, counter)?;
-    set_look_have(look_behind.looks, builder);
-    Ok(())
+    enter(nfa, look_behind, &[], stack, set, builder, counter)
 }
 
-/// Builds the next state in an empty builder. On error the stack is not cleared.
+/// Builds the next state in an empty builder. `number` is the number of the unit. On error the
+/// stack is not cleared.
 #[inline(always)]
 fn step_over<N: Allocator, A: Allocator, C: Counter>(
     nfa: &NFA<N>,
@@ -96,9 +129,11 @@ fn step_over<N: Allocator, A: Allocator, C: Counter>(
     stack: &mut Vec<StateID, A>,
     state: &State<A>,
     unit: Unit,
+    number: usize,
     builder: &mut StateBuilderNFA<A>,
     counter: &mut C,
 ) -> Result<(), AllocError>
+    requires number { number ≡ number_of (byte_of unit) }
     requires scratch { IsScratch nfa.now sparses.old.set1 sparses.old.set2 stack.old.items }
     requires resolve { AllResolve nfa.now state.now.states }
     requires empty { builder.old ≡ dead }
@@ -111,7 +146,7 @@ fn step_over<N: Allocator, A: Allocator, C: Counter>(
         ≤ C.total counter.old + 2 * (length nfa.now.states + edges_in_all nfa.now) }
 {
     read_working_list(
-        nfa, match_kind, state, unit, sparses, stack, builder, counter,
+        nfa, match_kind, state, unit, number, sparses, stack, builder, counter,
     )?;
     enter_targets(nfa, unit, stack, &mut sparses.set2, builder, counter)
 }
@@ -121,6 +156,8 @@ fn step_over<N: Allocator, A: Allocator, C: Counter>(
 /// All parts of a transition are inlined into this function, and it is not inlined itself, so it is
 /// as fast for each caller. It changes the builder in place: moving it just after a write to it
 /// stalls until the write is done. An optional byte is passed in registers, a unit in memory.
+/// `number` is the number of the unit. If it were found here, the compiler would see that 256 is in
+/// no range, and test for EOI at each NFA state.
 #[inline(never)]
 fn transition<N: Allocator, A: Allocator, C: Counter>(
     nfa: &NFA<N>,
@@ -129,9 +166,11 @@ fn transition<N: Allocator, A: Allocator, C: Counter>(
     stack: &mut Vec<StateID, A>,
     state: &State<A>,
     byte: Option<u8>,
+    number: usize,
     builder: &mut StateBuilderNFA<A>,
     counter: &mut C,
 ) -> Result<(), AllocError>
+    requires number { number ≡ number_of byte }
     requires scratch { IsScratch nfa.now sparses.old.set1 sparses.old.set2 stack.old.items }
     requires resolve { AllResolve nfa.now state.now.states }
     requires empty { builder.old ≡ dead }
@@ -145,7 +184,7 @@ fn transition<N: Allocator, A: Allocator, C: Counter>(
 {
     let unit = Unit::from(byte);
     step_over(
-        nfa, match_kind, sparses, stack, state, unit, builder, counter,
+        nfa, match_kind, sparses, stack, state, unit, number, builder, counter,
     )
 }
 
@@ -186,6 +225,7 @@ fn build_counted<N: Allocator, A: Allocator, C: Counter>(
         stack,
         state,
         unit.as_u8(),
+        number_of(unit),
         &mut builder,
         counter,
     );

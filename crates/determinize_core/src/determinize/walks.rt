@@ -10,14 +10,14 @@ ghost use Rattle.determinize_core.specs.LastMatch as matches;
 ghost use Rattle.determinize_core.specs.WholeWalk.{IsWalk};
 ghost use Rattle.determinize_state.specs.Value.{dead};
 
-use crate::determinize::closure::epsilon_closure;
-use crate::determinize::lookbehind::set_lookbehind_from_start;
 use crate::determinize::stepper::Stepper;
+use crate::determinize::transition::enter;
 use determinize_below::{HalfMatch, MatchKind, NFA, SparseSets, StateID, Unit};
+use determinize_start::look_tables::LookTables;
 use determinize_start::start::{Start, start_kind_of};
-use determinize_state::recording::add_nfa_states;
 use determinize_state::state::{State, StateBuilderEmpty, StateBuilderNFA};
 use std::alloc::{AllocError, Allocator};
+use std::slice;
 
 /// Returns the state before the first unit, in a builder.
 ///
@@ -64,12 +64,13 @@ pub(crate) fn start_state_of<N: Allocator, A: Allocator>(
     ensures resolve { IfOk result (λ builder. AllResolve nfa.now builder.states) }
     ensures scratch { IsScratch nfa.now sparses.new.set1 sparses.new.set2 stack.new.items }
 {
-    let mut builder = empty_builder.into_matches()?;
-    set_lookbehind_from_start(nfa, &kind, &mut builder);
-    sparses.clear();
-    epsilon_closure(nfa, start, builder.look_have(), stack, &mut sparses.set1)?;
-    let mut builder = builder.into_nfa();
-    add_nfa_states(nfa, &sparses.set1, &mut builder)?;
+    let mut builder = empty_builder.into_matches()?.into_nfa();
+    let look_behind = LookTables::of(nfa).at_start(kind);
+    let first = slice::from_ref(&start);
+    let set = &mut sparses.set1;
+    let result = enter(nfa, look_behind, first, stack, set, &mut builder, &mut ());
+    stack.clear();
+    result?;
     Ok(builder)
 }
 

@@ -6,7 +6,7 @@ use Rattle.determinize_core.proofs.determinize.walks.start_state_of.Goals as goa
 pub returns : goal.returns
 returns g c =
     let nfa = c.args.nfa.now in
-    let done : c.add_nfa_states.new.builder ≡ kind_value nfa c.args.start c.args.kind = grind (arith, starting) in
+    let done : c.enter-result.new.builder ≡ kind_value nfa c.args.start c.args.kind = grind (arith, starting) in
     record {
       ok = rw done (is-start_of nfa c.args.start c.args.kind);
       resolve = rw done (closure_resolves nfa c.requires.accepted
