@@ -225,10 +225,10 @@ impl<'n, N: Allocator, A: Allocator + Copy> Lazy<'n, N, A> {
         }
     }
 
-    /// Follows cached transitions over the units of a text from an index on, and adds a clone of
+    /// Follows cached transitions over the bytes of a text from an index on, and adds a clone of
     /// each state. Returns the id of the last one and the index of the first unit not read.
     #[inline(always)]
-    fn follow_units(
+    fn follow_bytes(
         &self,
         from: LazyStateId,
         start: usize,
@@ -241,8 +241,8 @@ impl<'n, N: Allocator, A: Allocator + Copy> Lazy<'n, N, A> {
     {
         let mut id = from;
         let mut read = start;
-        while read <= text.len() {
-            let Some(next) = self.table.lookup(id, text.unit(read)) else {
+        while read < text.len() {
+            let Some(next) = self.table.lookup(id, Some(text.byte(read))) else {
                 return Ok((id, read));
             };
             states.push(self.table.get(next).clone()?)?;
@@ -293,7 +293,7 @@ impl<'n, N: Allocator, A: Allocator + Copy> Lazy<'n, N, A> {
             self.push_state(&cursor, states)?;
             read += 1;
             if let Cursor::Cached(id) = &cursor {
-                let (id, next) = self.follow_units(*id, read, text, states)?;
+                let (id, next) = self.follow_bytes(*id, read, text, states)?;
                 cursor = Cursor::Cached(id);
                 read = next;
             }

@@ -1,6 +1,6 @@
 -- A step over a cached transition: what a lookup returns is the state that follows.
 -- Main statements: at-found, cached_target, cached_step, stepped_at, followed-next.
--- Used by: `step`, `compute`, `follow_units`, and searches of what is cached.
+-- Used by: `step`, `compute`, `follow_bytes`, and searches of what is cached.
 -- Idea: each cached transition is a step of the DFA, and the step over it changes nothing.
 use Rattle.determinize_lazy.proofs.Common.{[], after_step, ap, arith, cache, Cache, cursor_value, dead, false, get_or}
 use Rattle.determinize_lazy.proofs.Common.{get_or_from_slice_get, is_cached, is_some, IsAt, IsCursor, IsFollowed}

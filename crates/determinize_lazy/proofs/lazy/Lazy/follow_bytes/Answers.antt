@@ -1,11 +1,13 @@
 use Rattle.determinize_lazy.proofs.Common.{rules, ◌≡◌}
+use Rattle.determinize_engine.proofs.Texts.{unit-here}
 use Rattle.determinize_lazy.proofs.steps.Cursors.{followed-next}
 use Rattle.determinize_lazy.proofs.steps.Rule.{lazy-sound}
-use Rattle.determinize_lazy.proofs.lazy.Lazy.follow_units.Goals as goal
+use Rattle.determinize_lazy.proofs.lazy.Lazy.follow_bytes.Goals as goal
 
 pub loop-read-preserved : goal.loop-read-preserved
 loop-read-preserved g c =
     let state_is : c.in_ok-clone.field-0 ≡ c.get.result.now = search rules in
     rw (c.in_ok-push.ensures.items, state_is)
-    (followed-next (lazy-sound c.self.invariant c.self.view_is) c.loop-read.invariant c.unit.ensures
+    (followed-next (lazy-sound c.self.invariant c.self.view_is) c.loop-read.invariant
+    (unit-here c.args.text.now _ _ c.byte.ensures)
     (rw (← c.self.view_is) c.in-Some.ensures) (rw (← c.self.view_is) c.get.ensures))
