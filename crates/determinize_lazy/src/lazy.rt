@@ -226,7 +226,8 @@ impl<'n, N: Allocator, A: Allocator + Copy> Lazy<'n, N, A> {
     }
 
     /// Follows cached transitions over the bytes of a text from an index on, and adds a clone of
-    /// each state. Returns the id of the last one and the index of the first unit not read.
+    /// each state. Returns the id of the last one and the index of the first unit not read. The
+    /// last unit, which may be EOI, is left to the caller.
     #[inline(always)]
     fn follow_bytes(
         &self,
@@ -253,6 +254,10 @@ impl<'n, N: Allocator, A: Allocator + Copy> Lazy<'n, N, A> {
     }
 
     /// Adds a clone of the state at a cursor.
+    ///
+    /// Inlined, since a call that borrows the list would keep its length in memory for the whole
+    /// walk.
+    #[inline(always)]
     fn push_state(
         &self,
         cursor: &Cursor<A>,
