@@ -1,6 +1,6 @@
 -- Searches from no root, and searches into an empty set.
 -- Main statements: reach-none, reach_past-empty, tries_left-empty.
--- Used by: `start_state`, StepParts, ReopenedClosure, and the crates above.
+-- Used by: StepParts, ReopenedClosure, and the crates above.
 -- Idea: nothing is pending, so nothing is added.
 use Rattle.determinize_core.proofs.Common.{[], Assertion, Bool, List, Nfa, reach, reach_past, refl, tries_left}
 use Rattle.determinize_core.proofs.Common.{tries_of, ℕ, ◌≡◌}

@@ -1,20 +1,21 @@
 -- The first pass over a list of states.
--- Main statements: kept_of, IsReading, reading-next, new_pattern, all_read, on_number.
+-- Main statements: kept_of, IsReading, reading-next, new_pattern, all_read, on_byte_or_256.
 -- Used by: `is_on`, `read_states`.
 -- Idea: what was read is what the kept states give, and those that give nothing need not be kept.
 use Rattle.determinize_core.proofs.Common.{[], accepted_sound, All, ap, append-nil, append_assoc, arith, before, Bool}
 use Rattle.determinize_core.proofs.Common.{by_option, by_test, continues, distinct, false, flat_map, flat_map-append}
 use Rattle.determinize_core.proofs.Common.{fresh, fun_ext, has_id, if◌then◌else◌, is_match, IsAccepted, IsListRead}
 use Rattle.determinize_core.proofs.Common.{joined, LeftmostFirst, List, list_any, MatchKind, nat_eq, nat_tests, Nfa}
-use Rattle.determinize_core.proofs.Common.{None, none_held, not, Option, option_to_list, pattern_of, patterns_of, patterns_read, refl}
-use Rattle.determinize_core.proofs.Common.{same_decides, Some, target, true, true≢false, Value, with_patterns, without}
+use Rattle.determinize_core.proofs.Common.{None, none_held, not, Option, option_to_list, pattern_of, patterns_of}
+use Rattle.determinize_core.proofs.Common.{patterns_read, refl, same_decides, Some, target, true, true≢false, Value}
+use Rattle.determinize_core.proofs.Common.{with_patterns, without}
 use Rattle.determinize_core.proofs.Common.{ℕ, ◌&&◌, ◌++◌, ◌<◌, ◌||◌, ◌∙◌, ◌∷◌, ◌≡◌}
 use Rattle.ordered_reach.proofs.lists.NewNodes.{fresh-joined}
 use Rattle.ordered_reach.proofs.lists.Pieces.{before-without, flat_map-without}
 use Rattle.std.proofs.lemmas.List.Folds.{list_any-append}
 use Rattle.determinize_below.specs.Transition.{matches, matches_unit}
 use Rattle.determinize_below.specs.declared.nfa.transitions.Transition.{Transition}
-use Rattle.determinize_core.specs.Private.Reading.{gained, gives_nothing, IsStateRead, number_of, roots_of}
+use Rattle.determinize_core.specs.Private.Reading.{byte_or_256, gained, gives_nothing, IsStateRead, roots_of}
 use Rattle.determinize_core.proofs.walk.WalkLoops.{goes_on, pattern_new, patterns-push, stops_at, targets-push}
 
 -- the states that are kept after a list was read, given those kept before; a match may end the reading
@@ -114,8 +115,7 @@ all_read {nfa} {u} kind xs reading =
       targets_are = reading.targets_are ∙ kept.1 ∙ rw live (roots_same nfa u kind (distinct xs));
     }
 
--- a transition is on a unit if its range contains the number of the unit
-pub on_number : (t : Transition) (u : Option ℕ) → t.end < 256
-    → matches t (number_of u) ≡ matches_unit t u
-on_number t None small = grind (arith, nat_tests)
-on_number t (Some byte) small = refl
+-- a transition is on a unit if its range contains the byte, or 256 for EOI
+pub on_byte_or_256 : (t : Transition) (u : Option ℕ) → t.end < 256 → matches t (byte_or_256 u) ≡ matches_unit t u
+on_byte_or_256 t None small = grind (arith, nat_tests)
+on_byte_or_256 t (Some byte) small = refl

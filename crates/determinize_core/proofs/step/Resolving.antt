@@ -11,8 +11,6 @@ use Rattle.determinize_below.proofs.nfas.SoundNfa.{reach_within, target_within}
 use Rattle.ordered_reach.proofs.lists.NewNodes.{flat_map-member, member-filter}
 use Rattle.std.proofs.Common.{All as Each}
 use Rattle.ordered_reach.proofs.Cases.{or_false}
-use Rattle.std.specs.Int.Bits.{or_zero_l}
-use Rattle.determinize_core.proofs.closure.EmptySearch.{reach_past-empty}
 use Rattle.determinize_core.specs.Step.{IsStartOf}
 use Rattle.determinize_start.specs.LookTables.{from_word_at_start, half_crlf_at_start, have_at_start, start_from_word}
 use Rattle.determinize_start.specs.LookTables.{start_half_crlf, start_have}
@@ -64,6 +62,3 @@ kind_value nfa s k = recorded nfa (begun (start_from_word (tables_of nfa) k) (st
 pub is-start_of : (nfa : Nfa) (s : ℕ) (k : Kind) → IsStartOf nfa s k (kind_value nfa s k)
 unfolding have_at_start from_word_at_start half_crlf_at_start
 is-start_of nfa s k p e = ap (λ k. kind_value nfa s k) (sym e)
-
--- for `start_state_of`
-pub ruleset starting = (closure_resolves, or_zero_l, reach_past-empty)

@@ -1,5 +1,5 @@
 -- The parts of a step make the step.
--- Main statements: step_tries, recorded_by, entered_by, tries_are, left-none, tries-none, stepped.
+-- Main statements: step_tries, recorded_is_closure, entered_by, tries_are, left-none, tries-none, stepped.
 -- Used by: `enter`, `enter_targets`, `step_over`, `reopen`.
 -- Idea: flags depend on whether a state is entered, and that on whether there is a target.
 use Rattle.determinize_core.proofs.Common.{[], add-one, added, added_one, AllResolve, ap, append_assoc, arith}
@@ -52,12 +52,12 @@ have_left nfa v now xs e = ap (λ (w : Value). w.look_have) (e ∙ fold-added nf
 
 module _ (nfa : Nfa) (have looks : ℕ) (have_is : have ≡ looks) (held row : List ℕ) (held_is : held ≡ []) where
   -- what is recorded from some states, with this look-have, is their closure
-  pub recorded_by : (flagged now : Value) (from_word half_crlf : Bool) (patterns : List ℕ)
+  pub recorded_is_closure : (flagged now : Value) (from_word half_crlf : Bool) (patterns : List ℕ)
       → flagged ≡ begun from_word half_crlf 0 patterns
       → now ≡ fold (added_one nfa) flagged (reach_past nfa (has have) held row)
       → settled (record now { look_have = have })
       ≡ recorded nfa (begun from_word half_crlf looks patterns) (reach nfa (has looks) row)
-  recorded_by flagged now from_word half_crlf patterns flagged_is recorded_is =
+  recorded_is_closure flagged now from_word half_crlf patterns flagged_is recorded_is =
       rw (recorded_is, fold-added, held_is, reach_past-empty, flagged_is, have_is) refl
 
   -- the tries for them

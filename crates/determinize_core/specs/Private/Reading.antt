@@ -19,10 +19,10 @@ pub record IsReopened (nfa : Nfa) (v : Value) (u : Option ℕ) (set : ℕ) : Typ
   pub reopened : is_reopened nfa v u ≡ true
   pub set_is : has set ≡ joined (has v.look_have) (opened_by nfa v u)
 
--- the number of a unit: the byte, or 256 for EOI, which is in no range of bytes
-abbrev pub number_of : Option ℕ → ℕ
-number_of None = 256
-number_of (Some byte) = byte
+-- the byte of a unit, or for each EOI 256, which is in no range of bytes
+abbrev pub byte_or_256 : Option ℕ → ℕ
+byte_or_256 None = 256
+byte_or_256 (Some byte) = byte
 
 -- the items of a list, each once
 abbrev pub distinct : List ℕ → List ℕ

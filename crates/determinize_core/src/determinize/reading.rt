@@ -14,7 +14,7 @@ ghost use Rattle.determinize_below.specs.Nfa.{AllResolve, IsAccepted};
 ghost use Rattle.determinize_below.specs.Search.{continues};
 ghost use Rattle.determinize_below.specs.Transition.{matches_unit};
 ghost use Rattle.determinize_below.specs.Unit.{byte_of};
-ghost use Rattle.determinize_core.specs.Private.Reading.{distinct, found_in, number_of, IsListRead, IsStateRead};
+ghost use Rattle.determinize_core.specs.Private.Reading.{byte_or_256, distinct, found_in, IsListRead, IsStateRead};
 
 use determinize_below::nfa::Transition;
 use determinize_below::{MatchKind, NFA, PatternID, SparseSet, SparseSetIter, StateID, Unit, nfa};
@@ -32,12 +32,13 @@ pub(crate) enum Reading {
     Match(PatternID),
 }
 
-/// Returns the number of a unit: the byte, or 256 for EOI.
+/// Returns the byte of a unit, or 256 for every EOI.
 ///
-/// A range of bytes is compared with the number, which needs no test for EOI at each NFA state.
+/// The range of a `ByteRange` state is compared with it, which needs no test for EOI at each such
+/// state. 256 is in no range.
 #[inline(always)]
-pub(crate) fn number_of(unit: Unit) -> usize
-    ensures { result ≡ number_of (byte_of unit) }
+pub(crate) fn byte_or_256(unit: Unit) -> usize
+    ensures { result ≡ byte_or_256 (byte_of unit) }
 {
     match unit.as_u8() {
         Some(byte) => usize::from(byte),
@@ -45,26 +46,27 @@ pub(crate) fn number_of(unit: Unit) -> usize
     }
 }
 
-/// Returns whether a transition is on a unit. `number` is the number of the unit.
+/// Returns whether a transition is on a unit. `number` is the byte of the unit, or 256 for EOI.
 #[inline(always)]
-#[tactic(auto, using(crate::proofs::step::FirstReading::on_number))]
-fn is_on(transition: &Transition, unit: Unit, number: usize) -> bool
-    requires { number ≡ number_of (byte_of unit) }
-    ensures { result ≡ matches_unit transition.now (byte_of unit) }
+#[tactic(auto, using(crate::proofs::step::FirstReading::on_byte_or_256))]
+fn is_on(transition: &Transition, number: usize) -> bool
+    ensures { (u : Option ℕ) → number ≡ byte_or_256 u
+        → result ≡ matches_unit transition.now u }
 {
     usize::from(transition.start) <= number && number <= usize::from(transition.end)
 }
 
-/// Returns the pattern of an NFA state, or its target over a unit, or `Nothing`.
+/// Returns the pattern of an NFA state, or its target over a unit, or `Nothing`. `number` is the
+/// byte of the unit, or 256 for EOI.
 #[inline(always)]
 fn read<N: Allocator>(nfa: &NFA<N>, id: StateID, unit: Unit, number: usize) -> Reading
     requires resolve { id < length nfa.now.states }
-    requires number { number ≡ number_of (byte_of unit) }
+    requires number { number ≡ byte_or_256 (byte_of unit) }
     ensures { result
         ≡ found_in (pattern_of nfa.now id) (target_of (byte_of unit) (state_at nfa.now id)) }
 {
     let target = match nfa.state(id) {
-        nfa::State::ByteRange { trans } => is_on(trans, unit, number).then_some(trans.next),
+        nfa::State::ByteRange { trans } => is_on(trans, number).then_some(trans.next),
         nfa::State::Sparse(sparse) => sparse.matches_unit(unit),
         nfa::State::Dense(dense) => dense.matches_unit(unit),
         nfa::State::Match { pattern_id } => return Reading::Match(*pattern_id),
@@ -77,7 +79,8 @@ fn read<N: Allocator>(nfa: &NFA<N>, id: StateID, unit: Unit, number: usize) -> R
 }
 
 /// Reads one state: adds its pattern, or pushes its target, unless the state was read before.
-/// Returns whether the pass ends: at a match, under `MatchKind::LeftmostFirst`.
+/// Returns whether the pass ends: at a match, under `MatchKind::LeftmostFirst`. `number` is the
+/// byte of the unit, or 256 for EOI.
 #[inline(always)]
 fn read_state<N: Allocator, A: Allocator>(
     nfa: &NFA<N>,
@@ -90,7 +93,7 @@ fn read_state<N: Allocator, A: Allocator>(
     builder: &mut StateBuilderNFA<A>,
 ) -> Result<bool, AllocError>
     requires resolve { id < length nfa.now.states }
-    requires number { number ≡ number_of (byte_of unit) }
+    requires number { number ≡ byte_or_256 (byte_of unit) }
     requires capacity { kept.old.capacity ≡ length nfa.now.states }
     requires unrecorded { builder.old.states ≡ [] }
     requires new_pattern { (p : ℕ) → pattern_of nfa.now id ≡ Some p → has_id kept.old.ids id ≡ false
@@ -140,7 +143,7 @@ impl<'a> Ids for SparseSetIter<'a> {
 
 /// Reads the states of a list: pushes the targets and adds the patterns, under
 /// `MatchKind::LeftmostFirst` up to the first match. Repeats are skipped: `kept` has the states so
-/// far that gave a pattern or a target. `number` is the number of the unit.
+/// far that gave a pattern or a target. `number` is the byte of the unit, or 256 for EOI.
 #[inline(always)]
 pub(crate) fn read_states<N: Allocator, A: Allocator, I: Ids>(
     nfa: &NFA<N>,
@@ -152,7 +155,7 @@ pub(crate) fn read_states<N: Allocator, A: Allocator, I: Ids>(
     stack: &mut Vec<StateID, A>,
     builder: &mut StateBuilderNFA<A>,
 ) -> Result<(), AllocError>
-    requires number { number ≡ number_of (byte_of unit) }
+    requires number { number ≡ byte_or_256 (byte_of unit) }
     requires can { I.can_next ids }
     requires ends { IsFinite (I.remaining ids) }
     requires accepted { IsAccepted nfa.now }

@@ -2,7 +2,8 @@
 //!
 //! The first pass over the working list adds the patterns and pushes the targets. If there are any
 //! targets, the look-behind is computed from the unit, and their closure adds the NFA states. Many
-//! transitions enter no state, and then no look-behind is computed.
+//! transitions enter no state, and then no look-behind is computed. The state before the first unit
+//! is entered in the same way, by `enter`.
 
 ghost use Rattle.std.specs.Prelude.{◌≡◌, ◌+◌, ◌*◌, ◌<◌, ◌≤◌, ◌++◌, [], false, IsTrue, length, IfOk, OnOk};
 ghost use Rattle.determinize_below.specs.Edges.{reach};
@@ -10,7 +11,7 @@ ghost use Rattle.determinize_below.specs.Look.{has};
 ghost use Rattle.determinize_below.specs.Nfa.{AllResolve, IsAccepted};
 ghost use Rattle.determinize_below.specs.Unit.{byte_of};
 ghost use Rattle.determinize_below.specs.declared.search.MatchKind.TheVariants as kinds;
-ghost use Rattle.determinize_core.specs.Private.Reading.{number_of};
+ghost use Rattle.determinize_core.specs.Private.Reading.{byte_or_256};
 ghost use Rattle.determinize_core.specs.Scratch.{IsScratch};
 ghost use Rattle.determinize_core.specs.Step.{begun, left_by, step};
 ghost use Rattle.determinize_core.specs.Tries.{edges_in_all, tries, tries_of};
@@ -19,7 +20,7 @@ ghost use Rattle.determinize_state.specs.Recording.{recorded, settled};
 ghost use Rattle.determinize_state.specs.Value.{dead, with_flags};
 
 use crate::determinize::closure::explore;
-use crate::determinize::reading::number_of;
+use crate::determinize::reading::byte_or_256;
 use crate::determinize::steps::{Counter, Steps};
 use crate::determinize::working_list::read_working_list;
 use determinize_below::{LookSet, MatchKind, NFA, SparseSet, SparseSets, StateID, Unit};
@@ -52,8 +53,8 @@ fn set_look_have<A: Allocator>(looks: LookSet, builder: &mut StateBuilderNFA<A>)
 }
 
 /// Adds the closure of `first`, and then of the states on the stack, to a builder that has nothing
-/// but patterns, and sets the look-behind. The set may have any contents before. On error the stack
-/// is not cleared.
+/// but patterns, and sets the look-behind: its flags, and look-have if look-need is not empty. The
+/// set may have any contents before. On error the stack is not cleared.
 #[inline(always)]
 pub(crate) fn enter<N: Allocator, A: Allocator, C: Counter>(
     nfa: &NFA<N>,
@@ -119,8 +120,8 @@ fn enter_targets<N: Allocator, A: Allocator, C: Counter>(
     enter(nfa, look_behind, &[], stack, set, builder, counter)
 }
 
-/// Builds the next state in an empty builder. `number` is the number of the unit. On error the
-/// stack is not cleared.
+/// Builds the next state in an empty builder. `number` is the byte of the unit, or 256 for EOI. On
+/// error the stack is not cleared.
 #[inline(always)]
 fn step_over<N: Allocator, A: Allocator, C: Counter>(
     nfa: &NFA<N>,
@@ -133,7 +134,7 @@ fn step_over<N: Allocator, A: Allocator, C: Counter>(
     builder: &mut StateBuilderNFA<A>,
     counter: &mut C,
 ) -> Result<(), AllocError>
-    requires number { number ≡ number_of (byte_of unit) }
+    requires number { number ≡ byte_or_256 (byte_of unit) }
     requires scratch { IsScratch nfa.now sparses.old.set1 sparses.old.set2 stack.old.items }
     requires resolve { AllResolve nfa.now state.now.states }
     requires empty { builder.old ≡ dead }
@@ -156,8 +157,8 @@ fn step_over<N: Allocator, A: Allocator, C: Counter>(
 /// All parts of a transition are inlined into this function, and it is not inlined itself, so it is
 /// as fast for each caller. It changes the builder in place: moving it just after a write to it
 /// stalls until the write is done. An optional byte is passed in registers, a unit in memory.
-/// `number` is the number of the unit. If it were found here, the compiler would see that 256 is in
-/// no range, and test for EOI at each NFA state.
+/// `number` is the byte, or 256 for `None`. If it were computed here, the compiler would see that
+/// 256 is in no range, and test for EOI at each `ByteRange` state.
 #[inline(never)]
 fn transition<N: Allocator, A: Allocator, C: Counter>(
     nfa: &NFA<N>,
@@ -170,7 +171,7 @@ fn transition<N: Allocator, A: Allocator, C: Counter>(
     builder: &mut StateBuilderNFA<A>,
     counter: &mut C,
 ) -> Result<(), AllocError>
-    requires number { number ≡ number_of byte }
+    requires number { number ≡ byte_or_256 byte }
     requires scratch { IsScratch nfa.now sparses.old.set1 sparses.old.set2 stack.old.items }
     requires resolve { AllResolve nfa.now state.now.states }
     requires empty { builder.old ≡ dead }
@@ -225,7 +226,7 @@ fn build_counted<N: Allocator, A: Allocator, C: Counter>(
         stack,
         state,
         unit.as_u8(),
-        number_of(unit),
+        byte_or_256(unit),
         &mut builder,
         counter,
     );

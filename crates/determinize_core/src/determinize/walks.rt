@@ -48,7 +48,6 @@ pub fn start_state<N: Allocator, A: Allocator>(
 
 /// Returns the state before the first unit for a kind of start, as [`start_state`] does for each
 /// byte of this kind.
-#[tactic(auto, using(crate::proofs::step::Resolving::starting))]
 pub(crate) fn start_state_of<N: Allocator, A: Allocator>(
     nfa: &NFA<N>,
     start: StateID,

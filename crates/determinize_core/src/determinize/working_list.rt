@@ -8,7 +8,7 @@ ghost use Rattle.determinize_below.specs.Edges.{reach_past};
 ghost use Rattle.determinize_below.specs.Look.{has};
 ghost use Rattle.determinize_below.specs.Nfa.{AllResolve, IsAccepted};
 ghost use Rattle.determinize_below.specs.Unit.{byte_of};
-ghost use Rattle.determinize_core.specs.Private.Reading.{number_of, IsListRead};
+ghost use Rattle.determinize_core.specs.Private.Reading.{byte_or_256, IsListRead};
 ghost use Rattle.determinize_core.specs.Private.Search.{tries_left};
 ghost use Rattle.determinize_core.specs.Scratch.{IsScratch};
 ghost use Rattle.determinize_core.specs.Step.{distinct_states, working_list};
@@ -78,7 +78,7 @@ fn reopen<N: Allocator, A: Allocator, C: Counter>(
 
 /// Reads the working list: adds its patterns to the builder and pushes its targets, under
 /// `MatchKind::LeftmostFirst` up to the first match. The sets may have any contents before, and
-/// each is cleared before it is used. `number` is the number of the unit.
+/// each is cleared before it is used. `number` is the byte of the unit, or 256 for EOI.
 #[inline(always)]
 pub(crate) fn read_working_list<N: Allocator, A: Allocator, C: Counter>(
     nfa: &NFA<N>,
@@ -91,7 +91,7 @@ pub(crate) fn read_working_list<N: Allocator, A: Allocator, C: Counter>(
     builder: &mut StateBuilderNFA<A>,
     counter: &mut C,
 ) -> Result<(), AllocError>
-    requires number { number ≡ number_of (byte_of unit) }
+    requires number { number ≡ byte_or_256 (byte_of unit) }
     requires scratch { IsScratch nfa.now sparses.old.set1 sparses.old.set2 stack.old.items }
     requires resolve { AllResolve nfa.now state.now.states }
     requires unread { builder.old.patterns ≡ [] }

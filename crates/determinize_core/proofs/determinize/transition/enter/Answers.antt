@@ -1,7 +1,7 @@
 use Rattle.determinize_core.proofs.Common.{[], arith, begun, has, reach_past, refl, tries_left, tries_of, ◌++◌}
 use Rattle.determinize_core.proofs.Common.{◌∙◌, ◌≡◌}
 use Rattle.determinize_start.specs.LookTables.{LookBehindValue}
-use Rattle.determinize_core.proofs.step.StepParts.{have_left, recorded_by, tries_are}
+use Rattle.determinize_core.proofs.step.StepParts.{have_left, recorded_is_closure, tries_are}
 use Rattle.determinize_core.proofs.determinize.transition.enter.Given.{Over}
 use Rattle.determinize_core.proofs.determinize.transition.enter.Goals.{After-set_flags}
 use Rattle.determinize_core.proofs.determinize.transition.enter.Goals as goal
@@ -42,9 +42,9 @@ pub returns-clause-ok : goal.returns-clause-ok
 returns-clause-ok g c =
     let w = (goal.at.returns-clause-ok g c).After-set_flags in
     c.set_look_have.ensures
-    ∙ recorded_by c.args.nfa.now _ _ (same_looks c.look_behind.view_is) _ (c.args.first.now ++ c.args.stack.now.items)
-    (held g w) _ _ c.args.look_behind.from_word c.args.look_behind.half_crlf c.args.builder.now.patterns (flagged g w)
-    c.in_ok-explore.ensures.recorded
+    ∙ recorded_is_closure c.args.nfa.now _ _ (same_looks c.look_behind.view_is) _
+    (c.args.first.now ++ c.args.stack.now.items) (held g w) _ _ c.args.look_behind.from_word
+    c.args.look_behind.half_crlf c.args.builder.now.patterns (flagged g w) c.in_ok-explore.ensures.recorded
 
 pub returns-clause-counted : goal.returns-clause-counted
 returns-clause-counted g c =

@@ -1,4 +1,4 @@
-use Rattle.determinize_core.proofs.Common.{[], arith, byte_of, is_nonempty, refl, sym, tables_of, true, ◌∙◌, ◌≡◌}
+use Rattle.determinize_core.proofs.Common.{arith, byte_of, refl, sym, ◌∙◌}
 use Rattle.determinize_core.proofs.step.StepParts.{entered_by, left-none, no_items, some_items, tries-none}
 use Rattle.determinize_core.proofs.determinize.transition.enter_targets.Goals as goal
 
