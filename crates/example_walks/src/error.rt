@@ -118,6 +118,6 @@ impl fmt::Display for TextError {
 
 impl fmt::Debug for TextError {
     fn fmt<W: fmt::Write>(&self, f: &mut fmt::Formatter<W>) -> fmt::Result {
-        write!(f, "{self}")
+        fmt::Display::fmt(self, f)
     }
 }

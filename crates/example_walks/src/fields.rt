@@ -17,26 +17,9 @@ pub struct Fields<'t> {
 impl<'t> Fields<'t> {
     /// Returns the first word of a job, which is its verb, and its fields.
     pub fn split(job: &'t str) -> (&'t str, Fields<'t>) {
-        let (line, states) = match job.split_once(" | ") {
-            Some((line, states)) => (line, Some(states)),
-            None => (job, None),
-        };
-        match line.split_once(' ') {
-            Some((verb, words)) => (
-                verb,
-                Fields {
-                    words: Some(words),
-                    states,
-                },
-            ),
-            None => (
-                line,
-                Fields {
-                    words: None,
-                    states,
-                },
-            ),
-        }
+        let (line, states) = halves(job, " | ");
+        let (verb, words) = halves(line, " ");
+        (verb, Fields { words, states })
     }
 
     /// Returns the value of a key, or `None` if there is none.
@@ -58,21 +41,19 @@ impl<'t> Fields<'t> {
 
     /// Returns the match kind, by default `All`.
     pub fn match_kind(&self) -> Result<MatchKind, TextError> {
-        match self.value("kind") {
-            None => Ok(MatchKind::All),
-            Some("all") => Ok(MatchKind::All),
-            Some("leftmost-first") => Ok(MatchKind::LeftmostFirst),
-            Some(_) => Err(TextError::Malformed(Part::MatchKind)),
+        match self.value("kind").unwrap_or("all") {
+            "all" => Ok(MatchKind::All),
+            "leftmost-first" => Ok(MatchKind::LeftmostFirst),
+            _ => Err(TextError::Malformed(Part::MatchKind)),
         }
     }
 
     /// Returns whether the direction is reverse; by default it is forward.
     pub fn is_reverse(&self) -> Result<bool, TextError> {
-        match self.value("dir") {
-            None => Ok(false),
-            Some("fwd") => Ok(false),
-            Some("rev") => Ok(true),
-            Some(_) => Err(TextError::Malformed(Part::Direction)),
+        match self.value("dir").unwrap_or("fwd") {
+            "fwd" => Ok(false),
+            "rev" => Ok(true),
+            _ => Err(TextError::Malformed(Part::Direction)),
         }
     }
 
@@ -120,5 +101,13 @@ impl<'t> Fields<'t> {
         let states = states::states(alloc, self.states.unwrap_or(""))?;
         let nfa = NFA::from_parts(alloc, states, start, start, is_reverse, matcher)?;
         Ok(nfa)
+    }
+}
+
+/// Returns the text before the first mark and, if there is a mark, the text after it.
+fn halves<'t>(text: &'t str, mark: &str) -> (&'t str, Option<&'t str>) {
+    match text.split_once(mark) {
+        Some((first, rest)) => (first, Some(rest)),
+        None => (text, None),
     }
 }

@@ -140,30 +140,16 @@ fn print_walk<A: Allocator + Copy, W: Write>(
 ) -> Result<(), RowError>
     ensures { IfErr result (λ error. ¬ (error ≡ RowError.NoSuchRow)) }
 {
-    let states = states_of(alloc, example)?;
-    print_states(states.as_slice(), out)?;
-    Ok(())
-}
-
-/// Returns the states of the walk of an example.
-fn states_of<A: Allocator + Copy>(alloc: A, example: &Example) -> Result<Vec<State<A>, A>, RowError>
-    ensures { IfErr result (λ error. ¬ (error ≡ RowError.NoSuchRow)) }
-{
     let states = walk::walk(alloc, &example.fields())?;
-    Ok(states)
+    Ok(print_states(states.as_slice(), out)?)
 }
 
 /// Prints each state, and the last match.
 fn print_states<A: Allocator, W: Write>(states: &[State<A>], out: &mut W) -> io::Result<()> {
     for state in states {
-        print_bytes(state.as_bytes(), out)?;
+        let bytes = Hex(state.as_bytes());
+        writeln!(out, "{bytes}")?;
     }
     let found = LastMatch(determinize::last_match(states));
     writeln!(out, "{found}")
-}
-
-/// Prints bytes as hexadecimal digits, in a line.
-fn print_bytes<W: Write>(bytes: &[u8], out: &mut W) -> io::Result<()> {
-    let bytes = Hex(bytes);
-    writeln!(out, "{bytes}")
 }

@@ -1,7 +1,7 @@
 //! Reads the states of an NFA.
 
 use crate::error::{Part, TextError};
-use crate::values;
+use crate::values::{self, Item};
 use determinize_below::nfa::State;
 use determinize_below::{DenseTransitions, SparseTransitions, StateID, Transition};
 use std::alloc::Allocator;
@@ -45,51 +45,33 @@ fn state<A: Allocator + Copy>(alloc: A, word: &str) -> Result<State<A>, TextErro
     }
 }
 
-/// Returns the transition of a text such as `61-7a>1` or `61>1`.
-fn transition(text: &str) -> Result<Transition, TextError> {
-    let Some((range, next)) = text.split_once('>') else {
-        return Err(TextError::Malformed(Part::Transition));
-    };
-    let (start, end) = ends(range)?;
-    Ok(Transition {
-        start,
-        end,
-        next: values::state_id(next)?,
-    })
-}
-
-/// Returns the first and the last byte of a range such as `61-7a` or `61`.
-fn ends(range: &str) -> Result<(u8, u8), TextError> {
-    let (start, end) = range.split_once('-').unwrap_or((range, range));
-    Ok((values::byte(start)?, values::byte(end)?))
+impl Item for Transition {
+    /// Returns the transition of a text such as `61-7a>1` or `61>1`.
+    fn read(text: &str) -> Result<Transition, TextError> {
+        let Some((range, next)) = text.split_once('>') else {
+            return Err(TextError::Malformed(Part::Transition));
+        };
+        let (start, end) = range.split_once('-').unwrap_or((range, range));
+        Ok(Transition {
+            start: values::byte(start)?,
+            end: values::byte(end)?,
+            next: values::state_id(next)?,
+        })
+    }
 }
 
 /// Returns a state with one transition.
 fn byte_range<A: Allocator>(parts: &str) -> Result<State<A>, TextError> {
     Ok(State::ByteRange {
-        trans: transition(parts)?,
+        trans: Transition::read(parts)?,
     })
-}
-
-/// Adds the transitions of a text.
-fn add_transitions<A: Allocator>(
-    transitions: &mut Vec<Transition, A>,
-    parts: &str,
-) -> Result<(), TextError> {
-    if !parts.is_empty() {
-        for part in parts.split(',') {
-            let read = transition(part)?;
-            transitions.push(read)?;
-        }
-    }
-    Ok(())
 }
 
 /// Returns a sparse state.
 fn sparse<A: Allocator>(alloc: A, parts: &str) -> Result<State<A>, TextError> {
-    let mut transitions = Vec::new(alloc);
-    add_transitions(&mut transitions, parts)?;
-    Ok(State::Sparse(SparseTransitions { transitions }))
+    Ok(State::Sparse(SparseTransitions {
+        transitions: values::items(alloc, parts)?,
+    }))
 }
 
 /// Writes the transitions of a text into a table. Returns an error for a range whose first byte is
@@ -97,7 +79,7 @@ fn sparse<A: Allocator>(alloc: A, parts: &str) -> Result<State<A>, TextError> {
 fn write_ranges(table: &mut [StateID; 256], parts: &str) -> Result<(), TextError> {
     if !parts.is_empty() {
         for part in parts.split(',') {
-            let read = transition(part)?;
+            let read = Transition::read(part)?;
             if read.start > read.end {
                 return Err(TextError::Malformed(Part::ByteRange));
             }

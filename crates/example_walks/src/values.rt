@@ -37,7 +37,7 @@ pub fn looks() -> &'static [(&'static str, Look)] {
 
 /// Returns whether the text is that of no value or of an empty list.
 pub fn is_none(text: &str) -> bool {
-    text.is_empty() || text == "-"
+    matches!(text, "" | "-")
 }
 
 /// Returns the value of a lower-case hexadecimal digit.
@@ -117,22 +117,38 @@ pub fn pattern_id(text: &str) -> Result<PatternID, TextError> {
     }
 }
 
-/// Adds the ids of NFA states of a list.
-fn add_state_ids<A: Allocator>(ids: &mut Vec<StateID, A>, text: &str) -> Result<(), TextError> {
-    if !is_none(text) {
-        for word in text.split(',') {
-            let id = state_id(word)?;
-            ids.push(id)?;
-        }
+/// A value that a list of a text has between its commas.
+pub trait Item: Copy {
+    /// Returns the value of a text.
+    fn read(text: &str) -> Result<Self, TextError>;
+}
+
+impl Item for StateID {
+    fn read(text: &str) -> Result<StateID, TextError> {
+        state_id(text)
+    }
+}
+
+/// Adds the values of a list that is not empty.
+fn add_items<T: Item, A: Allocator>(items: &mut Vec<T, A>, text: &str) -> Result<(), TextError> {
+    for word in text.split(',') {
+        items.push(T::read(word)?)?;
     }
     Ok(())
 }
 
-/// Returns a list of ids of NFA states.
+/// Returns the values of a list. An empty text is an empty list.
+pub fn items<T: Item, A: Allocator>(alloc: A, text: &str) -> Result<Vec<T, A>, TextError> {
+    let mut items = Vec::new(alloc);
+    if !text.is_empty() {
+        add_items(&mut items, text)?;
+    }
+    Ok(items)
+}
+
+/// Returns a list of ids of NFA states. The text `-` is an empty list, as an empty one is.
 pub fn state_ids<A: Allocator>(alloc: A, text: &str) -> Result<Vec<StateID, A>, TextError> {
-    let mut ids = Vec::new(alloc);
-    add_state_ids(&mut ids, text)?;
-    Ok(ids)
+    items(alloc, if is_none(text) { "" } else { text })
 }
 
 /// Returns the assertion of this name.

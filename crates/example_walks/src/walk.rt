@@ -40,11 +40,6 @@ fn start_of<A: Allocator>(fields: &Fields<'_>, nfa: &NFA<A>) -> Result<StateID, 
     resolved(nfa, fields.start()?)
 }
 
-/// Returns the bytes behind and after the text of a walk.
-fn around(fields: &Fields<'_>) -> Result<(Option<u8>, Option<u8>), TextError> {
-    Ok((fields.look_behind()?, fields.look_ahead()?))
-}
-
 /// Returns the place of a walk over an NFA.
 pub fn place_of<A: Allocator, B: Allocator>(
     alloc: A,
@@ -53,14 +48,11 @@ pub fn place_of<A: Allocator, B: Allocator>(
 ) -> Result<Place<A>, TextError>
     ensures { IfOk result (λ place. place.start < length nfa.now.states) }
 {
-    let start = start_of(fields, nfa)?;
-    let (behind, ahead) = around(fields)?;
-    let text = fields.text(alloc)?;
     Ok(Place {
-        start,
-        behind,
-        text,
-        ahead,
+        start: start_of(fields, nfa)?,
+        behind: fields.look_behind()?,
+        ahead: fields.look_ahead()?,
+        text: fields.text(alloc)?,
     })
 }
 
