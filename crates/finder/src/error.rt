@@ -26,8 +26,8 @@ impl fmt::Display for Error {
                 let marked = error.display(text.as_str());
                 write!(f, "\n{marked}")
             }
-            Error::Compile(error) => write!(f, "{error}"),
-            Error::Io(error) => write!(f, "{error}"),
+            Error::Compile(error) => fmt::Display::fmt(error, f),
+            Error::Io(error) => fmt::Display::fmt(error, f),
         }
     }
 }

@@ -84,7 +84,7 @@ impl<'a> Lines<'a> {
         place: Place,
         out: &mut W,
     ) -> Result<bool, Error> {
-        let has_match = self.matcher.find(&Input::new(line))?.is_some();
+        let has_match = self.matcher.is_match(&Input::new(line))?;
         if has_match == self.options.inverts {
             return Ok(false);
         }
@@ -105,8 +105,7 @@ impl<'a> Lines<'a> {
         out: &mut W,
     ) -> Result<(), Error> {
         let found = self.matcher.find_all(self.alloc, &Input::new(line))?;
-        self.print_each(name, line, place, found.as_slice(), out)?;
-        Ok(())
+        Ok(self.print_each(name, line, place, found.as_slice(), out)?)
     }
 
     /// Prints each of these matches of a line, unless it is empty.
@@ -148,20 +147,15 @@ impl<'a> Lines<'a> {
         if self.options.offsets {
             write!(out, "{offset}:")?;
         }
-        if let Some(found) = found {
-            self.print_pattern(found, out)?;
+        match found {
+            Some(found) if self.options.patterns.len() > 1 => {
+                let pattern = found.pattern.as_usize();
+                write!(out, "{pattern}:")?;
+            }
+            _ => {}
         }
         out.write_all(bytes)?;
         out.write_all(b"\n")
-    }
-
-    /// Prints the number of the pattern of a match, if there are several.
-    fn print_pattern<W: Write>(&self, found: &Match, out: &mut W) -> io::Result<()> {
-        if self.options.patterns.len() > 1 {
-            let pattern = found.pattern.as_usize();
-            write!(out, "{pattern}:")?;
-        }
-        Ok(())
     }
 
     /// Prints what the options select where a text ends: its number of lines, or its name.

@@ -59,9 +59,9 @@ impl fmt::Display for UsageError {
     fn fmt<W: fmt::Write>(&self, f: &mut fmt::Formatter<W>) -> fmt::Result {
         match self {
             UsageError::UnknownOption(option) => write!(f, "there is no option {option}"),
-            UsageError::MissingPattern => write!(f, "-e needs a pattern"),
-            UsageError::NoPattern => write!(f, "there is no pattern"),
-            UsageError::Io(error) => write!(f, "{error}"),
+            UsageError::MissingPattern => f.write_str("-e needs a pattern"),
+            UsageError::NoPattern => f.write_str("there is no pattern"),
+            UsageError::Io(error) => fmt::Display::fmt(error, f),
         }
     }
 }
@@ -195,19 +195,15 @@ impl Options {
                 self.patterns.push(arg)?;
                 Ok(Next::Any)
             }
-            Next::Operand => {
-                operands.push(arg)?;
-                Ok(Next::Operand)
-            }
-            Next::Any if is_operand(arg.as_str()) => {
-                operands.push(arg)?;
-                Ok(Next::Any)
-            }
-            Next::Any => match self.take_option(alloc, arg.as_str()) {
+            Next::Any if !is_operand(arg.as_str()) => match self.take_option(alloc, arg.as_str()) {
                 Ok(Some(next)) => Ok(next),
                 Ok(None) => Err(UsageError::UnknownOption(arg)),
                 Err(error) => Err(error),
             },
+            Next::Any | Next::Operand => {
+                operands.push(arg)?;
+                Ok(next)
+            }
         }
     }
 
