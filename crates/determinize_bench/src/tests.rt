@@ -5,7 +5,9 @@
 //! and `holds`, since the message that a macro writes is proved at each place. What must succeed is
 //! taken by `expect`, which ends the test if it fails: a `?` is one more exit of its function, and
 //! the drop of all that a function owns is proved at each exit. Only what runs while each
-//! allocation fails in turn returns errors, and that owns little.
+//! allocation fails in turn returns errors, or whether it succeeded, and that owns little.
+
+ghost use Rattle.std.specs.Prelude.{◌≡◌, true};
 
 mod alloc_failure;
 mod below;
@@ -29,8 +31,7 @@ use determinize_replay::outputs::output_of;
 use determinize_replay::verbs;
 use example_walks::examples::{Example, examples};
 use example_walks::fields::Fields;
-use std::alloc::AllocError;
-use std::fmt::Debug;
+use std::fmt::{Debug, Display};
 use std::process::Abort;
 
 /// Asserts that two values are equal.
@@ -49,23 +50,10 @@ pub fn same_at<R: Abort, L: Debug + Copy, T: PartialEq + Debug + Copy>(
 }
 
 /// Asserts a condition.
-pub fn holds<R: Abort>(rt: &R, is_so: bool) {
+pub fn holds<R: Abort>(rt: &R, is_so: bool)
+    ensures { is_so ≡ true }
+{
     assert!(rt; is_so);
-}
-
-/// Asserts that a call that may fail returned this value. Returns its error if it failed.
-pub fn same_if_ok<R: Abort, T: PartialEq + Debug + Copy>(
-    rt: &R,
-    found: Result<T, AllocError>,
-    wanted: T,
-) -> Result<(), AllocError> {
-    match found {
-        Ok(found) => {
-            same(rt, found, wanted);
-            Ok(())
-        }
-        Err(error) => Err(error),
-    }
 }
 
 /// Returns the NFA of a walk, which starts where the walk does.
@@ -102,9 +90,14 @@ pub fn parts_of<'t>(text: &'t str, separator: &str) -> (&'t str, &'t str) {
     text.split_once(separator).unwrap_or((text, ""))
 }
 
-/// Returns a text between two others.
-pub fn joined<R: Abort + AllocGlobal>(rt: &R, before: &str, text: &str, after: &str) -> String {
-    format!(in rt.alloc(); "{before}{text}{after}").expect(rt, "memory")
+/// Returns the text of a value between two others.
+pub fn joined<R: Abort + AllocGlobal, T: Display + Copy>(
+    rt: &R,
+    before: &str,
+    value: T,
+    after: &str,
+) -> String {
+    format!(in rt.alloc(); "{before}{value}{after}").expect(rt, "memory")
 }
 
 /// Runs the job of an example and compares its output.

@@ -18,7 +18,7 @@ mod without;
 
 use crate::tests::alloc_failure::trial::{OfWalk, Trial};
 use crate::tests::caches::start_of;
-use crate::tests::{nfa_of, same};
+use crate::tests::{holds, nfa_of, same};
 use determinize_below::{Anchored, HalfMatch, Input, MatchKind, NFA};
 use determinize_core::determinize::{last_match, walk, walk_between};
 use determinize_core::state::State;
@@ -30,53 +30,58 @@ use example_walks::fields::Fields;
 use example_walks::values::bytes;
 use failing_alloc::{FailingAllocator, Outcome, fail_each_allocation};
 use std::alloc::{AllocError, Allocator, Global};
+use std::fmt::Debug;
 use std::process::Abort;
 
 /// The allocator of a run.
 pub type Heap = FailingAllocator<Global>;
 
-/// Makes a trial while the allocator may fail, and returns whether no allocation failed.
-fn has_run<R: Abort + AllocGlobal>(
-    rt: &R,
-    heap: &Heap,
-    trial: &Trial<'_>,
-) -> Result<bool, TextError> {
-    heap.begin();
-    let outcome = trial.run(rt, heap);
-    heap.end();
-    match outcome {
-        Ok(()) => Ok(true),
-        Err(TextError::OutOfMemory) => Ok(false),
-        Err(error) => Err(error),
+/// Returns whether a call succeeded. Asserts that its error is that of a failed allocation.
+pub fn has_memory<R: Abort>(rt: &R, made: Result<(), TextError>) -> bool {
+    match made {
+        Ok(()) => true,
+        Err(error) => {
+            holds(rt, matches!(error, TextError::OutOfMemory));
+            false
+        }
     }
 }
 
-/// Returns the error of a failed allocation, if a call of a trial failed and was made again.
-pub fn succeed_if(is_sound: bool) -> Result<(), AllocError> {
-    if is_sound { Ok(()) } else { Err(AllocError) }
+/// Returns whether a call succeeded. Asserts that it then returned this value.
+pub fn is_same<R: Abort, T: PartialEq + Debug + Copy>(
+    rt: &R,
+    found: Result<T, AllocError>,
+    wanted: T,
+) -> bool {
+    match found {
+        Ok(found) => {
+            same(rt, found, wanted);
+            true
+        }
+        Err(_) => false,
+    }
 }
 
 /// Repeats a trial with its first allocation failing, then its second, and so on, until there is no
 /// failure. Each time it must find the known result or report the failed allocation, and all memory
 /// must have been freed.
 pub fn fail_each_in_turn<R: Abort + AllocGlobal>(rt: &R, trial: &Trial<'_>) {
-    let outcome = fail_each_allocation(rt.alloc(), |heap| has_run(rt, heap, trial));
-    same(rt, outcome.expect(rt, "no other error"), Outcome::Sound);
-}
-
-/// Parses the state of each of these lines, and adds it.
-fn add_states<R: Abort + AllocGlobal>(rt: &R, states: &mut Vec<Vec<u8>>, lines: &str) {
-    for line in lines.lines() {
-        let bytes = bytes(rt.alloc(), line).expect(rt, "bytes");
-        states.push(bytes).expect(rt, "memory");
-    }
+    let outcome = fail_each_allocation(rt.alloc(), |heap| {
+        heap.begin();
+        let is_answered = trial.run(rt, heap);
+        heap.end();
+        Ok::<bool, AllocError>(is_answered)
+    });
+    same(rt, outcome, Ok(Outcome::Sound));
 }
 
 /// Parses the states of the lines of an output, whose last line is the match.
 fn read_states<R: Abort + AllocGlobal>(rt: &R, output: &str) -> Vec<Vec<u8>> {
+    let (lines, _) = output.trim_end().rsplit_once('\n').unwrap_or(("", ""));
     let mut states = Vec::new(rt.alloc());
-    if let Some((lines, _)) = output.trim_end().rsplit_once('\n') {
-        add_states(rt, &mut states, lines);
+    for line in lines.lines() {
+        let bytes = bytes(rt.alloc(), line).expect(rt, "bytes");
+        states.push(bytes).expect(rt, "memory");
     }
     states
 }
@@ -111,17 +116,11 @@ impl Drop for Row {
     }
 }
 
-/// Returns the bytes behind and ahead of the text of a walk.
-fn bytes_around<R: Abort>(rt: &R, fields: &Fields<'_>) -> (Option<u8>, Option<u8>) {
-    let behind = fields.look_behind().expect(rt, "a byte");
-    let ahead = fields.look_ahead().expect(rt, "a byte");
-    (behind, ahead)
-}
-
 impl Row {
     /// Returns the walk of a job, given the lines of its output, whose last line is the match.
     fn of<R: Abort + AllocGlobal>(rt: &R, fields: &Fields<'_>, output: &str) -> Row {
-        let (look_behind, look_ahead) = bytes_around(rt, fields);
+        let look_behind = fields.look_behind().expect(rt, "a byte");
+        let look_ahead = fields.look_ahead().expect(rt, "a byte");
         Row {
             nfa: nfa_of(rt, fields),
             kind: fields.match_kind().expect(rt, "a match kind"),
@@ -134,21 +133,11 @@ impl Row {
         }
     }
 
-    /// Finds the last match of the walk, and the match of a search of the text as a haystack.
-    fn find<R: Abort + AllocGlobal>(&mut self, rt: &R) {
-        self.last = self.last_of_walk(rt);
-        self.found = self.search(rt);
-    }
-
-    /// Returns the last match of the walk.
-    fn last_of_walk<R: Abort + AllocGlobal>(&self, rt: &R) -> Option<HalfMatch> {
-        last_match(self.walk(rt.alloc()).expect(rt, "memory").as_slice())
-    }
-
-    /// Returns the match of a search of the text as a haystack.
-    fn search<R: Abort + AllocGlobal>(&self, rt: &R) -> Option<HalfMatch> {
+    /// Returns the last match of the walk, and the match of a search of the text as a haystack.
+    fn matches<R: Abort + AllocGlobal>(&self, rt: &R) -> (Option<HalfMatch>, Option<HalfMatch>) {
+        let last = last_match(self.walk(rt.alloc()).expect(rt, "memory").as_slice());
         let mut lazy = Lazy::new(rt.alloc(), &self.nfa, self.kind, 64);
-        lazy.search_input(&self.input()).expect(rt, "memory")
+        (last, lazy.search_input(&self.input()).expect(rt, "memory"))
     }
 
     /// Returns the last match of the walk, by a search through a cache.
@@ -208,19 +197,18 @@ impl Row {
         }
     }
 
-    /// Asserts that a call that may fail returned the states of the walk. Returns its error if it
-    /// failed.
-    fn expect_if_ok<A: Allocator>(
+    /// Returns whether a call succeeded. Asserts that it then returned the states of the walk.
+    fn is_walk<A: Allocator>(
         &self,
         rt: &impl Abort,
         states: Result<Vec<State<A>, A>, AllocError>,
-    ) -> Result<(), AllocError> {
+    ) -> bool {
         match states {
             Ok(states) => {
                 self.expect(rt, states.as_slice());
-                Ok(())
+                true
             }
-            Err(error) => Err(error),
+            Err(_) => false,
         }
     }
 
@@ -233,7 +221,7 @@ impl Row {
 /// Returns an example walk, with its matches.
 fn found_row<R: Abort + AllocGlobal>(rt: &R, example: &Example) -> Row {
     let mut row = Row::of(rt, &example.fields(), output_of(example.name));
-    row.find(rt);
+    (row.last, row.found) = row.matches(rt);
     row
 }
 

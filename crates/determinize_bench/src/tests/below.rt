@@ -1,7 +1,7 @@
 //! Ids and units: texts.
 
-use crate::tests::same;
 use crate::tests::texts::expect_text;
+use crate::tests::{joined, same};
 use determinize_below::{PatternID, StateID, Unit};
 
 /// The debug texts of a state id, a pattern id, a byte and the end of input.
@@ -15,8 +15,8 @@ const ERRORS: &str = "\
 #[test]
 fn texts_of_ids_and_units(rt: HostRuntime) {
     let (state, pattern) = (StateID::must(300_000), PatternID::MAX);
-    let text = format!(in rt.alloc(); "{state} {pattern}").expect(&rt, "memory");
-    same(&rt, text.as_str(), "300000 2147483646");
+    same(&rt, joined(&rt, "", state, "").as_str(), "300000");
+    same(&rt, joined(&rt, "", pattern, "").as_str(), "2147483646");
     let units = (Unit::u8(b'a'), Unit::from(None));
     expect_text(&rt, &((state, pattern), units), VALUES);
     let state = StateID::new(2_147_483_647);

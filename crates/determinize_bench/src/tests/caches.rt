@@ -1,6 +1,7 @@
 //! Walks and searches through one cache: what they find, what is cached, and what is computed.
 
-ghost use Rattle.std.specs.Prelude.{◌<◌, length};
+ghost use Rattle.std.specs.Prelude.{◌≡◌, ◌<◌, length, true};
+ghost use Rattle.determinize_engine.specs.Searches.{has_start};
 
 use crate::tests::{ended, holds, nfa_of, same, same_at, texts, write_numbers};
 use determinize_below::{Anchored, Input, MatchKind, NFA, StateID};
@@ -12,7 +13,7 @@ use std::alloc::{Allocator, Global};
 use std::process::Abort;
 
 /// `\b\w+\b` of ASCII words.
-pub const WORDS: &str = "L:WordAscii>1 S:30-39>2,41-5a>2,5f-5f>2,61-7a>2 BU:1,3 L:WordAscii>4 M:0";
+const WORDS: &str = "L:WordAscii>1 S:30-39>2,41-5a>2,5f-5f>2,61-7a>2 BU:1,3 L:WordAscii>4 M:0";
 
 /// Returns the NFA of these states, which starts in the first one, for forward or reverse scans.
 pub fn nfa<R: Abort + AllocGlobal>(rt: &R, states: &str, is_backward: bool) -> NFA {
@@ -43,21 +44,6 @@ fn cache<'n, R: Abort + AllocGlobal>(
     lazy
 }
 
-/// Asserts that a walk without a cache has these states.
-fn expect_walked<R: Abort + AllocGlobal>(
-    rt: &R,
-    lazy: &Lazy<'_>,
-    behind: Option<u8>,
-    text: &[u8],
-    ahead: Option<u8>,
-    states: &[State],
-) {
-    let (nfa, kind) = (lazy.nfa(), lazy.match_kind());
-    let start = nfa.start_anchored();
-    let wanted = walk_between(rt.alloc(), nfa, kind, start, behind, text, ahead);
-    holds(rt, wanted.expect(rt, "memory").as_slice() == states);
-}
-
 /// Returns the states of a walk through the cache, which are those of a walk without it.
 fn walk_through<R: Abort + AllocGlobal>(
     rt: &R,
@@ -72,15 +58,16 @@ fn walk_through<R: Abort + AllocGlobal>(
         ahead => lazy.walk_between(start, behind, text, ahead),
     };
     let states = states.expect(rt, "memory");
-    expect_walked(rt, lazy, behind, text, ahead, states.as_slice());
+    let (nfa, kind) = (lazy.nfa(), lazy.match_kind());
+    let wanted = walk_between(rt.alloc(), nfa, kind, start, behind, text, ahead);
+    holds(rt, wanted.expect(rt, "memory") == states);
     states
 }
 
 /// Searches an input, whose anchored mode names no pattern, and tests whether it has a match.
-fn search<R: Abort>(rt: &R, lazy: &mut Lazy<'_>, input: &Input<'_>, wanted: Option<usize>) {
-    if let Anchored::Pattern(_) = input.get_anchored() {
-        panic!(rt; "an input names no pattern");
-    }
+fn search<R: Abort>(rt: &R, lazy: &mut Lazy<'_>, input: &Input<'_>, wanted: Option<usize>)
+    requires { has_start input.now.anchored ≡ true }
+{
     let found = (lazy.search_input(input), lazy.is_match(input));
     same(rt, found, (Ok(ended(wanted)), Ok(wanted.is_some())));
 }
@@ -99,18 +86,11 @@ fn walk<R: Abort + AllocGlobal>(
     same_at(rt, text, found, ended(wanted));
 }
 
-/// Returns the bytes of the second state, or nothing if there is none.
-fn bytes_of_second(states: &[State]) -> &[u8] {
-    match states.get(1) {
-        Some(state) => state.as_bytes(),
-        None => &[],
-    }
-}
-
 /// Walks over a text, and compares the bytes of the second state.
 fn second<R: Abort + AllocGlobal>(rt: &R, lazy: &mut Lazy<'_>, text: &[u8], wanted: &[u8]) {
     let states = walk_through(rt, lazy, None, text, None);
-    same(rt, bytes_of_second(states.as_slice()), wanted);
+    let second = states.get(1).expect(rt, "two states");
+    same(rt, second.as_bytes(), wanted);
 }
 
 /// Searches a text, whose match of pattern 0 ends at this offset.
@@ -126,10 +106,11 @@ fn counts<R: Abort>(rt: &R, lazy: &Lazy<'_>, computed: u64, kept: usize) {
 }
 
 /// Returns the input of a search of a range of a haystack.
-fn input_of<'h, R: Abort>(rt: &R, haystack: &'h [u8], start: usize, end: usize) -> Input<'h> {
-    if end > haystack.len() || start > end + 1 {
-        panic!(rt; "a range of the haystack");
-    }
+fn input_of<'h, R: Abort>(rt: &R, haystack: &'h [u8], start: usize, end: usize) -> Input<'h>
+    ensures { has_start result.anchored ≡ true }
+{
+    holds(rt, end <= haystack.len());
+    holds(rt, start <= end + 1);
     Input::new(haystack).range(start..end)
 }
 
@@ -151,7 +132,7 @@ fn expect_letters<R: Abort>(rt: &R, lazy: &mut Lazy<'_>) {
 
 /// A call through a cache, and what it finds.
 #[derive(Clone, Copy)]
-pub enum Call<'t> {
+enum Call<'t> {
     /// Walks over a text between these bytes, where the last match ends at this offset.
     Walk(Option<u8>, &'t [u8], Option<u8>, Option<usize>),
     /// Walks over a text, where the second state has these bytes.
@@ -190,7 +171,7 @@ fn make_calls<R: Abort + AllocGlobal>(rt: &R, lazy: &mut Lazy<'_>, calls: &[Call
 }
 
 /// Makes calls through a new cache with a limit, over the NFA of these states.
-pub fn make<R: Abort + AllocGlobal>(
+fn make<R: Abort + AllocGlobal>(
     rt: &R,
     states: &str,
     is_backward: bool,
@@ -203,7 +184,7 @@ pub fn make<R: Abort + AllocGlobal>(
 }
 
 /// Walks over a word.
-pub const WALK: Call<'static> = Call::Walk(None, b"quartz", None, Some(6));
+const WALK: Call<'static> = Call::Walk(None, b"quartz", None, Some(6));
 
 /// Walks over the word without its first byte, which is the look-behind.
 const INSIDE: Call<'static> = Call::Walk(Some(b'q'), b"uartz", None, None);
@@ -211,10 +192,15 @@ const INSIDE: Call<'static> = Call::Walk(Some(b'q'), b"uartz", None, None);
 /// Walks over the word without its first byte.
 const REST: Call<'static> = Call::Walk(None, b"uartz", None, Some(5));
 
+/// The text of a cache after a walk over `quartz`, with three states and seven transitions.
+const TEXT: Call<'static> = Call::Text(
+    "Lazy { match_kind: LeftmostFirst, limit: 16, states_kept: 3, computed: 7, .. }",
+);
+
 #[test]
 fn what_is_kept(rt: HostRuntime) {
     let first = MatchKind::LeftmostFirst;
-    let all = [WALK, Call::Counts(7, 3), WALK, Call::Counts(7, 3)];
+    let all = [WALK, Call::Counts(7, 3), TEXT, WALK, Call::Counts(7, 3)];
     make(&rt, WORDS, false, first, 16, &all);
     let cleared = [WALK, Call::Clear, WALK, Call::Counts(14, 3)];
     make(&rt, WORDS, false, first, 16, &cleared);

@@ -132,21 +132,20 @@ fn expect_message<R: Abort + AllocGlobal>(rt: &R, line: &str) {
     expect(rt, "", text.as_str().as_bytes(), 2, "", said.as_str());
 }
 
-/// Runs the job of each line.
-fn expect_messages<R: Abort + AllocGlobal>(rt: &R, jobs: &str) {
-    for line in jobs.lines() {
-        expect_message(rt, line);
-    }
-}
-
 /// Each job is run separately.
 #[test]
 fn error_messages(rt: HostRuntime) {
-    expect_messages(&rt, VERBS);
-    expect_messages(&rt, UNKNOWN_KEYS);
-    expect_messages(&rt, REPEATED_KEYS);
-    expect_messages(&rt, MISSING_KEYS);
-    expect_messages(&rt, STATES);
-    expect_messages(&rt, VALUES);
-    expect_messages(&rt, RANGES);
+    for jobs in [
+        VERBS,
+        UNKNOWN_KEYS,
+        REPEATED_KEYS,
+        MISSING_KEYS,
+        STATES,
+        VALUES,
+        RANGES,
+    ] {
+        for line in jobs.lines() {
+            expect_message(&rt, line);
+        }
+    }
 }

@@ -25,19 +25,8 @@ fn nfa<R: Abort + AllocGlobal>(rt: &R, states: &str, start: &str) -> NFA {
     nfa_of(rt, &fields)
 }
 
-/// Returns the NFA of a chain, each of whose states is written as the id of the next one between
-/// two texts, and after it a union of `a`, which continues at the first state, and a match of
-/// pattern 0.
-fn chain<R: Abort + AllocGlobal>(rt: &R, before: &str, after: &str) -> NFA {
-    let mut states = String::new(rt.alloc());
-    write_numbers(rt, &mut states, before, 1, LINKS + 1, after);
-    let end = states.push_str("BU:100001,100002 B:61>0 M:0");
-    end.expect(rt, "memory");
-    nfa(rt, states.as_str(), "start=0")
-}
-
 /// Returns a text between two others, this number of times.
-fn repeated<R: Abort + AllocGlobal>(
+pub fn repeated<R: Abort + AllocGlobal>(
     rt: &R,
     before: &str,
     part: &str,
@@ -50,16 +39,6 @@ fn repeated<R: Abort + AllocGlobal>(
     }
     text.push_str(after).expect(rt, "memory");
     text
-}
-
-/// Returns an NFA of a match of each of many patterns, from 0 on, and then a union of the matches,
-/// where it starts.
-fn many_matches<R: Abort + AllocGlobal>(rt: &R) -> NFA {
-    let mut states = String::new(rt.alloc());
-    write_numbers(rt, &mut states, "M:", 0, PATTERNS, " ");
-    states.push_str("U:0").expect(rt, "memory");
-    write_numbers(rt, &mut states, ",", 1, PATTERNS, "");
-    nfa(rt, states.as_str(), "start=50000")
 }
 
 /// The numbers of patterns and of NFA states of a state.
@@ -95,8 +74,9 @@ fn expect<R: Abort + AllocGlobal>(
     same(rt, last_match(states.as_slice()), last);
 }
 
-/// Walks over `ab` by the NFA of a chain of states, each written as the id of the next one between
-/// two texts.
+/// Walks over `ab` by the NFA of a chain, each of whose states is written as the id of the next one
+/// between two texts, and after it a union of `a`, which continues at the first state, and a match
+/// of pattern 0.
 fn expect_chain<R: Abort + AllocGlobal>(
     rt: &R,
     before: &str,
@@ -104,7 +84,11 @@ fn expect_chain<R: Abort + AllocGlobal>(
     wanted: [Sizes; 4],
     end: usize,
 ) {
-    let nfa = chain(rt, before, after);
+    let mut states = String::new(rt.alloc());
+    write_numbers(rt, &mut states, before, 1, LINKS + 1, after);
+    let last = states.push_str("BU:100001,100002 B:61>0 M:0");
+    last.expect(rt, "memory");
+    let nfa = nfa(rt, states.as_str(), "start=0");
     expect(rt, MatchKind::All, &nfa, wanted, ended(Some(end)));
 }
 
@@ -132,9 +116,15 @@ fn wide_union_of_itself(rt: HostRuntime) {
     expect(&rt, MatchKind::All, &nfa, wanted, None);
 }
 
+/// The NFA has a match of each of many patterns, from 0 on, and then a union of the matches, where
+/// it starts.
 #[test]
 fn many_patterns_at_once(rt: HostRuntime) {
-    let nfa = many_matches(&rt);
+    let mut states = String::new(rt.alloc());
+    write_numbers(&rt, &mut states, "M:", 0, PATTERNS, " ");
+    states.push_str("U:0").expect(&rt, "memory");
+    write_numbers(&rt, &mut states, ",", 1, PATTERNS, "");
+    let nfa = nfa(&rt, states.as_str(), "start=50000");
     for (kind, count) in [(MatchKind::All, PATTERNS), (MatchKind::LeftmostFirst, 1)] {
         let wanted = [(0, PATTERNS + 1), (count, 0), (0, 0), (0, 0)];
         expect(&rt, kind, &nfa, wanted, ended(Some(0)));
@@ -159,9 +149,9 @@ Ok(Some([PatternID(0), PatternID(65536), PatternID(2147483646)]))";
 
 /// Compares what two states list.
 fn expect_great<R: Abort + AllocGlobal>(rt: &R, states: &[State]) {
-    let [first, second] = states else {
-        panic!(rt; "a walk over nothing has two states");
-    };
+    same(rt, states.len(), 2);
+    let first = states.first().expect(rt, "a state");
+    let second = states.get(1).expect(rt, "a state");
     expect_text(rt, &first.iter_nfa_state_ids(), GREAT_IDS);
     expect_text(rt, &second.match_pattern_ids(), GREAT_PATTERNS);
 }

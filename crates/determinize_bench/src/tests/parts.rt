@@ -1,5 +1,6 @@
 //! Building an NFA from parts.
 
+use crate::tests::texts::text_of;
 use crate::tests::{same, same_at};
 use determinize_below::{Look, LookMatcher, LookSet, NFA, StateID};
 use example_walks::states;
@@ -15,7 +16,7 @@ fn expect_readers<R: Abort + AllocGlobal>(rt: &R, nfa: &NFA, start: StateID) {
     let found = (nfa.start_anchored(), first, any);
     same(rt, found, (start, StateID::ZERO, wanted));
     let state = nfa.state(first);
-    let text = format!(in rt.alloc(); "{state:?}").expect(rt, "memory");
+    let text = text_of(rt, state);
     let found = (state.is_epsilon(), text.contains("WordAscii"));
     same_at(rt, text.as_str(), found, (true, true));
 }

@@ -1,7 +1,7 @@
 //! The work of the program `rows`: unknown names of examples, and writers that fail.
 
 use crate::tests::runs::{Failing, words};
-use crate::tests::{same, same_at};
+use crate::tests::same_at;
 use example_walks::rows::run_rows;
 use std::process::Abort;
 
@@ -39,13 +39,4 @@ fn tells_of_output_that_fails(rt: HostRuntime) {
         expect_status(&rt, words.as_slice(), left, 1);
     }
     expect_status(&rt, words.as_slice(), 1000, 0);
-}
-
-#[test]
-fn keeps_its_status_where_errors_fail(rt: HostRuntime) {
-    let words = words(&rt, "none");
-    let mut out = Vec::new(rt.alloc());
-    let mut err = Failing { left: 0 };
-    let status = run_rows(rt.alloc(), words.as_slice(), &mut out, &mut err);
-    same(&rt, (status, out.as_slice()), (2, [].as_slice()));
 }

@@ -4,18 +4,25 @@ use crate::tests::{parts_of, same, same_at};
 use determinize_replay::error::{ReadError, ReplayError};
 use determinize_replay::run::{report, run};
 use example_walks::error::TextError;
+use example_walks::rows::run_rows;
 use std::alloc::AllocError;
 use std::io;
 use std::io::{Read, Write};
 use std::process::Abort;
 
-/// A reader that fails at once.
+/// A reader of a text that fails after it.
 #[derive(Drop)]
-struct Unreadable;
+struct Broken<'t> {
+    /// The part of the text that is left.
+    left: &'t [u8],
+}
 
-impl Read for Unreadable {
-    fn read(&mut self, _: &mut [u8]) -> io::Result<usize> {
-        Err(io::Error::from(io::ErrorKind::BrokenPipe))
+impl Read for Broken<'_> {
+    fn read(&mut self, buf: &mut [u8]) -> io::Result<usize> {
+        if self.left.is_empty() {
+            return Err(io::Error::from(io::ErrorKind::BrokenPipe));
+        }
+        self.left.read(buf)
     }
 }
 
@@ -338,12 +345,15 @@ fn inputs_that_are_rejected(rt: HostRuntime) {
 fn lines_that_cannot_be_read(rt: HostRuntime) {
     let text = b"> dead\n\xff\n".as_slice();
     expect(&rt, "", text, 2, "", "line 2: can't be read\n");
-    expect(&rt, "", Unreadable, 2, "", "line 1: can't be read\n");
-    let text = b"> fromusize n=6\nsome LineLF\n> dead\n00".as_slice();
+    let at_once = Broken { left: b"" };
+    expect(&rt, "", at_once, 2, "", "line 1: can't be read\n");
+    let later = Broken {
+        left: b"> fromusize n=6\nsome LineLF\n> dead\n00",
+    };
     expect(
         &rt,
         "",
-        text.chain(Unreadable),
+        later,
         2,
         "> fromusize n=6\nexpected:\nsome LineLF\ngot:\nnone\n",
         "line 4: can't be read\n",
@@ -366,12 +376,15 @@ fn output_that_fails(rt: HostRuntime) {
     expect_failing(&rt, 1000, 1, "");
 }
 
+/// Also the program `rows`, with a word that names no example.
 #[test]
 fn keeps_its_status_where_errors_fail(rt: HostRuntime) {
+    let words = words(&rt, "none");
     let mut out = Vec::new(rt.alloc());
     let mut err = Failing { left: 0 };
-    let status = run(rt.alloc(), &[], b"none\n".as_slice(), &mut out, &mut err);
-    same(&rt, (status, out.as_slice()), (2, [].as_slice()));
+    let of_jobs = run(rt.alloc(), &[], b"none\n".as_slice(), &mut out, &mut err);
+    let of_rows = run_rows(rt.alloc(), words.as_slice(), &mut out, &mut err);
+    same(&rt, (of_jobs, of_rows, out.as_slice()), (2, 2, b""));
 }
 
 /// Compares the status and the message of an error.

@@ -6,7 +6,6 @@ use crate::tests::{caches, same};
 use determinize_below::{Look, LookMatcher, Unit};
 use determinize_core::look_tables::LookTables;
 use determinize_core::start::{StartByteMap, start_kind_of};
-use std::process::Abort;
 
 #[test]
 fn text_of_a_map(rt: HostRuntime) {
@@ -26,21 +25,17 @@ LookTables { reverse: false, terminator: 10, any: LookSet { bits: 68 } })";
 
 /// Compares the look-behind at the start of a line and after a word byte, the assertions that EOI
 /// satisfies, and two debug texts.
-fn expect_tables<R: Abort + AllocGlobal>(rt: &R, tables: LookTables) {
+#[test]
+fn tables_of_assertions(rt: HostRuntime) {
+    let tables = LookTables::of(&caches::nfa(&rt, ASSERTIONS, false));
     let at_start = tables.at_start(start_kind_of(b'\n', Some(b'\n')));
     let starts_line = at_start.looks.contains(Look::StartLF);
     let after = tables.after(Unit::u8(b'a'));
     let opened = tables.opened(after.from_word, after.half_crlf, Unit::eoi(256));
     same(
-        rt,
+        &rt,
         (starts_line, opened.contains(Look::WordAscii)),
         (true, true),
     );
-    expect_text(rt, &(after, tables), TABLES);
-}
-
-#[test]
-fn tables_of_assertions(rt: HostRuntime) {
-    let nfa = caches::nfa(&rt, ASSERTIONS, false);
-    expect_tables(&rt, LookTables::of(&nfa));
+    expect_text(&rt, &(after, tables), TABLES);
 }

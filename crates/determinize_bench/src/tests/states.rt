@@ -1,5 +1,6 @@
 //! Builders, as values for other tests.
 
+use determinize_below::{Look, LookSet};
 use determinize_core::state::{StateBuilderMatches, StateBuilderNFA};
 use determinize_replay::job::Job;
 use determinize_replay::{records, values};
@@ -9,6 +10,11 @@ use std::process::Abort;
 pub fn built<R: Abort + AllocGlobal>(rt: &R, line: &str) -> StateBuilderNFA {
     let job = Job::read(line).expect(rt, "a job");
     records::builder(rt.alloc(), job.fields()).expect(rt, "a record")
+}
+
+/// Returns these assertions and `Start`.
+pub fn with_start(have: LookSet) -> LookSet {
+    have.insert(Look::Start)
 }
 
 /// Returns a builder with these patterns.

@@ -1,17 +1,21 @@
-//! The debug texts of states, builders, caches and NFAs.
+//! The debug texts of states, builders and NFAs.
 
-use crate::tests::caches::{Call, WALK, WORDS, nfa};
-use crate::tests::states::{built, with_patterns};
-use crate::tests::{caches, joined, parts_of, same};
-use determinize_below::{Look, MatchKind, StateID};
+use crate::tests::caches::nfa;
+use crate::tests::states::{built, with_patterns, with_start};
+use crate::tests::{joined, parts_of, same};
+use determinize_below::StateID;
 use determinize_core::state::StateBuilderEmpty;
 use std::fmt::Debug;
 use std::process::Abort;
 
+/// Returns the debug text of a value.
+pub fn text_of<R: Abort + AllocGlobal, T: Debug>(rt: &R, value: &T) -> String {
+    format!(in rt.alloc(); "{value:?}").expect(rt, "memory")
+}
+
 /// Compares the debug text of a value.
 pub fn expect_text<R: Abort + AllocGlobal, T: Debug>(rt: &R, value: &T, wanted: &str) {
-    let text = format!(in rt.alloc(); "{value:?}").expect(rt, "memory");
-    same(rt, text.as_str(), wanted);
+    same(rt, text_of(rt, value).as_str(), wanted);
 }
 
 /// The texts of a builder with the flag from-word, patterns and look-have, of one with the flag
@@ -29,7 +33,7 @@ StateBuilderEmpty { .. })";
 fn texts_of_builders(rt: HostRuntime) {
     let mut entered = with_patterns(&rt, "1,0");
     entered.set_is_from_word();
-    entered.set_look_have(|have| have.insert(Look::Start));
+    entered.set_look_have(with_start);
     let mut half = with_patterns(&rt, "-");
     half.set_is_half_crlf();
     let empty = StateBuilderEmpty::new(rt.alloc());
@@ -79,16 +83,6 @@ fn text_of_ids_that_are_left(rt: HostRuntime) {
     expect_text(&rt, &ids, "[StateID(8), StateID(0), StateID(300)]");
     same(&rt, ids.next(), Some(StateID::must(8)));
     expect_text(&rt, &ids, "[StateID(0), StateID(300)]");
-}
-
-/// The text of a cache after a walk over `quartz`, with three states and seven transitions.
-const CACHE: &str = "\
-Lazy { match_kind: LeftmostFirst, limit: 16, states_kept: 3, computed: 7, .. }";
-
-#[test]
-fn text_of_a_cache(rt: HostRuntime) {
-    let kind = MatchKind::LeftmostFirst;
-    caches::make(&rt, WORDS, false, kind, 16, &[WALK, Call::Text(CACHE)]);
 }
 
 /// The text of an NFA, one line per state.

@@ -5,29 +5,26 @@ use crate::tests::alloc_failure::trial::Trial;
 use crate::tests::same;
 use determinize_below::{BuildError, Look};
 use determinize_pattern::{CompileError, Config, Pattern, compile};
-use example_walks::error::TextError;
 use std::alloc::Allocator;
 use std::process::Abort;
 
-/// Asserts that an error is that of a failed allocation, and returns it.
-fn out_of_memory<R: Abort>(rt: &R, error: CompileError) -> TextError {
-    same(rt, error, CompileError::Build(BuildError::OutOfMemory));
-    TextError::OutOfMemory
-}
-
-/// Compiles patterns, and compares the number of states.
+/// Compiles patterns, and compares the number of states, or the error with that of a failed
+/// allocation. Returns whether no allocation failed.
 pub fn compile_all<R: Abort, A: Allocator + Copy>(
     rt: &R,
     alloc: A,
     patterns: &[Pattern],
     states: usize,
-) -> Result<(), TextError> {
+) -> bool {
     match compile(alloc, patterns, Config::new()) {
         Ok(nfa) => {
             same(rt, nfa.len(), states);
-            Ok(())
+            true
         }
-        Err(error) => Err(out_of_memory(rt, error)),
+        Err(error) => {
+            same(rt, error, CompileError::Build(BuildError::OutOfMemory));
+            false
+        }
     }
 }
 

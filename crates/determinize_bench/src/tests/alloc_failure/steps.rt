@@ -7,8 +7,9 @@ ghost use Rattle.determinize_core.specs.Scratch.{IsScratch};
 use crate::tests::alloc_failure::trial::{OfWalk, Trial};
 use crate::tests::alloc_failure::{Row, fail_each_in_turn, fail_each_over_walks};
 use crate::tests::runs::words;
+use crate::tests::states::with_start;
 use crate::tests::{holds, parts_of, same};
-use determinize_below::{Look, LookSet, NFA, SparseSet, SparseSets, StateID, Unit};
+use determinize_below::{LookSet, NFA, SparseSet, SparseSets, StateID, Unit};
 use determinize_core::determinize::{
     Steps, add_nfa_states, epsilon_closure, next, next_counted, set_lookbehind_from_start,
     start_state,
@@ -146,7 +147,7 @@ pub fn record<R: Abort, A: Allocator + Copy>(rt: &R, alloc: A, row: &Row) -> Res
 /// Returns a builder with an assertion.
 fn after_start<A: Allocator>(alloc: A) -> Result<StateBuilderNFA<A>, AllocError> {
     let mut builder = StateBuilderEmpty::new(alloc).into_matches()?.into_nfa();
-    builder.set_look_have(|have| have.insert(Look::Start));
+    builder.set_look_have(with_start);
     Ok(builder)
 }
 
@@ -253,7 +254,8 @@ fn step<A: Allocator + Copy>(
     }
 }
 
-/// Takes the steps of a walk from its first state, and compares each state.
+/// Takes the steps of a walk from its first state, and compares each state. Returns whether no
+/// allocation failed.
 fn step_each<R: Abort, A: Allocator + Copy>(
     rt: &R,
     row: &Row,
@@ -261,7 +263,7 @@ fn step_each<R: Abort, A: Allocator + Copy>(
     sparses: &mut SparseSets<A>,
     stack: &mut Vec<StateID, A>,
     first: StateBuilderNFA<A>,
-) -> Result<(), AllocError>
+) -> bool
     requires scratch { IsScratch row.now.nfa sparses.old.set1 sparses.old.set2 stack.old.items }
     requires resolve { AllResolve row.now.nfa first.states }
 {
@@ -270,14 +272,15 @@ fn step_each<R: Abort, A: Allocator + Copy>(
         let unit = Unit::from(row.unit(index));
         match step(row, is_counted, sparses, stack, state, unit) {
             Ok(next) => state = next,
-            Err(error) => return Err(error),
+            Err(_) => return false,
         }
         same(rt, state.as_bytes(), bytes.as_slice());
     }
-    Ok(())
+    true
 }
 
-/// Makes a walk by single steps in these sets, and compares each state.
+/// Makes a walk by single steps in these sets, and compares each state. Returns whether no
+/// allocation failed.
 fn walk_in<R: Abort, A: Allocator + Copy>(
     rt: &R,
     alloc: A,
@@ -285,7 +288,7 @@ fn walk_in<R: Abort, A: Allocator + Copy>(
     is_counted: bool,
     sparses: &mut SparseSets<A>,
     stack: &mut Vec<StateID, A>,
-) -> Result<(), AllocError>
+) -> bool
     requires { IsScratch row.now.nfa sparses.old.set1 sparses.old.set2 stack.old.items }
 {
     let (nfa, start) = (&row.nfa, row.nfa.start_anchored());
@@ -295,33 +298,24 @@ fn walk_in<R: Abort, A: Allocator + Copy>(
             same(rt, first.as_bytes(), row.bytes(0));
             step_each(rt, row, is_counted, sparses, stack, first)
         }
-        Err(error) => Err(error),
+        Err(_) => false,
     }
 }
 
-/// Makes a walk by single steps, and compares each state.
-pub fn walk<R: Abort, A: Allocator + Copy>(
-    rt: &R,
-    alloc: A,
-    row: &Row,
-    is_counted: bool,
-) -> Result<(), AllocError> {
+/// Makes a walk by single steps, and compares each state. Returns whether no allocation failed.
+pub fn walk<R: Abort, A: Allocator + Copy>(rt: &R, alloc: A, row: &Row, is_counted: bool) -> bool {
     match SparseSets::new(alloc, row.nfa.len()) {
         Ok(mut sparses) => {
             let mut stack = Vec::new(alloc);
             walk_in(rt, alloc, row, is_counted, &mut sparses, &mut stack)
         }
-        Err(error) => Err(error),
+        Err(_) => false,
     }
 }
 
-/// Makes a whole walk.
-pub fn walk_at_once<R: Abort, A: Allocator + Copy>(
-    rt: &R,
-    alloc: A,
-    row: &Row,
-) -> Result<(), AllocError> {
-    row.expect_if_ok(rt, row.walk(alloc))
+/// Makes a whole walk. Returns whether no allocation failed.
+pub fn walk_at_once<R: Abort, A: Allocator + Copy>(rt: &R, alloc: A, row: &Row) -> bool {
+    row.is_walk(rt, row.walk(alloc))
 }
 
 #[test]
@@ -338,33 +332,26 @@ fn walks(rt: HostRuntime) {
     );
 }
 
-/// Compares the status and the output of a run, which may be a prefix if an allocation failed.
-fn expect_printed<R: Abort>(
-    rt: &R,
-    status: u8,
-    out: &[u8],
-    err: &[u8],
-    lines: &str,
-) -> Result<(), AllocError> {
-    if status == 0 {
-        same(rt, (out, err), (lines.as_bytes(), [].as_slice()));
-        return Ok(());
-    }
-    let found = (status, err, lines.as_bytes().starts_with(out));
-    same(rt, found, (1, b"out of memory\n".as_slice(), true));
-    Err(AllocError)
-}
-
 /// Prints a walk by the program `rows`, which after a failed allocation has printed a prefix of it.
+/// Returns whether no allocation failed.
 pub fn print<R: Abort + AllocGlobal, A: Allocator + Copy>(
     rt: &R,
     alloc: A,
     words: &[String],
     lines: &str,
-) -> Result<(), AllocError> {
+) -> bool {
     let (mut out, mut err) = (Vec::new(rt.alloc()), Vec::new(rt.alloc()));
     let status = run_rows(alloc, words, &mut out, &mut err);
-    expect_printed(rt, status, out.as_slice(), err.as_slice(), lines)
+    let (is_printed, out, lines) = (status == 0, out.as_slice(), lines.as_bytes());
+    let is_whole = if is_printed {
+        out == lines
+    } else {
+        lines.starts_with(out)
+    };
+    let told = if is_printed { "" } else { "out of memory\n" };
+    let found = (is_whole, status, err.as_slice());
+    same(rt, found, (true, u8::from(!is_printed), told.as_bytes()));
+    is_printed
 }
 
 #[test]

@@ -1,10 +1,9 @@
 //! What is done while each allocation fails in turn.
 
-use crate::tests::alloc_failure::{Row, caches, patterns, steps, values};
+use crate::tests::alloc_failure::{Row, caches, has_memory, patterns, steps, values};
 use determinize_below::StateID;
 use determinize_pattern::Pattern;
-use example_walks::error::TextError;
-use std::alloc::{AllocError, Allocator};
+use std::alloc::Allocator;
 use std::process::Abort;
 
 /// A trial: it runs with an allocator that may fail, and compares what it finds.
@@ -39,46 +38,31 @@ pub enum OfWalk {
     Cached(caches::Call, usize),
 }
 
-/// Returns the result of a trial with its error as one of texts.
-pub fn told(made: Result<(), AllocError>) -> Result<(), TextError> {
-    match made {
-        Ok(()) => Ok(()),
-        Err(_) => Err(TextError::OutOfMemory),
-    }
-}
-
 impl Trial<'_> {
-    /// Makes the trial.
-    pub fn run<R: Abort + AllocGlobal, A: Allocator + Copy>(
-        &self,
-        rt: &R,
-        alloc: A,
-    ) -> Result<(), TextError> {
+    /// Makes the trial, and returns whether no allocation failed.
+    pub fn run<R: Abort + AllocGlobal, A: Allocator + Copy>(&self, rt: &R, alloc: A) -> bool {
         match *self {
             Trial::OfWalk(trial, row) => trial.run(rt, alloc, row),
             Trial::StateOfLen(len) => values::make_and_clone(rt, alloc, len),
-            Trial::Close(closing, wanted) => steps::close(rt, alloc, closing, wanted),
-            Trial::Print(words, lines) => told(steps::print(rt, alloc, words, lines)),
+            Trial::Close(closing, wanted) => {
+                has_memory(rt, steps::close(rt, alloc, closing, wanted))
+            }
+            Trial::Print(words, lines) => steps::print(rt, alloc, words, lines),
             Trial::Compile(patterns, states) => patterns::compile_all(rt, alloc, patterns, states),
         }
     }
 }
 
 impl OfWalk {
-    /// Makes the trial with a walk.
-    fn run<R: Abort, A: Allocator + Copy>(
-        self,
-        rt: &R,
-        alloc: A,
-        row: &Row,
-    ) -> Result<(), TextError> {
+    /// Makes the trial with a walk, and returns whether no allocation failed.
+    fn run<R: Abort, A: Allocator + Copy>(self, rt: &R, alloc: A, row: &Row) -> bool {
         match self {
             OfWalk::CopyStates => values::copy_states(rt, alloc, row),
-            OfWalk::Record => steps::record(rt, alloc, row),
-            OfWalk::RecordOne => steps::record_one(rt, alloc, row),
-            OfWalk::Steps(is_counted) => told(steps::walk(rt, alloc, row, is_counted)),
-            OfWalk::Walk => told(steps::walk_at_once(rt, alloc, row)),
-            OfWalk::Cached(call, limit) => told(caches::make(rt, alloc, row, call, limit)),
+            OfWalk::Record => has_memory(rt, steps::record(rt, alloc, row)),
+            OfWalk::RecordOne => has_memory(rt, steps::record_one(rt, alloc, row)),
+            OfWalk::Steps(is_counted) => steps::walk(rt, alloc, row, is_counted),
+            OfWalk::Walk => steps::walk_at_once(rt, alloc, row),
+            OfWalk::Cached(call, limit) => caches::make(rt, alloc, row, call, limit),
         }
     }
 }

@@ -2,8 +2,8 @@
 
 ghost use Rattle.std.specs.Prelude.{◌≡◌, [], IfOk};
 
-use crate::tests::alloc_failure::trial::{OfWalk, Trial, told};
-use crate::tests::alloc_failure::{Row, fail_each_in_turn, fail_each_over_walks};
+use crate::tests::alloc_failure::trial::{OfWalk, Trial};
+use crate::tests::alloc_failure::{Row, fail_each_in_turn, fail_each_over_walks, has_memory};
 use crate::tests::same;
 use determinize_below::StateID;
 use determinize_core::state::{State, StateBuilderEmpty, StateBuilderMatches, StateBuilderNFA};
@@ -38,75 +38,64 @@ fn set_flags<A: Allocator>(builder: &mut StateBuilderMatches<A>, state: &State<A
     builder.set_look_have(|_| have);
 }
 
-/// Adds the look-need and the NFA states of a state to a builder.
-fn add_states<A: Allocator>(
-    builder: &mut StateBuilderNFA<A>,
+/// Returns a clone of a clone of a builder with the look-need and the NFA states of a state.
+fn cloned_with<A: Allocator + Copy>(
+    builder: &StateBuilderMatches<A>,
     state: &State<A>,
-) -> Result<(), AllocError> {
+) -> Result<StateBuilderNFA<A>, AllocError> {
+    let mut builder = builder.clone()?.into_nfa();
     let need = state.look_need();
     builder.set_look_need(|_| need);
     for id in state.iter_nfa_state_ids() {
         builder.add_nfa_state_id(id)?;
     }
-    Ok(())
+    builder.clone()
 }
 
-/// Compares the bytes of a clone of the state of a builder.
+/// Compares the bytes of a clone of the state of a builder. Returns whether no allocation failed.
 fn expect_clone<R: Abort, A: Allocator + Copy>(
     rt: &R,
     builder: &StateBuilderNFA<A>,
     bytes: &[u8],
-) -> Result<(), AllocError> {
+) -> bool {
     match clone_of(builder) {
         Ok(state) => {
             same(rt, state.as_bytes(), bytes);
-            Ok(())
+            true
         }
-        Err(error) => Err(error),
+        Err(_) => false,
     }
 }
 
-/// Adds the NFA states of a state to a builder, and compares the bytes of what a clone of the
-/// builder builds.
-fn finish_copy<R: Abort, A: Allocator + Copy>(
-    rt: &R,
-    builder: &mut StateBuilderNFA<A>,
-    state: &State<A>,
-    bytes: &[u8],
-) -> Result<(), AllocError> {
-    add_states(builder, state)?;
-    match builder.clone() {
-        Ok(builder) => expect_clone(rt, &builder, bytes),
-        Err(error) => Err(error),
-    }
-}
-
-/// Copies the NFA states of a state to a clone of a builder with its other parts.
+/// Copies the NFA states of a state to a clone of a builder with its other parts, and compares the
+/// bytes of what a clone of that one builds. Returns whether no allocation failed.
 fn copy_states_to<R: Abort, A: Allocator + Copy>(
     rt: &R,
     builder: &StateBuilderMatches<A>,
     state: &State<A>,
     bytes: &[u8],
-) -> Result<(), AllocError> {
-    match builder.clone() {
-        Ok(matches) => finish_copy(rt, &mut matches.into_nfa(), state, bytes),
-        Err(error) => Err(error),
+) -> bool {
+    match cloned_with(builder, state) {
+        Ok(builder) => expect_clone(rt, &builder, bytes),
+        Err(_) => false,
     }
 }
 
-/// Copies a state to a builder that has no patterns.
+/// Copies a state to a builder that has no patterns. Returns whether no allocation failed.
 fn copy_to<R: Abort, A: Allocator + Copy>(
     rt: &R,
     alloc: A,
     builder: &mut StateBuilderMatches<A>,
     state: &State<A>,
     bytes: &[u8],
-) -> Result<(), TextError>
+) -> bool
     requires { builder.old.patterns ≡ [] }
 {
-    copy_patterns(alloc, builder, state)?;
+    if !has_memory(rt, copy_patterns(alloc, builder, state)) {
+        return false;
+    }
     set_flags(builder, state);
-    told(copy_states_to(rt, builder, state, bytes))
+    copy_states_to(rt, builder, state, bytes)
 }
 
 /// Returns a clone of an empty builder, for patterns.
@@ -120,42 +109,34 @@ fn empty_matches<A: Allocator + Copy>(alloc: A) -> Result<StateBuilderMatches<A>
 }
 
 /// Copies a state by way of a clone of each builder, and compares the bytes of a clone of the copy.
-fn copy<R: Abort, A: Allocator + Copy>(
-    rt: &R,
-    alloc: A,
-    state: &State<A>,
-    bytes: &[u8],
-) -> Result<(), TextError> {
+/// Returns whether no allocation failed.
+fn copy<R: Abort, A: Allocator + Copy>(rt: &R, alloc: A, state: &State<A>, bytes: &[u8]) -> bool {
     match empty_matches(alloc) {
         Ok(mut builder) => copy_to(rt, alloc, &mut builder, state, bytes),
-        Err(_) => Err(TextError::OutOfMemory),
+        Err(_) => false,
     }
 }
 
-/// Copies each of these states of a walk.
+/// Copies each of these states of a walk. Returns whether no allocation failed.
 fn copy_each<R: Abort, A: Allocator + Copy>(
     rt: &R,
     alloc: A,
     states: &[State<A>],
     row: &Row,
-) -> Result<(), TextError> {
+) -> bool {
     for (index, state) in states.iter().enumerate() {
-        if let Err(error) = copy(rt, alloc, state, row.bytes(index)) {
-            return Err(error);
+        if !copy(rt, alloc, state, row.bytes(index)) {
+            return false;
         }
     }
-    Ok(())
+    true
 }
 
-/// Copies each state of a walk.
-pub fn copy_states<R: Abort, A: Allocator + Copy>(
-    rt: &R,
-    alloc: A,
-    row: &Row,
-) -> Result<(), TextError> {
+/// Copies each state of a walk. Returns whether no allocation failed.
+pub fn copy_states<R: Abort, A: Allocator + Copy>(rt: &R, alloc: A, row: &Row) -> bool {
     match row.walk(alloc) {
         Ok(states) => copy_each(rt, alloc, states.as_slice(), row),
-        Err(_) => Err(TextError::OutOfMemory),
+        Err(_) => false,
     }
 }
 
@@ -173,18 +154,14 @@ pub fn clone_of<A: Allocator + Copy>(builder: &StateBuilderNFA<A>) -> Result<Sta
     builder.to_state()?.clone()
 }
 
-/// Makes a state of `len` bytes and clones it.
-pub fn make_and_clone<R: Abort, A: Allocator + Copy>(
-    rt: &R,
-    alloc: A,
-    len: u8,
-) -> Result<(), TextError> {
+/// Makes a state of `len` bytes and clones it. Returns whether no allocation failed.
+pub fn make_and_clone<R: Abort, A: Allocator + Copy>(rt: &R, alloc: A, len: u8) -> bool {
     match builder_of(alloc, len) {
         Ok(builder) => {
             same(rt, builder.as_bytes().len(), usize::from(len));
-            told(expect_clone(rt, &builder, builder.as_bytes()))
+            expect_clone(rt, &builder, builder.as_bytes())
         }
-        Err(_) => Err(TextError::OutOfMemory),
+        Err(_) => false,
     }
 }
 

@@ -6,6 +6,7 @@ ghost use Rattle.std.specs.Prelude.{◌≡◌, ◌<◌, [], length};
 use crate::tests::alloc_failure::steps::start_kind;
 use crate::tests::alloc_failure::values::{builder_of, clone_of};
 use crate::tests::alloc_failure::{Heap, Row, rows};
+use crate::tests::states::with_start;
 use crate::tests::{holds, same};
 use determinize_below::{
     HalfMatch, Input, Look, LookSet, MatchKind, PatternID, SparseSet, SparseSets, StateID,
@@ -18,35 +19,26 @@ use failing_alloc::FailingAllocator;
 use std::alloc::{Allocator, Global};
 use std::process::Abort;
 
-/// Inserts an id, and finds it.
-fn insert<R: Abort, A: Allocator>(rt: &R, set: &mut SparseSet<A>, id: StateID) {
-    assert!(rt; id.as_usize() < set.capacity());
-    holds(rt, set.insert(id));
-    assert!(rt; id.as_usize() < set.capacity());
-    holds(rt, set.contains(id));
-}
-
-/// Inserts three ids.
+/// Inserts three ids, and finds each of them.
 fn insert_three<R: Abort, A: Allocator>(rt: &R, set: &mut SparseSet<A>) {
-    insert(rt, set, StateID::must(5));
-    insert(rt, set, StateID::must(69));
-    insert(rt, set, StateID::must(0));
+    for number in [5, 69, 0] {
+        let id = StateID::must(number);
+        holds(rt, number < set.capacity());
+        holds(rt, set.insert(id));
+        holds(rt, number < set.capacity());
+        holds(rt, set.contains(id));
+    }
     same(rt, set.iter().count(), 3);
 }
 
-/// Clears two sets, and one of them again.
-fn clear_both<R: Abort, A: Allocator>(rt: &R, sparses: &mut SparseSets<A>) {
-    sparses.clear();
-    sparses.set1.clear();
-    holds(rt, sparses.set1.is_empty() && sparses.set2.is_empty());
-}
-
-/// Inserts, finds and removes ids.
+/// Inserts, finds and removes ids: clears two sets, and one of them again.
 fn fill<R: Abort, A: Allocator>(rt: &R, sparses: &mut SparseSets<A>) {
     insert_three(rt, &mut sparses.set1);
     sparses.swap();
     same(rt, (sparses.set1.len(), sparses.set2.len()), (0, 3));
-    clear_both(rt, sparses);
+    sparses.clear();
+    sparses.set1.clear();
+    holds(rt, sparses.set1.is_empty() && sparses.set2.is_empty());
 }
 
 /// Makes the dead state and an empty builder.
@@ -62,16 +54,26 @@ fn set_flags<R: Abort, A: Allocator>(rt: &R, matches: &mut StateBuilderMatches<A
 {
     matches.set_is_from_word();
     matches.set_is_half_crlf();
-    matches.set_look_have(|have| have.insert(Look::Start));
+    matches.set_look_have(with_start);
     let is_set = matches.look_have().contains(Look::Start);
     let is_added = matches.add_match_pattern_id(PatternID::ZERO).is_ok();
     same(rt, (is_set, is_added), (true, true));
 }
 
+/// Returns these assertions without `Start`.
+fn without_start(have: LookSet) -> LookSet {
+    have.remove(Look::Start)
+}
+
+/// Returns these assertions and `End`.
+fn with_end(need: LookSet) -> LookSet {
+    need.insert(Look::End)
+}
+
 /// Removes this assertion, and sets another one.
 fn set_looks<R: Abort, A: Allocator>(rt: &R, builder: &mut StateBuilderNFA<A>) {
-    builder.set_look_have(|have| have.remove(Look::Start));
-    builder.set_look_need(|need| need.insert(Look::End));
+    builder.set_look_have(without_start);
+    builder.set_look_need(with_end);
     let is_removed = builder.look_have().is_empty();
     let is_set = builder.look_need().contains(Look::End);
     let bytes = [13, 0, 0, 0, 0, 2, 0, 0, 0];
@@ -91,43 +93,38 @@ fn build_in<R: Abort, A: Allocator>(rt: &R, matches: StateBuilderMatches<A>)
     holds(rt, builder.clear().capacity() > 0);
 }
 
-/// Makes the dead state, and uses a builder.
-fn build<R: Abort, A: Allocator + Copy>(rt: &R, heap: &Heap, alloc: A) {
-    let matches = StateBuilderEmpty::new(alloc).into_matches();
-    let matches = matches.expect(rt, "memory");
-    heap.begin();
-    make_dead(rt, alloc);
-    build_in(rt, matches);
-    heap.end();
-}
-
-/// Converts a builder with explicit patterns to a builder of NFA states.
-fn close_patterns<R: Abort, A: Allocator>(rt: &R, heap: &Heap, alloc: A) {
-    let matches = StateBuilderEmpty::new(alloc).into_matches();
-    let mut matches = matches.expect(rt, "memory");
-    let added = matches.add_match_pattern_id(PatternID::must(1));
-    added.expect(rt, "memory");
-    heap.begin();
+/// Converts a builder with the pattern 1 to a builder of NFA states.
+fn close_patterns<R: Abort, A: Allocator>(rt: &R, matches: StateBuilderMatches<A>) {
     let builder = matches.into_nfa();
     let bytes = [3, 0, 0, 0, 0, 0, 0, 0, 0, 1, 0, 0, 0, 1, 0, 0, 0];
     same(rt, builder.as_bytes(), bytes.as_slice());
-    heap.end();
 }
 
-/// Fills two sets, and makes builders.
+/// Returns a builder without patterns.
+fn empty<R: Abort, A: Allocator>(rt: &R, alloc: A) -> StateBuilderMatches<A>
+    ensures { result.patterns ≡ [] }
+{
+    let matches = StateBuilderEmpty::new(alloc).into_matches();
+    matches.expect(rt, "memory")
+}
+
+/// Fills two sets, makes the dead state, and uses two builders, of which one has explicit patterns.
 fn make_each<R: Abort, A: Allocator + Copy>(rt: &R, heap: &Heap, alloc: A) {
     let mut sparses = SparseSets::new(alloc, 70).expect(rt, "memory");
+    let (matches, mut explicit) = (empty(rt, alloc), empty(rt, alloc));
+    let added = explicit.add_match_pattern_id(PatternID::must(1));
+    added.expect(rt, "memory");
     heap.begin();
     fill(rt, &mut sparses);
+    make_dead(rt, alloc);
+    build_in(rt, matches);
+    close_patterns(rt, explicit);
     heap.end();
-    build(rt, heap, alloc);
-    close_patterns(rt, heap, alloc);
 }
 
 /// Reads the bytes around the text of a walk, and sets the look-behind of its start in a builder.
 fn begin_walk<R: Abort, A: Allocator>(rt: &R, heap: &Heap, alloc: A, row: &Row) {
-    let matches = StateBuilderEmpty::new(alloc).into_matches();
-    let mut matches = matches.expect(rt, "memory");
+    let mut matches = empty(rt, alloc);
     heap.begin();
     let input = Input::new(row.text.as_slice());
     let forward = Config::from_input_forward(&input).get_look_behind();
@@ -149,7 +146,7 @@ fn close<R: Abort, A: Allocator + Copy>(
 )
     requires { number < length row.now.nfa.states }
 {
-    assert!(rt; set.capacity() == row.nfa.len());
+    holds(rt, set.capacity() == row.nfa.len());
     let id = StateID::must(number);
     let is_epsilon = row.nfa.state(id).is_epsilon();
     let stack = Vec::with_capacity(alloc, if is_epsilon { 100 } else { 0 });
@@ -170,11 +167,6 @@ fn close_each<R: Abort, A: Allocator + Copy>(rt: &R, heap: &Heap, alloc: A, row:
     same(rt, set.len(), 0);
 }
 
-/// Walks through a cache.
-fn fill_cache<R: Abort, A: Allocator + Copy>(rt: &R, lazy: &mut Lazy<'_, Global, A>, row: &Row) {
-    holds(rt, row.walk_through(lazy).is_ok());
-}
-
 /// Clears a cache, which has states and computed transitions if it is filled.
 fn clear_cache<R: Abort, A: Allocator + Copy>(
     rt: &R,
@@ -193,7 +185,7 @@ fn make_cache<R: Abort, A: Allocator + Copy>(rt: &R, heap: &Heap, alloc: A, row:
     let mut lazy = Lazy::new(alloc, &row.nfa, row.kind, 100);
     clear_cache(rt, &mut lazy, false);
     heap.end();
-    fill_cache(rt, &mut lazy, row);
+    holds(rt, row.walk_through(&mut lazy).is_ok());
     heap.begin();
     clear_cache(rt, &mut lazy, true);
     heap.end();
