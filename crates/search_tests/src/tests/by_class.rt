@@ -18,12 +18,6 @@ fn expect_letters<R: Abort>(rt: &R, lazy: &mut Lazy<'_>, computed: u64, kept: us
     same(rt, (lazy.computed(), lazy.states_kept()), (computed, kept));
 }
 
-/// Does so twice, with the number of computed steps after each search.
-fn expect_twice<R: Abort>(rt: &R, lazy: &mut Lazy<'_>, first: u64, second: u64, kept: usize) {
-    expect_letters(rt, lazy, first, kept);
-    expect_letters(rt, lazy, second, kept);
-}
-
 /// Compares the last match of a search of the text of a walk, which computes steps, and of one that
 /// does not.
 pub fn expect_walk<R: Abort + AllocGlobal>(
@@ -47,19 +41,10 @@ pub fn expect_walk<R: Abort + AllocGlobal>(
 fn steps_by_class(rt: HostRuntime) {
     let nfa = dense::nfa(&rt, LETTERS, StateID::ZERO);
     let kind = MatchKind::LeftmostFirst;
-    expect_twice(
-        &rt,
-        &mut Lazy::new_by_class(rt.alloc(), &nfa, kind, 10),
-        4,
-        4,
-        4,
-    );
-    expect_twice(
-        &rt,
-        &mut Lazy::new_by_class(rt.alloc(), &nfa, kind, 2),
-        4,
-        8,
-        2,
-    );
+    for (limit, second, kept) in [(10, 4, 4), (2, 8, 2)] {
+        let mut lazy = Lazy::new_by_class(rt.alloc(), &nfa, kind, limit);
+        expect_letters(&rt, &mut lazy, 4, kept);
+        expect_letters(&rt, &mut lazy, second, kept);
+    }
     expect_letters(&rt, &mut Lazy::new(rt.alloc(), &nfa, kind, 10), 7, 4);
 }

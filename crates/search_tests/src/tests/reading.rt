@@ -10,17 +10,6 @@ use determinize_dense::{Dfa, RowId};
 use determinize_uses::steps::{all_ends, patterns_of};
 use std::process::Abort;
 
-/// Compares all matches of `ab 1` with their patterns and ends.
-fn expect_ends<R: Abort>(rt: &R, found: &[HalfMatch]) {
-    let (word, number) = (PatternID::ZERO, PatternID::must(1));
-    let wanted = [
-        HalfMatch::new(word, 1),
-        HalfMatch::new(word, 2),
-        HalfMatch::new(number, 4),
-    ];
-    same(rt, found, wanted.as_slice());
-}
-
 /// Patterns of texts, and all matches of one.
 fn expect_words<R: Abort + AllocGlobal>(rt: &R, dfa: &Dfa<'_>)
     requires { dfa.now.kind ≡ kinds.All }
@@ -30,7 +19,13 @@ fn expect_words<R: Abort + AllocGlobal>(rt: &R, dfa: &Dfa<'_>)
     expect_patterns(rt, patterns_of(dfa, b"a1"), &[]);
     expect_patterns(rt, patterns_of(dfa, b""), &[]);
     let ends = all_ends(rt.alloc(), dfa, b"ab 1").expect(rt, "memory");
-    expect_ends(rt, ends.as_slice());
+    let (word, number) = (PatternID::ZERO, PatternID::must(1));
+    let wanted = [
+        HalfMatch::new(word, 1),
+        HalfMatch::new(word, 2),
+        HalfMatch::new(number, 4),
+    ];
+    same(rt, ends.as_slice(), wanted.as_slice());
 }
 
 /// Of the four rows of the smallest DFA one lists a pattern: that after a word. It comes first

@@ -1,7 +1,8 @@
 //! Whole DFAs in bytes: a file that was written by hand, and what is wrong with others.
 
 use crate::tests::dense::{dfa, nfa};
-use crate::tests::{ended, holds, same};
+use crate::tests::dfa::expect_end;
+use crate::tests::{holds, same};
 use determinize_below::{Input, MatchKind, StateID};
 use determinize_stored::{FormatError, FormatErrorKind, StoredDfa};
 use std::mem;
@@ -53,56 +54,16 @@ fn file<R: Abort + AllocGlobal>(rt: &R) -> Vec<u8> {
     bytes
 }
 
-/// Writes a number at its index.
-fn write(bytes: &mut [u8], index: usize, word: u32) {
-    let places = bytes.iter_mut().skip(index.saturating_mul(4));
-    for (place, byte) in places.zip(word.to_le_bytes()) {
-        *place = byte;
-    }
-}
-
 /// Compares what is wrong with bytes.
 fn expect_error<R: Abort>(rt: &R, bytes: &[u8], kind: FormatErrorKind, offset: usize) {
     let found = StoredDfa::from_bytes(bytes).err();
     same(rt, found, Some(FormatError { kind, offset }));
 }
 
-/// Compares what is wrong with the file with another number at an index.
-fn expect_wrong<R: Abort + AllocGlobal>(
-    rt: &R,
-    index: usize,
-    word: u32,
-    kind: FormatErrorKind,
-    offset: usize,
-) {
-    let mut bytes = file(rt);
-    write(bytes.as_mut_slice(), index, word);
-    expect_error(rt, &bytes, kind, offset);
-}
-
-/// Compares the end of the match in a text.
-fn expect_end<R: Abort>(rt: &R, dfa: &StoredDfa<'_>, text: &[u8], end: usize) {
-    same(rt, dfa.search_input(&Input::new(text)), ended(end));
-}
-
-/// Asserts that a text has no match.
-fn expect_none<R: Abort>(rt: &R, dfa: &StoredDfa<'_>, text: &[u8]) {
-    same(rt, dfa.search_input(&Input::new(text)), None);
-}
-
 /// Asserts that a DFA has four rows, and an iterator over them has four too.
 fn expect_rows<R: Abort>(rt: &R, dfa: &StoredDfa<'_>) {
     assert_eq!(rt; dfa.len(), 4);
     same(rt, dfa.rows().count(), 4);
-}
-
-/// Steps over `a`, and over another one.
-fn expect_steps<R: Abort>(rt: &R, dfa: &StoredDfa<'_>) {
-    let start = dfa.start_state_forward(&Input::new(b"a"));
-    let last = dfa.next_eoi_state(dfa.next_state(start, b'a'));
-    same(rt, dfa.match_len(last), 1);
-    holds(rt, dfa.is_match_state(last) && !dfa.is_dead_state(last));
-    holds(rt, dfa.is_dead_state(dfa.next_state(last, b'a')));
 }
 
 #[test]
@@ -113,27 +74,40 @@ fn a_dfa_is_written_as_by_hand(rt: HostRuntime) {
     same(&rt, bytes.as_slice(), file(&rt).as_slice());
 }
 
+/// Texts, and the ends of their matches.
+static TEXTS: [(&[u8], Option<usize>); 4] = [
+    (b"", None),
+    (b"a", Some(1)),
+    (b"ab", Some(1)),
+    (b"ba", None),
+];
+
+/// Searches texts, counts the four rows, and steps over `a` and over another one.
 #[test]
 fn a_file_is_searched(rt: HostRuntime) {
     let bytes = file(&rt);
     let dfa = StoredDfa::from_bytes(&bytes).expect(&rt, "a DFA");
+    for &(text, end) in &TEXTS {
+        expect_end(&rt, dfa.search_input(&Input::new(text)), end);
+    }
     expect_rows(&rt, &dfa);
-    expect_none(&rt, &dfa, b"");
-    expect_end(&rt, &dfa, b"a", 1);
-    expect_end(&rt, &dfa, b"ab", 1);
-    expect_none(&rt, &dfa, b"ba");
-    expect_steps(&rt, &dfa);
+    let start = dfa.start_state_forward(&Input::new(b"a"));
+    let last = dfa.next_eoi_state(dfa.next_state(start, b'a'));
+    same(&rt, dfa.match_len(last), 1);
+    holds(&rt, dfa.is_match_state(last) && !dfa.is_dead_state(last));
+    holds(&rt, dfa.is_dead_state(dfa.next_state(last, b'a')));
 }
 
 #[test]
 fn what_is_wrong_is_said(rt: HostRuntime) {
-    for (index, word, kind, offset) in &WRONG {
-        expect_wrong(&rt, *index, *word, *kind, *offset);
+    for &(index, word, kind, offset) in &WRONG {
+        let mut bytes = file(&rt);
+        let places = bytes.iter_mut().skip(index.saturating_mul(4));
+        for (place, byte) in places.zip(word.to_le_bytes()) {
+            *place = byte;
+        }
+        expect_error(&rt, &bytes, kind, offset);
     }
-}
-
-#[test]
-fn another_length_is_wrong(rt: HostRuntime) {
     let mut bytes = file(&rt);
     expect_error(&rt, &[], FormatErrorKind::Length, 0);
     let _last = bytes.pop();
@@ -143,32 +117,23 @@ fn another_length_is_wrong(rt: HostRuntime) {
     expect_error(&rt, &bytes, FormatErrorKind::Length, 1168);
 }
 
-/// Steps from each row over some units, and searches a text.
-fn expect_safe<R: Abort>(rt: &R, dfa: &StoredDfa<'_>) {
+/// Returns whether bytes are a DFA, which is then safe: steps from each row over some units, and
+/// searches a text.
+fn is_safe<R: Abort>(rt: &R, bytes: &[u8]) -> bool {
+    let Ok(dfa) = StoredDfa::from_bytes(bytes) else {
+        return false;
+    };
     for row in dfa.rows() {
         let next = dfa.next_state(row, b'a');
         holds(rt, next.as_usize() < dfa.len());
         holds(rt, dfa.next_eoi_state(next).as_usize() < dfa.len());
-        same(
-            rt,
-            dfa.match_pattern(next, 0).is_some(),
-            dfa.is_match_state(next),
-        );
+        let has_pattern = dfa.match_pattern(next, 0).is_some();
+        same(rt, has_pattern, dfa.is_match_state(next));
     }
     if let Some(found) = dfa.search_input(&Input::new(b"aab")) {
         holds(rt, found.offset <= 3);
     }
-}
-
-/// Returns whether bytes are a DFA, which is then safe.
-fn is_safe<R: Abort>(rt: &R, bytes: &[u8]) -> bool {
-    match StoredDfa::from_bytes(bytes) {
-        Ok(dfa) => {
-            expect_safe(rt, &dfa);
-            true
-        }
-        Err(_) => false,
-    }
+    true
 }
 
 /// Returns the number after a number, of some that look random.
@@ -186,16 +151,7 @@ fn exchanged(bytes: &mut [u8], index: usize, byte: u8) -> u8 {
     }
 }
 
-/// Returns whether a file is a DFA, which is then safe, with another byte in one place: the number
-/// chooses both.
-fn is_safe_if_changed<R: Abort>(rt: &R, bytes: &mut [u8], number: u64) -> bool {
-    let index = (number % 1168) as usize;
-    let before = exchanged(bytes, index, ((number >> 32) & 7) as u8);
-    let is_accepted = is_safe(rt, bytes);
-    exchanged(bytes, index, before);
-    is_accepted
-}
-
+/// Each time one byte of the file is another one: a number chooses both.
 #[test]
 fn changed_files_are_safe(rt: HostRuntime) {
     let mut bytes = file(&rt);
@@ -203,9 +159,12 @@ fn changed_files_are_safe(rt: HostRuntime) {
     let mut accepted: u32 = 0;
     for _ in 0..100_000 {
         number = after(number);
-        if is_safe_if_changed(&rt, bytes.as_mut_slice(), number) {
+        let index = (number % 1168) as usize;
+        let before = exchanged(&mut bytes, index, ((number >> 32) & 7) as u8);
+        if is_safe(&rt, &bytes) {
             accepted = accepted.saturating_add(1);
         }
+        exchanged(&mut bytes, index, before);
     }
     holds(&rt, accepted > 1000);
 }
