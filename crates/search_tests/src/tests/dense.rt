@@ -6,7 +6,6 @@ ghost use Rattle.std.specs.Prelude.{◌≡◌, false};
 use crate::tests::stored_walks::STORED;
 use crate::tests::{by_class, ended, expect_debug, expect_text, holds, same};
 use determinize_below::{Anchored, Input, LookMatcher, MatchKind, NFA, PatternID, StateID};
-use determinize_core::state::State;
 use determinize_dense::{Dfa, DfaError};
 use determinize_lazy::Lazy;
 use determinize_replay::outputs::output_of;
@@ -21,27 +20,16 @@ use std::process::Abort;
 
 /// The numbers of states of a whole DFA with all starts, and of the smallest one.
 #[derive(Clone, Copy)]
-struct Counts {
+pub struct Counts {
     len: usize,
     least: usize,
 }
 
-/// The states of an NFA, its anchored start, and the counts of its DFAs under both match kinds.
+/// The states of an NFA, its anchored start, and the counts of its DFAs under each match kind.
 pub struct Row {
     states: &'static str,
     start_anchored: u8,
-    all: Counts,
-    leftmost_first: Counts,
-}
-
-impl Row {
-    /// Returns the counts under a match kind.
-    fn counts(&self, kind: MatchKind) -> Counts {
-        match kind {
-            MatchKind::All => self.all,
-            MatchKind::LeftmostFirst => self.leftmost_first,
-        }
-    }
+    pub counts: [(MatchKind, Counts); 2],
 }
 
 /// The states of `\b\w+\b`.
@@ -63,38 +51,50 @@ pub static ROWS: [Row; 6] = [
     Row {
         states: WORD,
         start_anchored: 0,
-        all: Counts { len: 5, least: 4 },
-        leftmost_first: Counts { len: 5, least: 4 },
+        counts: [
+            (MatchKind::All, Counts { len: 5, least: 4 }),
+            (MatchKind::LeftmostFirst, Counts { len: 5, least: 4 }),
+        ],
     },
     Row {
         states: FOO_OR_BAR,
         start_anchored: 2,
-        all: Counts { len: 23, least: 23 },
-        leftmost_first: Counts { len: 19, least: 17 },
+        counts: [
+            (MatchKind::All, Counts { len: 23, least: 23 }),
+            (MatchKind::LeftmostFirst, Counts { len: 19, least: 17 }),
+        ],
     },
     Row {
         states: "BU:4,1 B:00-ff>0 L:WordAscii>5 B:25>5 BU:2,3 BU:4,6 M:0",
         start_anchored: 4,
-        all: Counts { len: 12, least: 12 },
-        leftmost_first: Counts { len: 9, least: 8 },
+        counts: [
+            (MatchKind::All, Counts { len: 12, least: 12 }),
+            (MatchKind::LeftmostFirst, Counts { len: 9, least: 8 }),
+        ],
     },
     Row {
         states: TOKENS,
         start_anchored: 2,
-        all: Counts { len: 17, least: 17 },
-        leftmost_first: Counts { len: 11, least: 9 },
+        counts: [
+            (MatchKind::All, Counts { len: 17, least: 17 }),
+            (MatchKind::LeftmostFirst, Counts { len: 11, least: 9 }),
+        ],
     },
     Row {
         states: "BU:2,1 B:00-ff>0 L:EndCRLF>3 M:0",
         start_anchored: 2,
-        all: Counts { len: 10, least: 8 },
-        leftmost_first: Counts { len: 8, least: 6 },
+        counts: [
+            (MatchKind::All, Counts { len: 10, least: 8 }),
+            (MatchKind::LeftmostFirst, Counts { len: 8, least: 6 }),
+        ],
     },
     Row {
         states: "BU:2,1 B:00-ff>0 B:31>3 B:30-31>4 B:30-31>5 B:30-31>6 B:30-31>7 M:0",
         start_anchored: 2,
-        all: Counts { len: 72, least: 72 },
-        leftmost_first: Counts { len: 40, least: 13 },
+        counts: [
+            (MatchKind::All, Counts { len: 72, least: 72 }),
+            (MatchKind::LeftmostFirst, Counts { len: 40, least: 13 }),
+        ],
     },
 ];
 
@@ -129,20 +129,6 @@ pub fn least<'n, R: Abort + AllocGlobal>(rt: &R, dfa: &Dfa<'n>) -> Dfa<'n>
     dfa.minimize(rt.alloc()).expect(rt, "memory")
 }
 
-/// Returns the number of states of a DFA.
-fn count(alloc: Global, nfa: &NFA, kind: MatchKind, limit: usize) -> Result<usize, DfaError> {
-    match Dfa::build(alloc, nfa, kind, limit) {
-        Ok(dfa) => Ok(dfa.len()),
-        Err(error) => Err(error),
-    }
-}
-
-/// Returns the number of states of the smallest DFA.
-fn count_least<R: Abort + AllocGlobal>(rt: &R, nfa: &NFA, kind: MatchKind, limit: usize) -> usize {
-    let smallest = smallest(rt.alloc(), nfa, kind, limit).expect(rt, "few states");
-    smallest.len()
-}
-
 /// Asserts that the DFA of at most this number of states has this number, or that there is none.
 fn expect_count<R: Abort + AllocGlobal>(
     rt: &R,
@@ -151,7 +137,11 @@ fn expect_count<R: Abort + AllocGlobal>(
     limit: usize,
     wanted: Result<usize, DfaError>,
 ) {
-    same(rt, count(rt.alloc(), nfa, kind, limit), wanted);
+    let found = match Dfa::build(rt.alloc(), nfa, kind, limit) {
+        Ok(dfa) => Ok(dfa.len()),
+        Err(error) => Err(error),
+    };
+    same(rt, found, wanted);
 }
 
 /// Asserts that a DFA has `len` states, and the smallest one `least`: it is built with this limit
@@ -162,7 +152,8 @@ fn expect_counts<R: Abort + AllocGlobal>(rt: &R, nfa: &NFA, kind: MatchKind, wan
     expect_count(rt, nfa, kind, fewer, Err(DfaError::TooManyStates));
     expect_count(rt, nfa, kind, len, Ok(len));
     expect_count(rt, nfa, kind, more, Ok(len));
-    same(rt, count_least(rt, nfa, kind, len), least);
+    let smallest = smallest(rt.alloc(), nfa, kind, len).expect(rt, "few states");
+    same(rt, smallest.len(), least);
 }
 
 /// Returns the NFA of a row.
@@ -176,17 +167,13 @@ fn nfa_of<R: Abort + AllocGlobal>(rt: &R, row: &Row) -> NFA
     )
 }
 
-/// Asserts the numbers of states of a row.
-fn expect_row<R: Abort + AllocGlobal>(rt: &R, row: &Row) {
-    let nfa = nfa_of(rt, row);
-    expect_counts(rt, &nfa, MatchKind::All, row.all);
-    expect_counts(rt, &nfa, MatchKind::LeftmostFirst, row.leftmost_first);
-}
-
 #[test]
 fn dense_counts(rt: HostRuntime) {
     for row in &ROWS {
-        expect_row(&rt, row);
+        let nfa = nfa_of(&rt, row);
+        for &(kind, counts) in &row.counts {
+            expect_counts(&rt, &nfa, kind, counts);
+        }
     }
 }
 
@@ -213,17 +200,12 @@ fn expect_found<R: Abort + AllocGlobal>(
     expect_text(rt, &LastMatch(found), last);
 }
 
-/// Returns the patterns of the last of these states.
-fn patterns_of_last<R: Abort + AllocGlobal>(rt: &R, states: &[State]) -> Vec<PatternID> {
-    let last = states.last().expect(rt, "a walk has a state");
-    let patterns = last.match_pattern_ids().expect(rt, "memory");
-    patterns.unwrap_or(Vec::new(rt.alloc()))
-}
-
 /// Returns the patterns of the last state of a walk.
 fn last_patterns<R: Abort + AllocGlobal>(rt: &R, fields: &Fields<'_>) -> Vec<PatternID> {
     let states = walk::walk(rt.alloc(), fields).expect(rt, "a walk");
-    patterns_of_last(rt, states.as_slice())
+    let last = states.last().expect(rt, "a walk has a state");
+    let patterns = last.match_pattern_ids().expect(rt, "memory");
+    patterns.unwrap_or(Vec::new(rt.alloc()))
 }
 
 /// Asserts the same of searches by a DFA and by the smallest one.
@@ -358,18 +340,13 @@ pub fn expect_patterns<R: Abort>(rt: &R, found: &[PatternID], wanted: &[usize]) 
     }
 }
 
-/// Asserts that the patterns of a list match.
-fn expect_list<R: Abort + AllocGlobal>(rt: &R, list: &List) {
-    let nfa = nfa(rt, list.states, StateID::ZERO);
-    let dfa = dfa(rt, &nfa, list.kind, 100);
-    let found = dfa.patterns_after(Anchored::Yes, None, list.text, list.look_ahead);
-    expect_patterns(rt, found, list.patterns);
-}
-
 #[test]
 fn dense_patterns(rt: HostRuntime) {
     for list in &LISTS {
-        expect_list(&rt, list);
+        let nfa = nfa(&rt, list.states, StateID::ZERO);
+        let dfa = dfa(&rt, &nfa, list.kind, 100);
+        let found = dfa.patterns_after(Anchored::Yes, None, list.text, list.look_ahead);
+        expect_patterns(&rt, found, list.patterns);
     }
 }
 
@@ -405,14 +382,15 @@ fn minimize<R: Abort, A: Allocator + Copy>(
     }
 }
 
-/// Builds the DFA of a row under a match kind, and minimizes it.
+/// Builds the DFA of a row under a match kind, minimizes it, and asserts both numbers of states.
 pub fn build_and_minimize<R: Abort + AllocGlobal, A: Allocator + Copy>(
     rt: &R,
     alloc: A,
     row: &Row,
     kind: MatchKind,
+    wanted: Counts,
 ) -> Result<(), AllocError> {
-    let (nfa, wanted) = (nfa_of(rt, row), row.counts(kind));
+    let nfa = nfa_of(rt, row);
     match Dfa::build(alloc, &nfa, kind, wanted.len) {
         Ok(dfa) => minimize(rt, alloc, &dfa, wanted),
         Err(error) => {

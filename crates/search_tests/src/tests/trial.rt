@@ -15,8 +15,8 @@ pub enum Trial<'r> {
     SearchPlain(&'r find::Row, usize, &'r find::PlainSearch),
     /// Finds the matches of a row by a `Regex`, through caches of this limit.
     Search(&'r find::Row, usize, &'r find::Search),
-    /// Builds the whole DFA of a row under a match kind, and minimizes it.
-    Minimize(&'r dense::Row, MatchKind),
+    /// Builds the whole DFA of a row under a match kind, minimizes it, and counts states.
+    Minimize(&'r dense::Row, MatchKind, dense::Counts),
 }
 
 impl Trial<'_> {
@@ -32,8 +32,8 @@ impl Trial<'_> {
                 build_error(find::search_plain(rt, alloc, row, limit, search))
             }
             Trial::Search(row, limit, search) => find::search_regex(rt, alloc, row, limit, search),
-            Trial::Minimize(row, kind) => {
-                build_error(dense::build_and_minimize(rt, alloc, row, kind))
+            Trial::Minimize(row, kind, counts) => {
+                build_error(dense::build_and_minimize(rt, alloc, row, kind, counts))
             }
         }
     }
@@ -77,7 +77,8 @@ pub fn fail_each_in_turn<R: Abort + AllocGlobal>(rt: &R, trial: &Trial<'_>) {
 fn builds(rt: HostRuntime) {
     fail_each_in_turn(&rt, &Trial::Build);
     for row in &dense::ROWS {
-        fail_each_in_turn(&rt, &Trial::Minimize(row, MatchKind::All));
-        fail_each_in_turn(&rt, &Trial::Minimize(row, MatchKind::LeftmostFirst));
+        for &(kind, counts) in &row.counts {
+            fail_each_in_turn(&rt, &Trial::Minimize(row, kind, counts));
+        }
     }
 }
