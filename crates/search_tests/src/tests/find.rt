@@ -7,11 +7,11 @@ ghost use Rattle.determinize_engine.specs.Searches.{has_start};
 ghost use Rattle.determinize_find.specs.Prefix.{HasPrefix};
 ghost use Rattle.determinize_find.specs.Reversal.{IsReverseOf};
 
+use crate::tests::kept::{self, Calls};
 use crate::tests::trial::{Trial, build_error, fail_each_in_turn, succeed_if};
-use crate::tests::{dense, ended, holds, kept, same};
+use crate::tests::{dense, ended, holds, same};
 use determinize_below::{BuildError, HalfMatch, Input, MatchKind, NFA, StateID};
-use determinize_dense::Dfa;
-use determinize_find::{LazyRegex, Match, Pieces, Regex, Searcher, has_prefix, plain, reversed};
+use determinize_find::{LazyRegex, Match, Regex, Searcher, has_prefix, plain, reversed};
 use determinize_lazy::Lazy;
 use determinize_uses::steady;
 use std::alloc::{AllocError, Allocator, Global};
@@ -98,21 +98,36 @@ pub fn backward_of<R: Abort + AllocGlobal>(rt: &R, nfa: &NFA) -> NFA
     reversed(rt.alloc(), nfa).expect(rt, "a reverse")
 }
 
-/// Returns the pattern and the ends of a match.
-fn ends_of(found: Option<Match>) -> Option<Ends> {
-    match found {
+/// Compares a match with its pattern and ends.
+fn expect_match<R: Abort>(rt: &R, found: Option<Match>, wanted: Option<Ends>) {
+    let found = match found {
         Some(m) => Some((m.pattern.as_usize(), m.start, m.end)),
         None => None,
-    }
+    };
+    same(rt, found, wanted);
 }
 
 /// Compares matches with their patterns and ends.
 pub fn expect_matches<R: Abort>(rt: &R, found: &[Match], wanted: &[Ends]) {
     same(rt, found.len(), wanted.len());
     for index in 0..wanted.len() {
-        let found = ends_of(found.get(index).copied());
-        same(rt, found, wanted.get(index).copied());
+        expect_match(rt, found.get(index).copied(), wanted.get(index).copied());
     }
+}
+
+/// Compares the matches of a search that did not fail with their patterns and ends.
+pub fn expect_found<R: Abort>(rt: &R, found: Result<Vec<Match>, AllocError>, wanted: &[Ends]) {
+    matches_if_ok(rt, found, wanted).expect(rt, "memory");
+}
+
+/// Asserts that a search did not fail, and found these matches.
+pub fn expect_same<R: Abort>(rt: &R, found: Result<Vec<Match>, AllocError>, wanted: &[Match]) {
+    same(rt, found.expect(rt, "memory").as_slice(), wanted);
+}
+
+/// Asserts that two matches are the same.
+pub fn same_match<R: Abort>(rt: &R, found: Option<Match>, wanted: Option<Match>) {
+    same(rt, found, wanted);
 }
 
 /// Asserts that a call that may fail returned this match.
@@ -134,11 +149,6 @@ pub fn expect_search<R: Abort, N: Allocator>(
     requires { has_start input.now.anchored ≡ true }
 {
     same_end(rt, lazy.search_input(input), wanted);
-}
-
-/// Asserts that a search found these matches.
-pub fn expect_same<R: Abort>(rt: &R, found: &[Match], wanted: &[Match]) {
-    same(rt, found, wanted);
 }
 
 /// Compares whether there is a match, by a search that may fail. Returns its error if it failed.
@@ -164,7 +174,7 @@ fn match_if_ok<R: Abort>(
 ) -> Result<(), AllocError> {
     match found {
         Ok(found) => {
-            same(rt, ends_of(found), wanted);
+            expect_match(rt, found, wanted);
             Ok(())
         }
         Err(error) => Err(error),
@@ -208,7 +218,7 @@ pub enum Search {
     /// For all matches in turn, by a cursor.
     Advance,
     /// For all matches of the haystack in two pieces.
-    Pieces,
+    Halves,
     /// For all matches of the haystack, and their bytes, in pieces of this size.
     Bytes(usize),
 }
@@ -226,26 +236,27 @@ static SEARCHES: [Search; 5] = [
     Search::IsMatch,
     Search::FindAll,
     Search::Advance,
-    Search::Pieces,
+    Search::Halves,
 ];
 
-/// Searches by `plain`.
-fn find_plain<R: Abort, A: Allocator + Copy>(
+/// Finds the matches of a row by `plain`, through a new cache of this limit.
+pub fn search_plain<R: Abort + AllocGlobal, A: Allocator + Copy>(
     rt: &R,
     alloc: A,
-    lazy: &mut Lazy<'_, Global, A>,
     row: &Row,
+    limit: usize,
     search: &PlainSearch,
-) -> Result<(), AllocError>
-    requires forward { lazy.old.nfa.reverse ≡ false }
-    requires kind { lazy.old.kind ≡ kinds.LeftmostFirst }
-{
+) -> Result<(), AllocError> {
     let (input, wanted) = (Input::new(row.haystack), row.matches.first().copied());
+    let nfa = nfa(rt, row.states);
+    let mut lazy = Lazy::new(alloc, &nfa, MatchKind::LeftmostFirst, limit);
     match *search {
-        PlainSearch::Find => match_if_ok(rt, plain::find(lazy, &input), wanted),
-        PlainSearch::NextMatch => match_if_ok(rt, plain::next_match(lazy, &input, None), wanted),
+        PlainSearch::Find => match_if_ok(rt, plain::find(&mut lazy, &input), wanted),
+        PlainSearch::NextMatch => {
+            match_if_ok(rt, plain::next_match(&mut lazy, &input, None), wanted)
+        }
         PlainSearch::FindAll => {
-            matches_if_ok(rt, plain::find_all(alloc, lazy, &input), row.matches)
+            matches_if_ok(rt, plain::find_all(alloc, &mut lazy, &input), row.matches)
         }
     }
 }
@@ -260,96 +271,24 @@ fn has_advanced<R: Abort, A: Allocator + Copy>(
     match_if_ok(rt, searcher.advance(regex), wanted).is_ok()
 }
 
-/// Moves a cursor over all matches and past the last one, and again where that fails.
-fn advance_each<R: Abort, A: Allocator + Copy>(
-    rt: &R,
-    searcher: &mut Searcher<'_>,
-    regex: &mut LazyRegex<'_, Global, A, A>,
-    wanted: &[Ends],
-) -> Result<(), AllocError> {
-    let mut is_sound = true;
-    for index in 0..wanted.len() + 1 {
-        let next = wanted.get(index).copied();
-        if !has_advanced(rt, searcher, regex, next) {
-            is_sound = false;
-            if !has_advanced(rt, searcher, regex, next) {
-                return Err(AllocError);
-            }
-        }
-    }
-    succeed_if(is_sound)
-}
-
-/// Finds the matches of a row in turn, by a cursor.
+/// Moves a cursor over the matches of a row and past the last one, and again where that fails.
 fn advance_over<R: Abort, A: Allocator + Copy>(
     rt: &R,
     regex: &mut LazyRegex<'_, Global, A, A>,
     row: &Row,
 ) -> Result<(), AllocError> {
     let mut searcher = Searcher::new(Input::new(row.haystack));
-    advance_each(rt, &mut searcher, regex, row.matches)
-}
-
-/// Feeds a piece, and if that fails, the part of it that was not read.
-fn feed_piece<A: Allocator + Copy>(
-    stream: &mut Pieces<A>,
-    regex: &mut LazyRegex<'_, Global, A, A>,
-    piece: &[u8],
-    found: &mut Vec<Match, A>,
-    is_sound: &mut bool,
-) -> Result<(), AllocError> {
-    let begin = stream.bytes_read();
-    if stream.feed(regex, piece, found).is_ok() {
-        return Ok(());
-    }
-    *is_sound = false;
-    let read = stream.bytes_read().saturating_sub(begin);
-    stream.feed(regex, piece.get(read..).unwrap_or(piece), found)
-}
-
-/// Feeds pieces and ends the text, and ends it again if that fails. Compares the matches.
-fn feed_all<R: Abort, A: Allocator + Copy>(
-    rt: &R,
-    stream: &mut Pieces<A>,
-    regex: &mut LazyRegex<'_, Global, A, A>,
-    pieces: &[&[u8]],
-    found: &mut Vec<Match, A>,
-    wanted: &[Ends],
-) -> Result<(), AllocError> {
     let mut is_sound = true;
-    for piece in pieces {
-        feed_piece(stream, regex, piece, found, &mut is_sound)?;
+    for index in 0..row.matches.len() + 1 {
+        let next = row.matches.get(index).copied();
+        if !has_advanced(rt, &mut searcher, regex, next) {
+            is_sound = false;
+            if !has_advanced(rt, &mut searcher, regex, next) {
+                return Err(AllocError);
+            }
+        }
     }
-    if stream.finish(regex, found).is_err() {
-        is_sound = false;
-        stream.finish(regex, found)?;
-    }
-    expect_matches(rt, found.as_slice(), wanted);
     succeed_if(is_sound)
-}
-
-/// Feeds a text in pieces, and makes each call that fails again, for the bytes that it did not
-/// read: no match is lost, and none is found twice.
-fn feed<R: Abort, A: Allocator + Copy>(
-    rt: &R,
-    alloc: A,
-    regex: &mut LazyRegex<'_, Global, A, A>,
-    pieces: &[&[u8]],
-    wanted: &[Ends],
-) -> Result<(), AllocError> {
-    let (mut stream, mut found) = (Pieces::new(alloc), Vec::new(alloc));
-    feed_all(rt, &mut stream, regex, pieces, &mut found, wanted)
-}
-
-/// Feeds a haystack in two pieces.
-fn feed_halves<R: Abort, A: Allocator + Copy>(
-    rt: &R,
-    alloc: A,
-    regex: &mut LazyRegex<'_, Global, A, A>,
-    row: &Row,
-) -> Result<(), AllocError> {
-    let (first, second) = row.haystack.split_at(row.haystack.len().min(2));
-    feed(rt, alloc, regex, &[first, second], row.matches)
 }
 
 /// Searches by a `Regex`.
@@ -366,22 +305,12 @@ fn find_by_regex<R: Abort + AllocGlobal, A: Allocator + Copy>(
         Search::IsMatch => is_match_if_ok(rt, regex.is_match(&input), wanted.is_some()),
         Search::FindAll => matches_if_ok(rt, regex.find_all(alloc, &input), row.matches),
         Search::Advance => advance_over(rt, regex, row),
-        Search::Pieces => feed_halves(rt, alloc, regex, row),
-        Search::Bytes(size) => kept::read_pieces(rt, alloc, regex, row, size),
+        Search::Halves => {
+            let (first, second) = row.haystack.split_at(row.haystack.len().min(2));
+            kept::read(rt, alloc, regex, row, &[first, second], &Calls::Feed)
+        }
+        Search::Bytes(size) => kept::read_chunks(rt, alloc, regex, row, size, &Calls::Advance),
     }
-}
-
-/// Finds the matches of a row by `plain`, through a new cache of this limit.
-pub fn search_plain<R: Abort + AllocGlobal, A: Allocator + Copy>(
-    rt: &R,
-    alloc: A,
-    row: &Row,
-    limit: usize,
-    search: &PlainSearch,
-) -> Result<(), AllocError> {
-    let nfa = nfa(rt, row.states);
-    let mut lazy = Lazy::new(alloc, &nfa, MatchKind::LeftmostFirst, limit);
-    find_plain(rt, alloc, &mut lazy, row, search)
 }
 
 /// Finds the matches of a row by an NFA and its reverse, through new caches of this limit.
@@ -417,96 +346,38 @@ pub fn search_regex<R: Abort + AllocGlobal, A: Allocator + Copy>(
     }
 }
 
-/// Finds the matches of a row in each way, through caches of this limit.
-fn fail_each<R: Abort + AllocGlobal>(rt: &R, row: &Row, limit: usize) {
-    for search in &PLAIN_SEARCHES {
-        fail_each_in_turn(rt, &Trial::SearchPlain(row, limit, search));
-    }
-    for search in &SEARCHES {
-        fail_each_in_turn(rt, &Trial::Search(row, limit, search));
-    }
-}
-
-/// Finds the matches of a row in turn by whole DFAs, and none after the last.
-fn expect_in_turn<R: Abort>(rt: &R, scanner: &mut Regex<&Dfa<'_>, &Dfa<'_>>, row: &Row) {
-    let mut searcher = Searcher::new(Input::new(row.haystack));
-    for index in 0..row.matches.len() + 1 {
-        let found = steady::next(scanner, &mut searcher);
-        same(rt, ends_of(found), row.matches.get(index).copied());
-    }
-}
-
-/// Finds all matches of a row by whole DFAs: at once, and in turn.
-fn expect_by_scanner<R: Abort + AllocGlobal>(
-    rt: &R,
-    scanner: &mut Regex<&Dfa<'_>, &Dfa<'_>>,
-    row: &Row,
-) {
-    let found = steady::matches(rt.alloc(), scanner, row.haystack).expect(rt, "memory");
-    expect_matches(rt, found.as_slice(), row.matches);
-    expect_in_turn(rt, scanner, row);
-}
-
-/// Finds all matches of a haystack by whole DFAs of an NFA and of its reverse.
-fn expect_by_whole<R: Abort + AllocGlobal>(rt: &R, nfa: &NFA, backward: &NFA, row: &Row)
-    requires forward { nfa.now.reverse ≡ false }
-    requires prefix { HasPrefix nfa.now }
-    requires reverse { IsReverseOf backward.now nfa.now }
-{
-    let ends = dense::dfa(rt, nfa, MatchKind::LeftmostFirst, 100);
-    let starts = dense::dfa(rt, backward, MatchKind::All, 100);
-    expect_by_scanner(rt, &mut Regex::from_engines(&ends, &starts), row);
-}
-
-/// Feeds pieces of a haystack.
-fn expect_fed<R: Abort + AllocGlobal>(
-    rt: &R,
-    regex: &mut LazyRegex<'_>,
-    pieces: &[&[u8]],
-    wanted: &[Ends],
-) {
-    feed(rt, rt.alloc(), regex, pieces, wanted).expect(rt, "memory");
-}
-
-/// Feeds a haystack in all ways in three pieces, of which the last is this one.
-fn expect_cuts<R: Abort + AllocGlobal>(
-    rt: &R,
-    regex: &mut LazyRegex<'_>,
-    head: &[u8],
-    last: &[u8],
-    wanted: &[Ends],
-) {
-    for first in 0..head.len() + 1 {
-        let (one, two) = head.split_at(first);
-        expect_fed(rt, regex, &[one, two, last], wanted);
-    }
-}
-
-/// Feeds a haystack in pieces of this size.
-fn expect_chunks<R: Abort + AllocGlobal>(rt: &R, regex: &mut LazyRegex<'_>, row: &Row, size: usize)
-    requires { 0 < size }
-{
-    let pieces = row.haystack.chunks(size).collect::<Vec<_>>(rt.alloc());
-    expect_fed(rt, regex, &pieces.expect(rt, "memory"), row.matches);
-}
-
-/// Feeds a haystack in all ways in up to three pieces, and in pieces of 1, 2 and 3 bytes.
-fn expect_all_cuts<R: Abort + AllocGlobal>(rt: &R, regex: &mut LazyRegex<'_>, row: &Row) {
+/// Feeds a haystack in all ways in three pieces, and in pieces of 1, 2 and 3 bytes.
+fn expect_cuts<R: Abort + AllocGlobal>(rt: &R, regex: &mut LazyRegex<'_>, row: &Row) {
     for second in 0..row.haystack.len() + 1 {
         let (head, last) = row.haystack.split_at(second);
-        expect_cuts(rt, regex, head, last, row.matches);
+        for first in 0..head.len() + 1 {
+            let (one, two) = head.split_at(first);
+            let fed = kept::read(rt, rt.alloc(), regex, row, &[one, two, last], &Calls::Feed);
+            fed.expect(rt, "memory");
+        }
     }
-    expect_chunks(rt, regex, row, 1);
-    expect_chunks(rt, regex, row, 2);
-    expect_chunks(rt, regex, row, 3);
+    for size in 1..4 {
+        let fed = kept::read_chunks(rt, rt.alloc(), regex, row, size, &Calls::Feed);
+        fed.expect(rt, "memory");
+    }
 }
 
-/// Finds the matches of a row by whole DFAs, and in pieces.
+/// Finds the matches of a row by whole DFAs, at once, and in turn and none after the last, and in
+/// pieces.
 fn expect_row<R: Abort + AllocGlobal>(rt: &R, row: &Row) {
     let nfa = nfa(rt, row.states);
     let backward = backward_of(rt, &nfa);
-    expect_by_whole(rt, &nfa, &backward, row);
-    expect_all_cuts(rt, &mut Regex::new(rt.alloc(), &nfa, &backward, 100), row);
+    let ends = dense::dfa(rt, &nfa, MatchKind::LeftmostFirst, 100);
+    let starts = dense::dfa(rt, &backward, MatchKind::All, 100);
+    let mut scanner = Regex::from_engines(&ends, &starts);
+    let found = steady::matches(rt.alloc(), &mut scanner, row.haystack);
+    expect_found(rt, found, row.matches);
+    let mut searcher = Searcher::new(Input::new(row.haystack));
+    for index in 0..row.matches.len() + 1 {
+        let found = steady::next(&mut scanner, &mut searcher);
+        expect_match(rt, found, row.matches.get(index).copied());
+    }
+    expect_cuts(rt, &mut Regex::new(rt.alloc(), &nfa, &backward, 100), row);
 }
 
 /// Whole DFAs find the same matches as lazy ones, through caches of each limit and while
@@ -514,52 +385,55 @@ fn expect_row<R: Abort + AllocGlobal>(rt: &R, row: &Row) {
 #[test]
 fn all_matches(rt: HostRuntime) {
     for row in &ROWS {
-        fail_each(&rt, row, 0);
-        fail_each(&rt, row, 64);
+        for limit in [0, 64] {
+            for search in &PLAIN_SEARCHES {
+                fail_each_in_turn(&rt, &Trial::SearchPlain(row, limit, search));
+            }
+            for search in &SEARCHES {
+                fail_each_in_turn(&rt, &Trial::Search(row, limit, search));
+            }
+        }
         expect_row(&rt, row);
     }
 }
 
 const TEXT: &[u8] = b"abcd e";
 
-/// Finds the leftmost word of an input, by `plain`.
-fn expect_word<R: Abort>(rt: &R, lazy: &mut Lazy<'_>, input: &Input<'_>, wanted: Option<Ends>)
+/// Finds the leftmost word of a range of the text, by `plain`.
+fn expect_word<R: Abort>(
+    rt: &R,
+    lazy: &mut Lazy<'_>,
+    start: usize,
+    end: usize,
+    wanted: Option<Ends>,
+)
     requires forward { lazy.old.nfa.reverse ≡ false }
     requires kind { lazy.old.kind ≡ kinds.LeftmostFirst }
-    requires start { has_start input.now.anchored ≡ true }
     ensures nfa { lazy.new.nfa ≡ lazy.old.nfa }
     ensures kind { lazy.new.kind ≡ lazy.old.kind }
 {
-    let found = plain::find(lazy, input).expect(rt, "memory");
-    same(rt, ends_of(found), wanted);
+    assert!(rt; start <= end && end <= TEXT.len());
+    let found = plain::find(lazy, &Input::new(TEXT).range(start..end));
+    expect_match(rt, found.expect(rt, "memory"), wanted);
 }
 
-/// Finds the leftmost word of ranges of the text, by `plain`.
-fn expect_words<R: Abort>(rt: &R, lazy: &mut Lazy<'_>)
-    requires forward { lazy.old.nfa.reverse ≡ false }
-    requires kind { lazy.old.kind ≡ kinds.LeftmostFirst }
-{
-    expect_word(rt, lazy, &Input::new(TEXT).range(0..4), Some((0, 0, 4)));
-    expect_word(rt, lazy, &Input::new(TEXT).range(1..4), None);
-    expect_word(rt, lazy, &Input::new(TEXT).range(1..6), Some((0, 5, 6)));
-}
+/// Ranges of the text, and where the word that ends with the range begins.
+static BEGINS: [(usize, usize, usize); 2] = [(0, 4, 0), (1, 6, 5)];
 
-/// Finds where a word of the text begins, by a search backward of a range up to its end.
-fn expect_begins<R: Abort>(rt: &R, lazy: &mut Lazy<'_>) {
-    expect_search(rt, lazy, &Input::new(TEXT).range(0..4), ended(0));
-    expect_search(rt, lazy, &Input::new(TEXT).range(1..6), ended(5));
-}
-
+/// Finds the words of ranges of the text, and where each begins, by a search backward of a range up
+/// to its end.
 #[test]
 fn words_of_ranges(rt: HostRuntime) {
     let nfa = nfa(&rt, WORDS);
-    expect_words(
-        &rt,
-        &mut Lazy::new(rt.alloc(), &nfa, MatchKind::LeftmostFirst, 100),
-    );
+    let mut lazy = Lazy::new(rt.alloc(), &nfa, MatchKind::LeftmostFirst, 100);
+    expect_word(&rt, &mut lazy, 0, 4, Some((0, 0, 4)));
+    expect_word(&rt, &mut lazy, 1, 4, None);
+    expect_word(&rt, &mut lazy, 1, 6, Some((0, 5, 6)));
     let backward = backward_of(&rt, &nfa);
-    expect_begins(
-        &rt,
-        &mut Lazy::new(rt.alloc(), &backward, MatchKind::All, 100),
-    );
+    let mut lazy = Lazy::new(rt.alloc(), &backward, MatchKind::All, 100);
+    for &(start, end, begin) in &BEGINS {
+        assert!(rt; start <= end && end <= TEXT.len());
+        let input = Input::new(TEXT).range(start..end);
+        expect_search(&rt, &mut lazy, &input, ended(begin));
+    }
 }

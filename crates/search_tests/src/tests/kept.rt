@@ -1,10 +1,11 @@
 //! The bytes of each match of a text in pieces, which are kept until the search continues.
 
-use crate::tests::find::{Row, Search, WORDS, backward_of, expect_matches, nfa};
+use crate::tests::find::{Row, Search, WORDS, expect_matches};
+use crate::tests::patterns::regex_of;
 use crate::tests::trial::{Trial, fail_each_in_turn, succeed_if};
 use crate::tests::{holds, same};
 use determinize_below::PatternID;
-use determinize_find::{LazyRegex, Match, Pieces, Regex};
+use determinize_find::{LazyRegex, Match, Pieces};
 use determinize_regex::Stream;
 use std::alloc::{AllocError, Allocator, Global};
 use std::process::Abort;
@@ -39,14 +40,40 @@ fn expect_bytes<R: Abort, A: Allocator + Copy>(
     same(rt, stream.bytes_of(found), text.get(found.range()));
 }
 
-/// Adds the matches that are certain after a piece. A call that fails is made again, once.
+/// The calls by which a text in pieces is searched.
+pub enum Calls {
+    /// `feed`, which adds all matches of a piece.
+    Feed,
+    /// `advance`, which returns one match of a piece.
+    Advance,
+}
+
+/// Adds the matches of a piece by `feed`. If that fails, feeds the part that was not read.
+fn feed_piece<A: Allocator + Copy>(
+    stream: &mut Pieces<A>,
+    regex: &mut LazyRegex<'_, Global, A, A>,
+    piece: &[u8],
+    found: &mut Vec<Match, A>,
+    is_sound: &mut bool,
+) -> Result<(), AllocError> {
+    let begin = stream.bytes_read();
+    if stream.feed(regex, piece, found).is_ok() {
+        return Ok(());
+    }
+    *is_sound = false;
+    let read = stream.bytes_read().saturating_sub(begin);
+    stream.feed(regex, piece.get(read..).unwrap_or(piece), found)
+}
+
+/// Adds the matches of a piece by `advance`, and compares their bytes. A call that fails is made
+/// again, once.
 fn read_piece<R: Abort, A: Allocator + Copy>(
     rt: &R,
     stream: &mut Pieces<A>,
     regex: &mut LazyRegex<'_, Global, A, A>,
     text: &[u8],
     mut piece: &[u8],
-    found: &mut Vec<Match>,
+    found: &mut Vec<Match, A>,
     is_sound: &mut bool,
 ) -> Result<(), AllocError> {
     for _ in 0..u64::MAX {
@@ -64,13 +91,13 @@ fn read_piece<R: Abort, A: Allocator + Copy>(
     Ok(())
 }
 
-/// Adds the matches that are left, and makes a call that fails again.
+/// Adds the matches that are left, and makes a call that fails again. Compares their bytes.
 fn finish<R: Abort, A: Allocator + Copy>(
     rt: &R,
     stream: &Pieces<A>,
     regex: &mut LazyRegex<'_, Global, A, A>,
     text: &[u8],
-    found: &mut Vec<Match>,
+    found: &mut Vec<Match, A>,
     is_sound: &mut bool,
 ) -> Result<(), AllocError> {
     let count = found.len();
@@ -84,34 +111,56 @@ fn finish<R: Abort, A: Allocator + Copy>(
     Ok(())
 }
 
-/// Finds the matches of a row in pieces, and returns an error if a call failed and was made again.
-fn read_row<R: Abort, A: Allocator + Copy>(
+/// Finds the matches of a row in pieces, and makes each call that fails again: no match is lost,
+/// and none is found twice. Returns an error if a call failed.
+fn read_all<R: Abort, A: Allocator + Copy>(
     rt: &R,
     stream: &mut Pieces<A>,
     regex: &mut LazyRegex<'_, Global, A, A>,
     row: &Row,
-    size: usize,
-    found: &mut Vec<Match>,
+    pieces: &[&[u8]],
+    calls: &Calls,
+    found: &mut Vec<Match, A>,
 ) -> Result<(), AllocError> {
-    let mut is_sound = true;
-    for piece in row.haystack.chunks(size.max(1)) {
-        read_piece(rt, stream, regex, row.haystack, piece, found, &mut is_sound)?;
+    let (text, mut is_sound) = (row.haystack, true);
+    for piece in pieces {
+        match *calls {
+            Calls::Feed => feed_piece(stream, regex, piece, found, &mut is_sound),
+            Calls::Advance => read_piece(rt, stream, regex, text, piece, found, &mut is_sound),
+        }?;
     }
-    finish(rt, stream, regex, row.haystack, found, &mut is_sound)?;
-    expect_matches(rt, found, row.matches);
+    finish(rt, stream, regex, text, found, &mut is_sound)?;
+    expect_matches(rt, found.as_slice(), row.matches);
     succeed_if(is_sound)
 }
 
-/// Finds the matches of a row in pieces of this size, and compares their bytes.
-pub fn read_pieces<R: Abort + AllocGlobal, A: Allocator + Copy>(
+/// Finds the matches of a row in these pieces.
+pub fn read<R: Abort, A: Allocator + Copy>(
+    rt: &R,
+    alloc: A,
+    regex: &mut LazyRegex<'_, Global, A, A>,
+    row: &Row,
+    pieces: &[&[u8]],
+    calls: &Calls,
+) -> Result<(), AllocError> {
+    let (mut stream, mut found) = (Pieces::new(alloc), Vec::new(alloc));
+    read_all(rt, &mut stream, regex, row, pieces, calls, &mut found)
+}
+
+/// Finds the matches of a row in pieces of this size.
+pub fn read_chunks<R: Abort + AllocGlobal, A: Allocator + Copy>(
     rt: &R,
     alloc: A,
     regex: &mut LazyRegex<'_, Global, A, A>,
     row: &Row,
     size: usize,
+    calls: &Calls,
 ) -> Result<(), AllocError> {
-    let (mut stream, mut found) = (Pieces::new(alloc), Vec::new(rt.alloc()));
-    read_row(rt, &mut stream, regex, row, size, &mut found)
+    let pieces = row
+        .haystack
+        .chunks(size.max(1))
+        .collect::<Vec<_>>(rt.alloc());
+    read(rt, alloc, regex, row, &pieces.expect(rt, "memory"), calls)
 }
 
 /// The bytes of each match, with each allocation failing in turn.
@@ -124,13 +173,11 @@ fn bytes_of_each_match(rt: HostRuntime) {
     }
 }
 
-/// Returns how many words of a piece are `seven`.
-fn count_sevens<R: Abort>(
-    rt: &R,
-    stream: &mut Pieces,
-    regex: &mut LazyRegex<'_>,
-    mut piece: &[u8],
-) -> usize {
+/// Reads 1500 words in one piece of three blocks, of which never more than one and the beginning of
+/// a word are kept. The bytes of the first word are then dropped.
+pub fn expect_sevens<R: Abort + AllocGlobal>(rt: &R, regex: &mut LazyRegex<'_>) {
+    let text = b"seven, ".repeat(rt.alloc(), 1500).expect(rt, "memory");
+    let (mut stream, mut piece) = (Pieces::new(rt.alloc()), text.as_slice());
     let mut count = 0usize;
     for _ in 0..u64::MAX {
         let Some(next) = stream.advance(regex, &mut piece).expect(rt, "memory") else {
@@ -140,14 +187,7 @@ fn count_sevens<R: Abort>(
         holds(rt, stream.bytes_kept() <= 4096 + 8);
         count = count.saturating_add(1);
     }
-    count
-}
-
-/// Reads 1500 words in one piece of three blocks, of which never more than one and the beginning of
-/// a word are kept. The bytes of the first word are then dropped.
-fn expect_sevens<R: Abort + AllocGlobal>(rt: &R, stream: &mut Pieces, regex: &mut LazyRegex<'_>) {
-    let text = b"seven, ".repeat(rt.alloc(), 1500).expect(rt, "memory");
-    same(rt, count_sevens(rt, stream, regex, text.as_slice()), 1500);
+    same(rt, count, 1500);
     holds(rt, stream.bytes_kept() <= 64);
     let first = Match {
         pattern: PatternID::ZERO,
@@ -155,14 +195,6 @@ fn expect_sevens<R: Abort + AllocGlobal>(rt: &R, stream: &mut Pieces, regex: &mu
         end: 5,
     };
     same(rt, stream.bytes_of(&first), None);
-}
-
-#[test]
-fn dropped_bytes(rt: HostRuntime) {
-    let nfa = nfa(&rt, WORDS);
-    let backward = backward_of(&rt, &nfa);
-    let mut regex = Regex::new(rt.alloc(), &nfa, &backward, 100);
-    expect_sevens(&rt, &mut Pieces::new(rt.alloc()), &mut regex);
 }
 
 /// The start and the bytes of a word.
@@ -188,7 +220,7 @@ fn expect_piece<R: Abort>(rt: &R, stream: &mut Stream<'_>, mut piece: &[u8], wan
 
 #[test]
 fn bytes_of_patterns(rt: HostRuntime) {
-    let regex = determinize_regex::Regex::new(rt.alloc(), "[a-z]+").expect(&rt, "a regex");
+    let regex = regex_of(&rt, &["[a-z]+"]);
     let mut stream = regex.stream(rt.alloc(), 100);
     for &(piece, wanted) in &PIECES {
         expect_piece(&rt, &mut stream, piece, wanted);

@@ -4,17 +4,19 @@ ghost use Rattle.std.specs.Prelude.{◌≡◌, false, true};
 ghost use Rattle.determinize_below.specs.declared.search.MatchKind.TheVariants as kinds;
 ghost use Rattle.determinize_engine.specs.Searches.{has_start};
 
-use crate::tests::find::{Ends, expect_matches, expect_same};
+use crate::tests::find::{Ends, expect_matches, expect_same, same_match};
+use crate::tests::patterns::regex_of;
 use crate::tests::{dense, same};
 use determinize_below::{Anchored, MatchKind};
 use determinize_dense::Dfa;
 use determinize_find::Match;
 use determinize_linear::{dense as by_dfa, find_all};
-use determinize_regex::{Input, Regex, RegexConfig};
+use determinize_regex::Input;
 use std::process::Abort;
 
-/// Patterns, a haystack, the start and the end of a range of it, and all matches in the range.
-type Case = (
+/// Patterns, a haystack, the start and the end of a range of it, and all matches or tokens in the
+/// range.
+pub type Case = (
     &'static [&'static str],
     &'static [u8],
     usize,
@@ -83,31 +85,8 @@ static ANCHORED: [Case; 4] = [
     (&[r"\B[ab]", r"\b"], b"-ab-", 2, 4, &[(0, 2, 3)]),
 ];
 
-/// Asserts that a cursor over the matches of an input returns these, one at a time, and then none.
-fn expect_in_turn<R: Abort + AllocGlobal>(
-    rt: &R,
-    dfa: &Dfa<'_>,
-    input: &Input<'_>,
-    wanted: &[Match],
-)
-    requires forward { dfa.now.nfa.reverse ≡ false }
-    requires kind { dfa.now.kind ≡ kinds.LeftmostFirst }
-    requires start { has_start input.now.anchored ≡ true }
-{
-    let mut searcher = by_dfa::Searcher::new(rt.alloc(), dfa, input).expect(rt, "memory");
-    let mut found = Vec::new(rt.alloc());
-    for _ in 0..=wanted.len() {
-        let Some(next) = searcher.advance() else {
-            break;
-        };
-        found.push(next).expect(rt, "memory");
-    }
-    expect_same(rt, found.as_slice(), wanted);
-    assert!(rt; searcher.advance().is_none());
-}
-
 /// Asserts that a whole DFA finds these matches of an input in a linear number of steps, in a list
-/// and one at a time, and so does its NFA.
+/// and one at a time, and then none, and so does its NFA.
 pub fn expect_linear<R: Abort + AllocGlobal>(
     rt: &R,
     dfa: &Dfa<'_>,
@@ -118,40 +97,28 @@ pub fn expect_linear<R: Abort + AllocGlobal>(
     requires kind { dfa.now.kind ≡ kinds.LeftmostFirst }
     requires start { has_start input.now.anchored ≡ true }
 {
-    let found = by_dfa::find_all(rt.alloc(), dfa, input).expect(rt, "memory");
-    expect_same(rt, found.as_slice(), wanted);
-    expect_in_turn(rt, dfa, input, wanted);
-    let found = find_all(rt.alloc(), dfa.nfa(), input).expect(rt, "memory");
-    expect_same(rt, found.as_slice(), wanted);
+    expect_same(rt, by_dfa::find_all(rt.alloc(), dfa, input), wanted);
+    let mut searcher = by_dfa::Searcher::new(rt.alloc(), dfa, input).expect(rt, "memory");
+    for index in 0..wanted.len() + 2 {
+        same_match(rt, searcher.advance(), wanted.get(index).copied());
+    }
+    expect_same(rt, find_all(rt.alloc(), dfa.nfa(), input), wanted);
 }
 
-/// Compares all matches of an input, by a regex, with those expected, and with those in a linear
+/// Compares all matches of a case, by a regex, with those expected, and with those in a linear
 /// number of steps.
-fn expect_input<R: Abort + AllocGlobal>(
-    rt: &R,
-    regex: &mut Regex,
-    input: &Input<'_>,
-    wanted: &[Ends],
-)
-    requires { has_start input.now.anchored ≡ true }
-{
-    let found = regex.find_all(rt.alloc(), input).expect(rt, "memory");
-    expect_matches(rt, found.as_slice(), wanted);
-    let dfa = dense::dfa(rt, regex.nfa(), MatchKind::LeftmostFirst, 100);
-    expect_linear(rt, &dfa, input, found.as_slice());
-    expect_linear(rt, &dense::least(rt, &dfa), input, found.as_slice());
-}
-
-/// Compares the matches of a case.
 fn expect_case<R: Abort + AllocGlobal>(rt: &R, case: &Case, anchored: Anchored)
     requires { has_start anchored ≡ true }
 {
     let (patterns, haystack, start, end, wanted) = *case;
     assert!(rt; start <= end && end <= haystack.len());
-    let made = Regex::new_many(rt.alloc(), patterns, RegexConfig::new());
-    let mut regex = made.expect(rt, "patterns");
     let input = Input::new(haystack).range(start..end).anchored(anchored);
-    expect_input(rt, &mut regex, &input, wanted);
+    let mut regex = regex_of(rt, patterns);
+    let found = regex.find_all(rt.alloc(), &input).expect(rt, "memory");
+    expect_matches(rt, found.as_slice(), wanted);
+    let dfa = dense::dfa(rt, regex.nfa(), MatchKind::LeftmostFirst, 100);
+    expect_linear(rt, &dfa, &input, found.as_slice());
+    expect_linear(rt, &dense::least(rt, &dfa), &input, found.as_slice());
 }
 
 #[test]
@@ -167,7 +134,7 @@ fn found_by_hand(rt: HostRuntime) {
 /// Of 20,000 bytes `a` each is a match, behind which the others are read.
 #[test]
 fn quadratic_by_other_searches(rt: HostRuntime) {
-    let regex = Regex::new(rt.alloc(), "[^z]*z|a").expect(&rt, "a pattern");
+    let regex = regex_of(&rt, &["[^z]*z|a"]);
     let text = Vec::from_elem(rt.alloc(), b'a', 20_000).expect(&rt, "memory");
     let input = Input::new(&text);
     let dfa = dense::dfa(&rt, regex.nfa(), MatchKind::LeftmostFirst, 100);

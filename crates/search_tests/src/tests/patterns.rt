@@ -1,7 +1,7 @@
 //! Patterns from their texts: all matches, also in pieces, whether there is one, the parts between
 //! them, other bytes in their place, which text is in error, and how errors are written.
 
-use crate::tests::find::{Ends, expect_matches};
+use crate::tests::find::{Ends, expect_found, expect_matches};
 use crate::tests::{expect_text, holds, same};
 use determinize_regex::{
     Error, ErrorKind, Input, Match, Matcher, ParseError, Regex, RegexConfig, Stream,
@@ -10,60 +10,50 @@ use determinize_uses::words;
 use std::process::Abort;
 
 /// Returns the regex of these patterns.
-fn regex_of<R: Abort + AllocGlobal>(rt: &R, patterns: &[&str]) -> Regex {
+pub fn regex_of<R: Abort + AllocGlobal>(rt: &R, patterns: &[&str]) -> Regex {
     let made = Regex::new_many(rt.alloc(), patterns, RegexConfig::new());
     made.expect(rt, "patterns")
 }
 
+/// The numbers and names in `In 1984 Ada`.
+static FOUND: [Ends; 3] = [(1, 0, 2), (0, 3, 7), (1, 8, 11)];
+
+/// Compares the numbers and names of a text, and the memory of the caches once they are cleared.
+#[test]
+fn numbers_and_names(rt: HostRuntime) {
+    let mut regex = words::words(rt.alloc()).expect(&rt, "patterns");
+    let found = words::find_all(rt.alloc(), &mut regex, b"In 1984 Ada");
+    expect_found(&rt, found, &FOUND);
+    holds(&rt, regex.memory_usage() > 0);
+    regex.clear();
+    same(&rt, regex.memory_usage(), 0);
+}
+
 /// Compares whether a `Regex` of `a|ab` has a match in two texts, and the first match.
 fn expect_first<R: Abort>(rt: &R, regex: &mut Regex) {
-    same(rt, regex.is_match(&Input::new(b"xab")), Ok(true));
-    same(rt, regex.is_match(&Input::new(b"xb")), Ok(false));
-    let found = regex.find(&Input::new(b"xab")).expect(rt, "memory");
+    let (some, none) = (Input::new(b"xab"), Input::new(b"xb"));
+    same(rt, regex.is_match(&some), Ok(true));
+    same(rt, regex.is_match(&none), Ok(false));
+    let found = regex.find(&some).expect(rt, "memory");
     expect_matches(rt, found.as_slice(), &[(0, 1, 2)]);
 }
 
 /// Compares all matches of `a|ab` in a text by a `Matcher`.
 fn expect_all<R: Abort + AllocGlobal>(rt: &R, matcher: &mut Matcher<'_>) {
     same(rt, matcher.is_match(&Input::new(b"xab")), Ok(true));
-    let found = matcher
-        .find_all(rt.alloc(), &Input::new(b"aab"))
-        .expect(rt, "memory");
-    expect_matches(rt, &found, &[(0, 0, 1), (0, 1, 2)]);
-}
-
-/// Compares the numbers and names of a text.
-fn expect_words<R: Abort + AllocGlobal>(rt: &R, regex: &mut Regex) {
-    let found = words::find_all(rt.alloc(), regex, b"In 1984 Ada");
-    expect_matches(
-        rt,
-        &found.expect(rt, "memory"),
-        &[(1, 0, 2), (0, 3, 7), (1, 8, 11)],
-    );
-}
-
-/// Compares the numbers and names of a text, and the memory of the caches once they are cleared.
-#[test]
-fn numbers_and_names(rt: HostRuntime) {
-    let mut regex = words::words(rt.alloc()).expect(&rt, "patterns");
-    expect_words(&rt, &mut regex);
-    holds(&rt, regex.memory_usage() > 0);
-    regex.clear();
-    same(&rt, regex.memory_usage(), 0);
+    let found = matcher.find_all(rt.alloc(), &Input::new(b"aab"));
+    expect_found(rt, found, &[(0, 0, 1), (0, 1, 2)]);
 }
 
 /// Searches by a `Regex` twice, and by a `Matcher`.
-fn expect_each<R: Abort + AllocGlobal>(rt: &R, regex: &mut Regex) {
-    expect_first(rt, regex);
-    regex.clear();
-    expect_first(rt, regex);
-    regex.clear();
-    expect_all(rt, &mut regex.matcher(rt.alloc(), 2));
-}
-
 #[test]
 fn regex_and_matcher(rt: HostRuntime) {
-    expect_each(&rt, &mut regex_of(&rt, &["a|ab"]));
+    let mut regex = regex_of(&rt, &["a|ab"]);
+    expect_first(&rt, &mut regex);
+    regex.clear();
+    expect_first(&rt, &mut regex);
+    regex.clear();
+    expect_all(&rt, &mut regex.matcher(rt.alloc(), 2));
 }
 
 /// A text, its parts between runs of commas and blanks, and the text with `$1` in place of each
@@ -82,11 +72,6 @@ fn expect_list<R: Abort + AllocGlobal>(rt: &R, regex: &mut Regex) {
     same(rt, text.expect(rt, "memory").as_slice(), REPLACED);
 }
 
-#[test]
-fn split_and_replace(rt: HostRuntime) {
-    expect_list(&rt, &mut regex_of(&rt, &["[ ,]+"]));
-}
-
 /// The UTF-8 of `aé`, its parts between the matches of `b*`, and the text with `-` in place of
 /// each, as Python's `re` finds them in the string.
 const ACCENTED: &[u8] = b"a\xC3\xA9";
@@ -98,25 +83,20 @@ const DASHED: &[u8] = b"-a-\xC3\xA9-";
 /// Splits the text, and replaces its matches, but not inside its second character.
 fn expect_accented<R: Abort + AllocGlobal>(rt: &R, regex: &mut Regex) {
     let parts = regex.split_utf8(rt.alloc(), ACCENTED);
-    same(
-        rt,
-        parts.expect(rt, "memory").as_slice(),
-        ACCENTED_PARTS.as_slice(),
-    );
+    let parts = parts.expect(rt, "memory");
+    same(rt, parts.as_slice(), ACCENTED_PARTS.as_slice());
     let text = regex.replace_all_utf8(rt.alloc(), ACCENTED, b"-");
     same(rt, text.expect(rt, "memory").as_slice(), DASHED);
 }
 
 #[test]
-fn split_and_replace_utf8(rt: HostRuntime) {
+fn split_and_replace(rt: HostRuntime) {
+    expect_list(&rt, &mut regex_of(&rt, &["[ ,]+"]));
     expect_accented(&rt, &mut regex_of(&rt, &["b*"]));
 }
 
-/// The numbers and names in the text.
-static FOUND: [Ends; 3] = [(1, 0, 2), (0, 3, 7), (1, 8, 11)];
-
-/// The text in two pieces, with those of them that are found after each. The year lies in both, and
-/// the last name may go on.
+/// The text in two pieces, with those of its numbers and names that are found
+/// after each. The year lies in both, and the last name may go on.
 static PIECES: [(&[u8], &[Ends]); 2] = [
     (b"In 19", &[(1, 0, 2)]),
     (b"84 Ada", &[(1, 0, 2), (0, 3, 7)]),
@@ -133,32 +113,11 @@ fn expect_pieces<R: Abort>(rt: &R, stream: &mut Stream<'_>, found: &mut Vec<Matc
     expect_matches(rt, found, &FOUND);
 }
 
-/// Searches by a stream of a `Regex`.
-fn expect_stream<R: Abort + AllocGlobal>(rt: &R, regex: &Regex) {
-    expect_pieces(
-        rt,
-        &mut regex.stream(rt.alloc(), 100),
-        &mut Vec::new(rt.alloc()),
-    );
-}
-
 #[test]
 fn in_pieces(rt: HostRuntime) {
-    expect_stream(&rt, &regex_of(&rt, &["[0-9]+", "[A-Z][a-z]*"]));
-}
-
-/// Returns the index of a text that is in error, and the place of the error.
-fn place_of(made: Result<Regex, Error>) -> Option<(usize, usize, usize)> {
-    match made {
-        Err(Error::Parse { index, error }) => Some((index, error.start, error.end)),
-        _ => None,
-    }
-}
-
-#[test]
-fn second_pattern_is_in_error(rt: HostRuntime) {
-    let result = Regex::new_many(rt.alloc(), &["a", "b("], RegexConfig::new());
-    same(&rt, place_of(result), Some((1, 1, 2)));
+    let regex = regex_of(&rt, &["[0-9]+", "[A-Z][a-z]*"]);
+    let mut stream = regex.stream(rt.alloc(), 100);
+    expect_pieces(&rt, &mut stream, &mut Vec::new(rt.alloc()));
 }
 
 /// Errors with their texts, and what is written of both.
@@ -200,6 +159,7 @@ static MARKED: [(&str, ErrorKind, usize, usize, &str); 5] = [
     ),
 ];
 
+/// Errors are written with their texts, and the second of two patterns is in error.
 #[test]
 fn errors_are_written(rt: HostRuntime) {
     for &(text, kind, start, end, written) in &MARKED {
@@ -212,4 +172,10 @@ fn errors_are_written(rt: HostRuntime) {
     let error = ParseError::new(ErrorKind::GroupUnclosed, 1, 2);
     let second = Error::Parse { index: 1, error };
     expect_text(&rt, &second, "pattern 1: the group is not closed, at 1..2");
+    let made = Regex::new_many(rt.alloc(), &["a", "b("], RegexConfig::new());
+    let place = match made {
+        Err(Error::Parse { index, error }) => Some((index, error.start, error.end)),
+        _ => None,
+    };
+    same(&rt, place, Some((1, 1, 2)));
 }

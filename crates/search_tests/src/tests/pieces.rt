@@ -1,15 +1,11 @@
 //! A text in pieces: each match is found with its last byte, and few bytes are kept.
 
-ghost use Rattle.std.specs.Prelude.{◌≡◌, false};
-ghost use Rattle.determinize_find.specs.Prefix.{HasPrefix};
-ghost use Rattle.determinize_find.specs.Reversal.{IsReverseOf};
-
 use crate::tests::find::{Ends, WORDS, backward_of, expect_matches, nfa, same_end};
 use crate::tests::{dense, ended, holds, same};
-use determinize_below::{MatchKind, NFA};
+use determinize_below::MatchKind;
 use determinize_engine::WithAllocError;
 use determinize_find::{LazyRegex, Match, Pieces, Regex};
-use determinize_lazy::{Engine, Lazy, Scan, Walker};
+use determinize_lazy::{Engine, Lazy};
 use std::alloc::AllocError;
 use std::process::Abort;
 
@@ -52,21 +48,8 @@ pub fn end<R: Abort, B: Engine<Error = AllocError>>(
     stream.finish(regex, found).expect(rt, "memory");
 }
 
-/// Feeds a block, after which at most 64 bytes may be kept, and returns how many matches it adds.
-fn feed_block<R: Abort>(
-    rt: &R,
-    stream: &mut Pieces,
-    regex: &mut LazyRegex<'_>,
-    block: &[u8],
-    found: &mut Vec<Match>,
-) -> usize {
-    found.clear();
-    put(rt, stream, regex, block, found);
-    holds(rt, stream.bytes_kept() <= 64);
-    found.len()
-}
-
-/// Feeds a block many times, and returns how many matches there are.
+/// Feeds a block many times, after each of which at most 64 bytes may be kept. Returns how many
+/// matches there are.
 fn count_matches<R: Abort>(
     rt: &R,
     stream: &mut Pieces,
@@ -76,9 +59,11 @@ fn count_matches<R: Abort>(
 ) -> usize {
     let mut count = 0usize;
     for _ in 0..1600u32 {
-        count = count.saturating_add(feed_block(rt, stream, regex, block, found));
+        put(rt, stream, regex, block, found);
+        holds(rt, stream.bytes_kept() <= 64);
+        count = count.saturating_add(found.len());
+        found.clear();
     }
-    found.clear();
     end(rt, stream, regex, found);
     count.saturating_add(found.len())
 }
@@ -99,32 +84,22 @@ fn hundred_megabytes(rt: HostRuntime) {
     expect_words(&rt, &mut Regex::new(rt.alloc(), &nfa, &backward, 100));
 }
 
-/// Feeds a text in pieces. After each piece there must be a match for each line that has ended.
-fn feed_lines<R: Abort, B: Engine<Error = AllocError>>(
-    rt: &R,
-    stream: &mut Pieces,
-    regex: &mut Regex<Lazy<'_>, B>,
-    pieces: &[&[u8]],
-    found: &mut Vec<Match>,
-) {
-    let mut read = 0usize;
-    for piece in pieces {
-        put(rt, stream, regex, piece, found);
-        read = read.saturating_add(piece.len());
-        same(rt, Some(found.len()), ENDED.get(read).copied());
-    }
-    end(rt, stream, regex, found);
-    expect_matches(rt, found, MATCHES);
-}
-
-/// Finds the lines of a text in pieces.
+/// Finds the lines of a text in pieces. After each piece there must be a match for each line that
+/// has ended.
 fn expect_lines<R: Abort + AllocGlobal, B: Engine<Error = AllocError>>(
     rt: &R,
     regex: &mut Regex<Lazy<'_>, B>,
     pieces: &[&[u8]],
 ) {
     let (mut stream, mut found) = (Pieces::new(rt.alloc()), Vec::new(rt.alloc()));
-    feed_lines(rt, &mut stream, regex, pieces, &mut found);
+    let mut read = 0usize;
+    for piece in pieces {
+        put(rt, &mut stream, regex, piece, &mut found);
+        read = read.saturating_add(piece.len());
+        same(rt, Some(found.len()), ENDED.get(read).copied());
+    }
+    end(rt, &stream, regex, &mut found);
+    expect_matches(rt, &found, MATCHES);
 }
 
 /// Finds the lines one by one, and in pieces of one byte to all bytes.
@@ -139,64 +114,43 @@ fn expect_each<R: Abort + AllocGlobal, B: Engine<Error = AllocError>>(
     }
 }
 
-/// Finds the lines by a lazy DFA that finds the ends and a whole one that finds the starts.
-fn expect_by_whole<R: Abort + AllocGlobal>(rt: &R, nfa: &NFA, backward: &NFA)
-    requires forward { nfa.now.reverse ≡ false }
-    requires prefix { HasPrefix nfa.now }
-    requires reverse { IsReverseOf backward.now nfa.now }
-{
-    let starts = dense::dfa(rt, backward, MatchKind::All, 1000);
-    let ends = Lazy::new(rt.alloc(), nfa, MatchKind::LeftmostFirst, 100);
-    expect_each(rt, &mut Regex::from_engines(ends, WithAllocError(&starts)));
-}
-
+/// Finds the lines by two lazy DFAs, and by a lazy one that finds the ends and a whole one that
+/// finds the starts.
 #[test]
 fn each_line_at_its_last_byte(rt: HostRuntime) {
     let nfa = nfa(&rt, LINE);
     let backward = backward_of(&rt, &nfa);
     expect_each(&rt, &mut Regex::new(rt.alloc(), &nfa, &backward, 100));
-    expect_by_whole(&rt, &nfa, &backward);
-}
-
-/// Feeds `b` to a scan of `a`, which another cache must not feed or finish.
-fn expect_rest<R: Abort>(rt: &R, lazy: &mut Lazy<'_>, other: &mut Lazy<'_>, scan: &mut Scan) {
-    holds(rt, other.feed(scan, b"b").is_err());
-    holds(rt, other.finish(scan, None).is_err());
-    lazy.feed(scan, b"b").expect(rt, "memory");
-    same_end(rt, lazy.finish(scan, None), ended(2));
+    let starts = dense::dfa(&rt, &backward, MatchKind::All, 1000);
+    let ends = Lazy::new(rt.alloc(), &nfa, MatchKind::LeftmostFirst, 100);
+    expect_each(&rt, &mut Regex::from_engines(ends, WithAllocError(&starts)));
 }
 
 /// Scans `ab` by a cache, while another one must not feed or finish the scan.
 fn expect_scan<R: Abort>(rt: &R, lazy: &mut Lazy<'_>, other: &mut Lazy<'_>) {
     let start = lazy.nfa().start_unanchored();
     let mut scan = lazy.scan_text(start, None, b"a").expect(rt, "memory");
-    expect_rest(rt, lazy, other, &mut scan);
-}
-
-/// Moves a walker over `ab`, which another cache must not move.
-fn expect_steps<R: Abort>(rt: &R, lazy: &mut Lazy<'_>, other: &mut Lazy<'_>, walker: &mut Walker) {
-    lazy.next(walker, Some(b'a')).expect(rt, "memory");
-    holds(rt, other.next(walker, Some(b'b')).is_err());
-    lazy.next(walker, Some(b'b')).expect(rt, "memory");
+    holds(rt, other.feed(&mut scan, b"b").is_err());
+    holds(rt, other.finish(&scan, None).is_err());
+    lazy.feed(&mut scan, b"b").expect(rt, "memory");
+    same_end(rt, lazy.finish(&scan, None), ended(2));
 }
 
 /// Walks over `ab` by a cache, while another one must not move the walker.
 fn expect_walker<R: Abort>(rt: &R, lazy: &mut Lazy<'_>, other: &mut Lazy<'_>) {
     let start = lazy.nfa().start_unanchored();
     let mut walker = lazy.walker(start, None).expect(rt, "memory");
-    expect_steps(rt, lazy, other, &mut walker);
-}
-
-/// Scans and walks by a cache of an NFA, and by one of another NFA.
-fn expect_caches<R: Abort + AllocGlobal>(rt: &R, nfa: &NFA, other: &NFA) {
-    let mut lazy = Lazy::new(rt.alloc(), nfa, MatchKind::LeftmostFirst, 100);
-    let mut other = Lazy::new(rt.alloc(), other, MatchKind::LeftmostFirst, 100);
-    expect_scan(rt, &mut lazy, &mut other);
-    expect_walker(rt, &mut lazy, &mut other);
+    lazy.next(&mut walker, Some(b'a')).expect(rt, "memory");
+    holds(rt, other.next(&mut walker, Some(b'b')).is_err());
+    lazy.next(&mut walker, Some(b'b')).expect(rt, "memory");
 }
 
 /// A cache of another NFA, which has no such states, returns an error, and changes nothing.
 #[test]
 fn scans_of_another_nfa(rt: HostRuntime) {
-    expect_caches(&rt, &nfa(&rt, WORDS), &nfa(&rt, "BU:2,1 B:00-ff>0 M:0"));
+    let (nfa, other) = (nfa(&rt, WORDS), nfa(&rt, "BU:2,1 B:00-ff>0 M:0"));
+    let mut lazy = Lazy::new(rt.alloc(), &nfa, MatchKind::LeftmostFirst, 100);
+    let mut other = Lazy::new(rt.alloc(), &other, MatchKind::LeftmostFirst, 100);
+    expect_scan(&rt, &mut lazy, &mut other);
+    expect_walker(&rt, &mut lazy, &mut other);
 }

@@ -2,9 +2,9 @@
 
 ghost use Rattle.std.specs.Prelude.{◌≡◌, false};
 ghost use Rattle.determinize_below.specs.declared.search.MatchKind.TheVariants as kinds;
-ghost use Rattle.determinize_find.specs.Prefix.{HasPrefix};
 
 use crate::tests::find::{WORDS, backward_of, expect_same, nfa, same_end};
+use crate::tests::kept::expect_sevens;
 use crate::tests::pieces::{end, put};
 use crate::tests::uses::over;
 use crate::tests::{dense, ended, holds, same};
@@ -15,44 +15,27 @@ use determinize_lazy::Lazy;
 use std::alloc::Global;
 use std::process::Abort;
 
-/// Adds the states of `\<a`, patching the target of the assertion, and returns the first one.
-fn add_word<R: Abort>(rt: &R, builder: &mut Builder<Global>) -> StateID {
+/// Adds the states of the patterns `\<a`, patching the target of its assertion, `[bcd]` and
+/// `e{40}`, and returns the first one.
+fn add_three<R: Abort>(rt: &R, builder: &mut Builder<Global>) -> StateID {
     let word = builder.add_look(StateID::ZERO, Look::WordStartAscii);
     let word = word.expect(rt, "memory");
     let done = builder.add_match().expect(rt, "memory");
     let letter = builder.add_range(over(b'a', b'a', done));
-    builder
-        .patch(word, letter.expect(rt, "memory"))
-        .expect(rt, "memory");
-    word
-}
-
-/// Adds the states of `e{40}`, and returns the first one.
-fn add_run<R: Abort>(rt: &R, builder: &mut Builder<Global>) -> StateID {
-    let mut first = builder.add_match().expect(rt, "memory");
-    for _ in 0..40u32 {
-        let letter = builder.add_range(over(b'e', b'e', first));
-        first = letter.expect(rt, "memory");
-    }
-    first
-}
-
-/// Adds the states of `[bcd]`, and returns the first one.
-fn add_letters<R: Abort>(rt: &R, builder: &mut Builder<Global>) -> StateID {
+    let patched = builder.patch(word, letter.expect(rt, "memory"));
+    patched.expect(rt, "memory");
     let done = builder.add_match().expect(rt, "memory");
     let letters = [
         over(b'b', b'b', done),
         over(b'c', b'c', done),
         over(b'd', b'd', done),
     ];
-    builder.add_sparse(&letters).expect(rt, "memory")
-}
-
-/// Adds the states of the patterns `\<a`, `[bcd]` and `e{40}`, and returns the first one.
-fn add_three<R: Abort>(rt: &R, builder: &mut Builder<Global>) -> StateID {
-    let word = add_word(rt, builder);
-    let letters = add_letters(rt, builder);
-    let run = add_run(rt, builder);
+    let letters = builder.add_sparse(&letters).expect(rt, "memory");
+    let mut run = builder.add_match().expect(rt, "memory");
+    for _ in 0..40u32 {
+        let letter = builder.add_range(over(b'e', b'e', run));
+        run = letter.expect(rt, "memory");
+    }
     let first = builder.add_union(&[word, letters, run]);
     first.expect(rt, "memory")
 }
@@ -149,23 +132,7 @@ fn long_text<R: Abort + AllocGlobal>(rt: &R) -> Vec<u8> {
     text
 }
 
-/// Feeds a text in one piece, of which the last word is kept until the text ends, and compares the
-/// matches.
-fn feed<R: Abort>(
-    rt: &R,
-    stream: &mut Pieces,
-    regex: &mut LazyRegex<'_>,
-    text: &[u8],
-    found: &mut Vec<Match>,
-    wanted: &[Match],
-) {
-    put(rt, stream, regex, text, found);
-    holds(rt, stream.bytes_kept() >= 30_000);
-    end(rt, stream, regex, found);
-    expect_same(rt, found.as_slice(), wanted);
-}
-
-/// Finds the words of a text in one piece.
+/// Finds the words of a text in one piece, of which the last word is kept until the text ends.
 fn expect_pieces<R: Abort + AllocGlobal>(
     rt: &R,
     regex: &mut LazyRegex<'_>,
@@ -173,7 +140,10 @@ fn expect_pieces<R: Abort + AllocGlobal>(
     wanted: &[Match],
 ) {
     let (mut stream, mut found) = (Pieces::new(rt.alloc()), Vec::new(rt.alloc()));
-    feed(rt, &mut stream, regex, text, &mut found, wanted);
+    put(rt, &mut stream, regex, text, &mut found);
+    holds(rt, stream.bytes_kept() >= 30_000);
+    end(rt, &stream, regex, &mut found);
+    expect_same(rt, Ok(found), wanted);
 }
 
 /// Finds 100 words by `plain`, and none in spaces.
@@ -198,25 +168,6 @@ fn expect_scans<R: Abort>(rt: &R, lazy: &mut Lazy<'_>, text: &[u8]) {
     same(rt, states.len(), text.len().saturating_add(2));
 }
 
-/// Finds all words of a text, whole and in one piece.
-fn expect_all<R: Abort + AllocGlobal>(rt: &R, regex: &mut LazyRegex<'_>, text: &[u8]) {
-    let all = regex
-        .find_all(rt.alloc(), &Input::new(text))
-        .expect(rt, "memory");
-    same(rt, all.len(), 20_001);
-    expect_pieces(rt, regex, text, all.as_slice());
-}
-
-/// Searches a long text by an NFA and its reverse.
-fn expect_regex<R: Abort + AllocGlobal>(rt: &R, nfa: &NFA, text: &[u8])
-    requires forward { nfa.now.reverse ≡ false }
-    requires prefix { HasPrefix nfa.now }
-{
-    let backward = backward_of(rt, nfa);
-    let mut regex = Regex::new(rt.alloc(), nfa, &backward, 100);
-    expect_all(rt, &mut regex, text);
-}
-
 /// Searches the first 300 bytes of a long text by `plain`, scans it, and walks over it.
 fn expect_cache<R: Abort + AllocGlobal>(rt: &R, lazy: &mut Lazy<'_>, text: &[u8])
     requires forward { lazy.old.nfa.reverse ≡ false }
@@ -226,11 +177,25 @@ fn expect_cache<R: Abort + AllocGlobal>(rt: &R, lazy: &mut Lazy<'_>, text: &[u8]
     expect_scans(rt, lazy, text);
 }
 
+/// Finds all words of a long text by an NFA and its reverse, whole and in one piece.
+fn expect_regex<R: Abort + AllocGlobal>(rt: &R, regex: &mut LazyRegex<'_>, text: &[u8]) {
+    let all = regex.find_all(rt.alloc(), &Input::new(text));
+    let all = all.expect(rt, "memory");
+    same(rt, all.len(), 20_001);
+    expect_pieces(rt, regex, text, all.as_slice());
+    expect_sevens(rt, regex);
+}
+
 /// Searches a long text in each way.
 #[test]
 fn long_texts(rt: HostRuntime) {
     let (nfa, text) = (nfa(&rt, WORDS), long_text(&rt));
-    expect_regex(&rt, &nfa, text.as_slice());
+    let backward = backward_of(&rt, &nfa);
+    expect_regex(
+        &rt,
+        &mut Regex::new(rt.alloc(), &nfa, &backward, 100),
+        &text,
+    );
     let mut lazy = Lazy::new(rt.alloc(), &nfa, MatchKind::LeftmostFirst, 100);
-    expect_cache(&rt, &mut lazy, text.as_slice());
+    expect_cache(&rt, &mut lazy, &text);
 }

@@ -7,7 +7,7 @@ ghost use Rattle.determinize_find.specs.Prefix.{HasPrefix};
 ghost use Rattle.determinize_find.specs.Reversal.{IsReverseOf};
 ghost use Rattle.determinize_engine.specs.Searches.{has_start};
 
-use crate::tests::find::{backward_of, expect_same};
+use crate::tests::find::{backward_of, expect_same, same_match};
 use crate::tests::finders::expect_input;
 use crate::tests::{expect_text, holds, same};
 use determinize_below::nfa::State;
@@ -76,25 +76,18 @@ pub struct Place {
     end: usize,
 }
 
-/// Adds the bytes behind and ahead of the text of a walk. Returns where the text then begins and
-/// ends.
-fn enclose<R: Abort>(rt: &R, fields: &Fields<'_>, text: &mut Vec<u8>) -> (usize, usize) {
-    let behind = fields.look_behind().expect(rt, "a byte");
-    if let Some(byte) = behind {
-        text.insert(0, byte).expect(rt, "memory");
-    }
-    let (start, end) = (usize::from(behind.is_some()), text.len());
-    if let Some(byte) = fields.look_ahead().expect(rt, "a byte") {
-        text.push(byte).expect(rt, "memory");
-    }
-    (start, end)
-}
-
 impl Place {
     /// Returns the place of the text of a walk.
     pub fn of<R: Abort + AllocGlobal>(rt: &R, fields: &Fields<'_>) -> Place {
         let mut haystack = fields.text(rt.alloc()).expect(rt, "bytes");
-        let (start, end) = enclose(rt, fields, &mut haystack);
+        let behind = fields.look_behind().expect(rt, "a byte");
+        if let Some(byte) = behind {
+            haystack.insert(0, byte).expect(rt, "memory");
+        }
+        let (start, end) = (usize::from(behind.is_some()), haystack.len());
+        if let Some(byte) = fields.look_ahead().expect(rt, "a byte") {
+            haystack.push(byte).expect(rt, "memory");
+        }
         Place {
             haystack,
             start,
@@ -113,56 +106,31 @@ impl Place {
     }
 }
 
-/// Adds the usual prefix after states, before the one with this id. Returns the id of its first
-/// state.
-fn add_prefix<R: Abort>(rt: &R, states: &mut Vec<State>, start: StateID) -> StateID {
-    let any = StateID::new(states.len()).expect(rt, "few states");
-    let skip = StateID::new(any.as_usize() + 1).expect(rt, "few states");
-    let (alt1, alt2) = (start, skip);
-    states
-        .push(State::BinaryUnion { alt1, alt2 })
-        .expect(rt, "memory");
-    let trans = Transition {
-        start: 0,
-        end: 255,
-        next: any,
-    };
-    states.push(State::ByteRange { trans }).expect(rt, "memory");
-    any
-}
-
-/// Returns the states of the NFA of a walk.
-fn states_of<R: Abort + AllocGlobal>(rt: &R, fields: &Fields<'_>) -> Vec<State> {
-    let states = states::states(rt.alloc(), fields.states.unwrap_or(""));
-    states.expect(rt, "states")
-}
-
-/// Returns the NFA of a walk for forward scans, with the usual prefix before its start.
+/// Returns the NFA of a walk for forward scans, with the usual prefix before its start: two states
+/// after the others.
 pub fn prefixed<R: Abort + AllocGlobal>(rt: &R, fields: &Fields<'_>) -> NFA
     ensures forward { result.reverse ≡ false }
     ensures prefix { HasPrefix result }
 {
     let start = fields.start().expect(rt, "a start");
     let matcher = fields.matcher().expect(rt, "a line terminator");
-    let mut states = states_of(rt, fields);
-    let any = add_prefix(rt, &mut states, start);
+    let states = states::states(rt.alloc(), fields.states.unwrap_or(""));
+    let mut states = states.expect(rt, "states");
+    let any = StateID::new(states.len()).expect(rt, "few states");
+    let skip = StateID::new(any.as_usize() + 1).expect(rt, "few states");
+    let (alt1, alt2) = (start, skip);
+    let pushed = states.push(State::BinaryUnion { alt1, alt2 });
+    pushed.expect(rt, "memory");
+    let trans = Transition {
+        start: 0,
+        end: 255,
+        next: any,
+    };
+    states.push(State::ByteRange { trans }).expect(rt, "memory");
     let nfa = NFA::from_parts(rt.alloc(), states, start, any, false, matcher);
     let nfa = nfa.expect(rt, "an NFA");
     holds(rt, prefix::has_prefix(&nfa));
     nfa
-}
-
-/// Compares all matches of an input.
-fn expect_all<R: Abort + AllocGlobal>(
-    rt: &R,
-    regex: &mut LazyRegex<'_>,
-    input: &Input<'_>,
-    wanted: &[Match],
-)
-    requires { has_start input.now.anchored ≡ true }
-{
-    let found = regex.find_all(rt.alloc(), input).expect(rt, "memory");
-    expect_same(rt, found.as_slice(), wanted);
 }
 
 /// Returns the leftmost match of an input, and asserts that both ways find it, and the same matches
@@ -180,11 +148,11 @@ fn leftmost<R: Abort + AllocGlobal>(
     ensures kind { lazy.new.kind ≡ lazy.old.kind }
 {
     let found = regex.find(input).expect(rt, "memory");
-    same(rt, plain::find(lazy, input), Ok(found));
+    same_match(rt, plain::find(lazy, input).expect(rt, "memory"), found);
     same(rt, regex.is_match(input), Ok(found.is_some()));
     let all = plain::find_all(rt.alloc(), lazy, input).expect(rt, "memory");
-    same(rt, all.first().copied(), found);
-    expect_all(rt, regex, input, all.as_slice());
+    same_match(rt, all.first().copied(), found);
+    expect_same(rt, regex.find_all(rt.alloc(), input), all.as_slice());
     found
 }
 
@@ -202,7 +170,7 @@ fn expect_place<R: Abort + AllocGlobal>(
     let anywhere = leftmost(rt, lazy, regex, &place.input(rt, Anchored::No));
     let first = leftmost(rt, lazy, regex, &place.input(rt, Anchored::Yes));
     if first.is_some() {
-        same(rt, anywhere, first);
+        same_match(rt, anywhere, first);
     }
     first
 }
@@ -234,11 +202,13 @@ fn expect_walk<R: Abort + AllocGlobal>(rt: &R, fields: &Fields<'_>) -> Option<Ma
     expect_finders(rt, &nfa, &backward, &Place::of(rt, fields))
 }
 
-/// Asserts that the leftmost match that begins with the text is the last match of the walk. Under
-/// `All` that may be another match, so then only that there is one.
-fn expect_stored<R: Abort + AllocGlobal>(rt: &R, fields: &Fields<'_>, last: &str) {
-    let found = expect_walk(rt, fields);
-    if fields.match_kind().expect(rt, "a match kind") == MatchKind::All {
+/// Asserts that the leftmost match that begins with the text of a stored walk is the last match of
+/// the walk. Under `All` that may be another match, so then only that there is one.
+fn expect_stored<R: Abort + AllocGlobal>(rt: &R, line: &str) {
+    let (job, last) = line.split_once(" = ").expect(rt, "a job and a match");
+    let job = Job::read(job).expect(rt, "a job");
+    let found = expect_walk(rt, job.fields());
+    if job.fields().match_kind().expect(rt, "a match kind") == MatchKind::All {
         same(rt, found.is_none(), last == "none");
         return;
     }
@@ -249,12 +219,6 @@ fn expect_stored<R: Abort + AllocGlobal>(rt: &R, fields: &Fields<'_>, last: &str
     expect_text(rt, &LastMatch(half), last);
 }
 
-/// Asserts the same of a line of the stored walks.
-fn expect_line<R: Abort + AllocGlobal>(rt: &R, line: &str) {
-    let (job, last) = line.split_once(" = ").expect(rt, "a job and a match");
-    expect_stored(rt, Job::read(job).expect(rt, "a job").fields(), last);
-}
-
 /// The matches of the 45 examples and of the stored walks.
 #[test]
 fn stored_walks(rt: HostRuntime) {
@@ -262,6 +226,6 @@ fn stored_walks(rt: HostRuntime) {
         expect_walk(&rt, &example.fields());
     }
     for line in STORED.lines() {
-        expect_line(&rt, line);
+        expect_stored(&rt, line);
     }
 }

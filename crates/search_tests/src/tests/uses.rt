@@ -3,19 +3,17 @@
 ghost use Rattle.std.specs.Prelude.{◌≡◌, ◌<◌, ◌≤◌, false, length};
 ghost use Rattle.determinize_below.specs.declared.search.MatchKind.TheVariants as kinds;
 
-use crate::tests::find::{expect_matches, expect_search, same_end};
+use crate::tests::find::{expect_found, expect_search, same_end};
 use crate::tests::{ended, holds, same};
 use determinize_below::{
-    Anchored, BuildError, Input, Look, LookMatcher, LookSet, MatchKind, NFA, SparseSet, StateID,
-    Transition,
+    Anchored, BuildError, Input, Look, LookMatcher, MatchKind, NFA, SparseSet, StateID, Transition,
 };
 use determinize_core::start::Start;
 use determinize_core::state::State;
 use determinize_find::{Builder, reversed};
 use determinize_lazy::Lazy;
 use determinize_uses::{built, cache, input, lexer, nfa, scanner, search, values, walk};
-use std::alloc::{AllocError, Allocator};
-use std::ops::Range;
+use std::alloc::Allocator;
 use std::process::Abort;
 
 /// Compares the ids of a set, in their order.
@@ -25,13 +23,6 @@ fn expect_ids<R: Abort>(rt: &R, set: &SparseSet, wanted: &[StateID]) {
         same(rt, ids.next(), Some(*id));
     }
     same(rt, ids.next(), None);
-}
-
-/// Compares a set of assertions.
-fn expect_assertions<R: Abort>(rt: &R, set: LookSet) {
-    same(rt, set.contains_word(), true);
-    same(rt, set.contains_anchor_line(), true);
-    same(rt, set.contains_anchor_haystack(), false);
 }
 
 /// Compares the start kind of a text from this position on.
@@ -57,7 +48,10 @@ static BYTES: [u8; 24] = *b"\x07\0\0\0\0\x40\0\0\0\x02\0\0\0\x01\0\0\0\0\0\0\0\x
 
 #[test]
 fn small_values(rt: HostRuntime) {
-    expect_assertions(&rt, values::assertions());
+    let set = values::assertions();
+    same(&rt, set.contains_word(), true);
+    same(&rt, set.contains_anchor_line(), true);
+    same(&rt, set.contains_anchor_haystack(), false);
     expect_kinds(&rt);
     expect_ids(
         &rt,
@@ -245,8 +239,8 @@ fn expect_walks<R: Abort + AllocGlobal>(rt: &R, nfa: &NFA) {
 fn expect_all<R: Abort + AllocGlobal>(rt: &R, nfa: &NFA)
     requires { nfa.now.reverse ≡ false }
 {
-    let found = scanner::matches(rt.alloc(), nfa, b"ab 42 c7").expect(rt, "memory");
-    expect_matches(rt, found.as_slice(), &[(0, 3, 5), (0, 7, 8)]);
+    let found = scanner::matches(rt.alloc(), nfa, b"ab 42 c7");
+    expect_found(rt, found, &[(0, 3, 5), (0, 7, 8)]);
 }
 
 /// Searches texts through one cache of this limit.
@@ -288,46 +282,35 @@ fn expect_longest<R: Abort + AllocGlobal>(rt: &R, lazy: &mut Lazy<'_>)
 {
     expect_at_the_end(rt, lazy, b"42", true);
     expect_at_the_end(rt, lazy, b"4x", false);
-    let found = lexer::tokens(rt.alloc(), lazy, b"427 c").expect(rt, "memory");
-    expect_matches(rt, found.as_slice(), &[(0, 0, 3)]);
+    let found = lexer::tokens(rt.alloc(), lazy, b"427 c");
+    expect_found(rt, found, &[(0, 0, 3)]);
 }
 
-/// Returns where the first match of a text begins and ends, by a search in either direction.
-fn span(
-    forward: &mut Lazy<'_>,
-    backward: &mut Lazy<'_>,
-    text: &[u8],
-) -> Result<Option<Range<usize>>, AllocError> {
-    let Some(last) = forward.search_input(&Input::new(text))? else {
-        return Ok(None);
-    };
-    let before = Input::new(text)
-        .range(0..last.offset)
-        .anchored(Anchored::Yes);
-    let Some(first) = backward.search_input(&before)? else {
-        return Ok(None);
-    };
-    Ok(Some(first.offset..last.offset))
-}
-
-/// Searches a text for both ends of a number, and for whether there is one.
+/// Searches a text for both ends of a number, by a search in either direction, and for whether
+/// there is one.
 fn expect_span<R: Abort>(
     rt: &R,
     forward: &mut Lazy<'_>,
     backward: &mut Lazy<'_>,
     text: &[u8],
-    wanted: Option<Range<usize>>,
+    wanted: Option<(usize, usize)>,
 ) {
     same(rt, input::contains(forward, text), Ok(wanted.is_some()));
-    let found = span(forward, backward, text).expect(rt, "memory");
-    holds(rt, found == wanted);
+    let mut found = None;
+    let input = Input::new(text);
+    if let Some(last) = forward.search_input(&input).expect(rt, "memory") {
+        let before = input.range(0..last.offset).anchored(Anchored::Yes);
+        let first = backward.search_input(&before).expect(rt, "memory");
+        found = Some((first.expect(rt, "a start").offset, last.offset));
+    }
+    same(rt, found, wanted);
 }
 
 /// Searches a text with a number in its middle, and one without.
 fn expect_spans<R: Abort + AllocGlobal>(rt: &R, nfa: &NFA, reversed: &NFA) {
     let mut forward = Lazy::new(rt.alloc(), nfa, MatchKind::LeftmostFirst, 100);
     let mut backward = Lazy::new(rt.alloc(), reversed, MatchKind::All, 100);
-    expect_span(rt, &mut forward, &mut backward, b"ab 42 c", Some(3..5));
+    expect_span(rt, &mut forward, &mut backward, b"ab 42 c", Some((3, 5)));
     expect_span(rt, &mut forward, &mut backward, b"ab", None);
 }
 
