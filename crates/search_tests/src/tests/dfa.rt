@@ -1,20 +1,42 @@
 //! A whole DFA with the fewest states, built by `determinize_uses::dfa`.
 
+ghost use Rattle.std.specs.Prelude.{◌≡◌};
+ghost use Rattle.determinize_below.specs.declared.search.MatchKind.TheVariants as kinds;
+
 use crate::tests::dense::{FOO_OR_BAR, nfa};
 use crate::tests::{ended, same};
 use determinize_below::{Anchored, HalfMatch, MatchKind, StateID};
+use determinize_dense::Dfa;
 use determinize_uses::dfa::{patterns_at, smallest};
 use std::process::Abort;
 
-/// Texts, and the ends of their matches: of anchored searches under both match kinds, and of others
-/// for the first and for all matches.
-static TEXTS: [(&str, Option<usize>, Option<usize>, Option<usize>); 6] = [
-    ("foo12", Some(5), Some(5), Some(5)),
-    ("xfoo9y", None, Some(5), Some(5)),
-    ("bar", Some(3), Some(3), Some(3)),
-    ("ba", None, None, None),
-    ("", None, None, None),
-    ("barfoo1", Some(3), Some(3), Some(7)),
+/// Texts, and the ends of their matches: of anchored searches, and of others for the first and for
+/// all matches.
+static ANCHORED: [(&str, Option<usize>); 6] = [
+    ("foo12", Some(5)),
+    ("xfoo9y", None),
+    ("bar", Some(3)),
+    ("ba", None),
+    ("", None),
+    ("barfoo1", Some(3)),
+];
+
+static FIRST: [(&str, Option<usize>); 6] = [
+    ("foo12", Some(5)),
+    ("xfoo9y", Some(5)),
+    ("bar", Some(3)),
+    ("ba", None),
+    ("", None),
+    ("barfoo1", Some(3)),
+];
+
+static ALL: [(&str, Option<usize>); 6] = [
+    ("foo12", Some(5)),
+    ("xfoo9y", Some(5)),
+    ("bar", Some(3)),
+    ("ba", None),
+    ("", None),
+    ("barfoo1", Some(7)),
 ];
 
 /// How many patterns match at each position of `barfoo1`: one after `bar`, and one at the end.
@@ -29,26 +51,51 @@ pub fn expect_end<R: Abort>(rt: &R, found: Option<HalfMatch>, end: Option<usize>
     same(rt, found, wanted);
 }
 
+/// Returns the match of a search of a text, anchored or not.
+fn search(dfa: &Dfa<'_>, is_anchored: bool, text: &str) -> Option<HalfMatch> {
+    if is_anchored {
+        dfa.search(Anchored::Yes, None, text.as_bytes(), None)
+    } else {
+        dfa.search(Anchored::No, None, text.as_bytes(), None)
+    }
+}
+
+/// Searches the texts, and compares the ends of the matches.
+fn expect_ends<R: Abort>(rt: &R, dfa: &Dfa<'_>, is_anchored: bool, ends: &[(&str, Option<usize>)]) {
+    for &(text, end) in ends {
+        expect_end(rt, search(dfa, is_anchored, text), end);
+    }
+}
+
+/// Compares how many patterns match at each position of `barfoo1`.
+fn expect_counts<R: Abort>(rt: &R, dfa: &Dfa<'_>)
+    requires { dfa.now.kind ≡ kinds.All }
+{
+    for (offset, count) in COUNTS.iter().enumerate() {
+        same(rt, patterns_at(dfa, b"barfoo1", offset).len(), *count);
+    }
+}
+
+/// Searches for first matches.
+fn expect_first<R: Abort>(rt: &R, dfa: &Dfa<'_>) {
+    expect_ends(rt, dfa, true, &ANCHORED);
+    expect_ends(rt, dfa, false, &FIRST);
+}
+
+/// Searches for all matches.
+fn expect_all<R: Abort>(rt: &R, dfa: &Dfa<'_>)
+    requires { dfa.now.kind ≡ kinds.All }
+{
+    expect_ends(rt, dfa, true, &ANCHORED);
+    expect_ends(rt, dfa, false, &ALL);
+    expect_counts(rt, dfa);
+}
+
 #[test]
 fn smallest_dfas(rt: HostRuntime) {
     let nfa = nfa(&rt, FOO_OR_BAR, StateID::must(2));
     let first = smallest(rt.alloc(), &nfa, MatchKind::LeftmostFirst, 100);
-    let first = first.expect(&rt, "few states");
+    expect_first(&rt, &first.expect(&rt, "few states"));
     let all = smallest(rt.alloc(), &nfa, MatchKind::All, 100);
-    let all = all.expect(&rt, "few states");
-    for &(text, anchored, first_end, last_end) in &TEXTS {
-        let text = text.as_bytes();
-        let found = first.search(Anchored::Yes, None, text, None);
-        expect_end(&rt, found, anchored);
-        let found = all.search(Anchored::Yes, None, text, None);
-        expect_end(&rt, found, anchored);
-        let found = first.search(Anchored::No, None, text, None);
-        expect_end(&rt, found, first_end);
-        let found = all.search(Anchored::No, None, text, None);
-        expect_end(&rt, found, last_end);
-    }
-    for (offset, count) in COUNTS.iter().enumerate() {
-        let patterns = patterns_at(&all, b"barfoo1", offset);
-        same(&rt, patterns.len(), *count);
-    }
+    expect_all(&rt, &all.expect(&rt, "few states"));
 }
