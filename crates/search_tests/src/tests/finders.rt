@@ -35,10 +35,28 @@ fn expect_all<R: Abort + AllocGlobal, F: Finder>(
     expect_same(rt, find_all(rt.alloc(), finder, input), wanted);
 }
 
-/// Asserts it of two whole DFAs, of which the first finds the ends and the second the starts, of
-/// each of them with a lazy one, and of one engine: of the whole one that finds the ends, of a lazy
-/// one, which is borrowed, and of the searches in a linear number of steps.
-fn expect_by_each<R: Abort + AllocGlobal>(
+/// Asserts it of one engine: of a lazy DFA, which is borrowed, of a whole one, and of the searches
+/// in a linear number of steps.
+fn expect_by_one<R: Abort + AllocGlobal>(
+    rt: &R,
+    whole: &Dfa<'_>,
+    input: &Input<'_>,
+    wanted: &[Match],
+)
+    requires forward { whole.now.nfa.reverse ≡ false }
+    requires kind { whole.now.kind ≡ kinds.LeftmostFirst }
+    requires start { has_start input.now.anchored ≡ true }
+{
+    let nfa = whole.nfa();
+    let mut lazy = Lazy::new(rt.alloc(), nfa, MatchKind::LeftmostFirst, 50);
+    expect_all(rt, &mut Plain::new(nfa, &mut lazy), input, wanted);
+    expect_all(rt, &mut Plain::new(nfa, whole), input, wanted);
+    expect_linear(rt, whole, input, wanted);
+}
+
+/// Asserts it of two whole DFAs, of which the first finds the ends and the second the starts, and
+/// of each of them with a lazy one.
+fn expect_by_two<R: Abort + AllocGlobal>(
     rt: &R,
     ends: &Dfa<'_>,
     starts: &Dfa<'_>,
@@ -50,20 +68,14 @@ fn expect_by_each<R: Abort + AllocGlobal>(
     requires forward { ends.now.nfa.reverse ≡ false }
     requires prefix { HasPrefix ends.now.nfa }
     requires reverse { IsReverseOf starts.now.nfa ends.now.nfa }
-    requires start { has_start input.now.anchored ≡ true }
 {
     expect_all(rt, &mut Regex::from_engines(ends, starts), input, wanted);
-    let (nfa, backward) = (ends.nfa(), starts.nfa());
-    let mut lazy = Lazy::new(rt.alloc(), backward, MatchKind::All, 50);
+    let mut lazy = Lazy::new(rt.alloc(), starts.nfa(), MatchKind::All, 50);
     let mut regex = Regex::from_engines(WithAllocError(ends), &mut lazy);
     expect_all(rt, &mut regex, input, wanted);
-    let mut lazy = Lazy::new(rt.alloc(), nfa, MatchKind::LeftmostFirst, 50);
+    let mut lazy = Lazy::new(rt.alloc(), ends.nfa(), MatchKind::LeftmostFirst, 50);
     let mut regex = Regex::from_engines(&mut lazy, WithAllocError(starts));
     expect_all(rt, &mut regex, input, wanted);
-    expect_all(rt, &mut Plain::new(nfa, ends), input, wanted);
-    let mut lazy = Lazy::new(rt.alloc(), nfa, MatchKind::LeftmostFirst, 50);
-    expect_all(rt, &mut Plain::new(nfa, &mut lazy), input, wanted);
-    expect_linear(rt, ends, input, wanted);
 }
 
 /// Compares the matches of an input by each finder with those by two lazy DFAs.
@@ -78,7 +90,8 @@ pub fn expect_input<R: Abort + AllocGlobal>(rt: &R, nfa: &NFA, backward: &NFA, i
     expect_all(rt, &mut regex, input, wanted.as_slice());
     let ends = dense::dfa(rt, nfa, MatchKind::LeftmostFirst, 1000);
     let starts = dense::dfa(rt, backward, MatchKind::All, 1000);
-    expect_by_each(rt, &ends, &starts, input, wanted.as_slice());
+    expect_by_one(rt, &ends, input, wanted.as_slice());
+    expect_by_two(rt, &ends, &starts, input, wanted.as_slice());
 }
 
 /// The matches of `a|b`, if its NFA has one start state: each begins where the one before ended.
