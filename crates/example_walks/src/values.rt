@@ -117,7 +117,7 @@ pub fn pattern_id(text: &str) -> Result<PatternID, TextError> {
     }
 }
 
-/// A value that a list of a text has between its commas.
+/// A value of a list, as it is written between commas.
 pub trait Item: Copy {
     /// Returns the value of a text.
     fn read(text: &str) -> Result<Self, TextError>;
@@ -146,7 +146,7 @@ pub fn items<T: Item, A: Allocator>(alloc: A, text: &str) -> Result<Vec<T, A>, T
     Ok(items)
 }
 
-/// Returns a list of ids of NFA states. The text `-` is an empty list, as an empty one is.
+/// Returns a list of ids of NFA states, which is empty for `-` and for an empty text.
 pub fn state_ids<A: Allocator>(alloc: A, text: &str) -> Result<Vec<StateID, A>, TextError> {
     items(alloc, if is_none(text) { "" } else { text })
 }

@@ -376,7 +376,8 @@ fn output_that_fails(rt: HostRuntime) {
     expect_failing(&rt, 1000, 1, "");
 }
 
-/// Also the program `rows`, with a word that names no example.
+/// Both programs keep their status if the error can't be written. `rows` is given a word that names
+/// no example.
 #[test]
 fn keeps_its_status_where_errors_fail(rt: HostRuntime) {
     let words = words(&rt, "none");

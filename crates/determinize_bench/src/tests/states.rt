@@ -1,4 +1,4 @@
-//! Builders, as values for other tests.
+//! Builders and assertions, as values for other tests.
 
 use determinize_below::{Look, LookSet};
 use determinize_core::state::{StateBuilderMatches, StateBuilderNFA};

@@ -115,7 +115,7 @@ pub fn expect_matches<R: Abort>(rt: &R, found: &[Match], wanted: &[Ends]) {
     }
 }
 
-/// Compares the matches of a search that did not fail with their patterns and ends.
+/// Asserts that a search did not fail, and found matches with these patterns and ends.
 pub fn expect_found<R: Abort>(rt: &R, found: Result<Vec<Match>, AllocError>, wanted: &[Ends]) {
     matches_if_ok(rt, found, wanted).expect(rt, "memory");
 }
@@ -362,8 +362,7 @@ fn expect_cuts<R: Abort + AllocGlobal>(rt: &R, regex: &mut LazyRegex<'_>, row: &
     }
 }
 
-/// Finds the matches of a row by whole DFAs, at once, and in turn and none after the last, and in
-/// pieces.
+/// Finds the matches of a row by whole DFAs, at once and one at a time, and by caches in pieces.
 fn expect_row<R: Abort + AllocGlobal>(rt: &R, row: &Row) {
     let nfa = nfa(rt, row.states);
     let backward = backward_of(rt, &nfa);

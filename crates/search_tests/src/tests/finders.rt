@@ -35,8 +35,8 @@ fn expect_all<R: Abort + AllocGlobal, F: Finder>(
     expect_same(rt, find_all(rt.alloc(), finder, input), wanted);
 }
 
-/// Asserts it of one engine: of a lazy DFA, which is borrowed, of a whole one, and of the searches
-/// in a linear number of steps.
+/// Asserts that these matches are found by one engine: by a lazy DFA, which is borrowed, by a whole
+/// one, and in a linear number of steps.
 fn expect_by_one<R: Abort + AllocGlobal>(
     rt: &R,
     whole: &Dfa<'_>,
@@ -54,8 +54,8 @@ fn expect_by_one<R: Abort + AllocGlobal>(
     expect_linear(rt, whole, input, wanted);
 }
 
-/// Asserts it of two whole DFAs, of which the first finds the ends and the second the starts, and
-/// of each of them with a lazy one.
+/// Asserts that these matches are found by two whole DFAs, of which the first finds the ends and
+/// the second the starts, and by each of them with a lazy one.
 fn expect_by_two<R: Abort + AllocGlobal>(
     rt: &R,
     ends: &Dfa<'_>,

@@ -1,4 +1,5 @@
-//! The bytes of each match of a text in pieces, which are kept until the search continues.
+//! The matches of a text in pieces, and the bytes of each, which are kept until the search
+//! continues.
 
 use crate::tests::find::{Row, Search, WORDS, expect_matches};
 use crate::tests::patterns::regex_of;
@@ -42,13 +43,14 @@ fn expect_bytes<R: Abort, A: Allocator + Copy>(
 
 /// The calls by which a text in pieces is searched.
 pub enum Calls {
-    /// `feed`, which adds all matches of a piece.
+    /// `feed`, which adds all matches that are certain after a piece.
     Feed,
-    /// `advance`, which returns one match of a piece.
+    /// `advance`, which returns one of them.
     Advance,
 }
 
-/// Adds the matches of a piece by `feed`. If that fails, feeds the part that was not read.
+/// Adds the matches that are certain after a piece, by `feed`. If that fails, feeds the part that
+/// was not read.
 fn feed_piece<A: Allocator + Copy>(
     stream: &mut Pieces<A>,
     regex: &mut LazyRegex<'_, Global, A, A>,
@@ -65,8 +67,8 @@ fn feed_piece<A: Allocator + Copy>(
     stream.feed(regex, piece.get(read..).unwrap_or(piece), found)
 }
 
-/// Adds the matches of a piece by `advance`, and compares their bytes. A call that fails is made
-/// again, once.
+/// Adds the matches that are certain after a piece, by `advance`, and compares their bytes. A call
+/// that fails is made again, once.
 fn read_piece<R: Abort, A: Allocator + Copy>(
     rt: &R,
     stream: &mut Pieces<A>,
@@ -111,8 +113,8 @@ fn finish<R: Abort, A: Allocator + Copy>(
     Ok(())
 }
 
-/// Finds the matches of a row in pieces, and makes each call that fails again: no match is lost,
-/// and none is found twice. Returns an error if a call failed.
+/// Finds the matches of a row in pieces, and makes a search that fails again: no match is lost, and
+/// none is found twice. Returns an error if an allocation failed.
 fn read_all<R: Abort, A: Allocator + Copy>(
     rt: &R,
     stream: &mut Pieces<A>,

@@ -11,7 +11,7 @@ use determinize_below::{Anchored, MatchKind};
 use determinize_dense::Dfa;
 use determinize_find::Match;
 use determinize_linear::{dense as by_dfa, find_all};
-use determinize_regex::Input;
+use determinize_regex::{Input, Regex};
 use std::process::Abort;
 
 /// Patterns, a haystack, the start and the end of a range of it, and all matches or tokens in the
@@ -134,7 +134,7 @@ fn found_by_hand(rt: HostRuntime) {
 /// Of 20,000 bytes `a` each is a match, behind which the others are read.
 #[test]
 fn quadratic_by_other_searches(rt: HostRuntime) {
-    let regex = regex_of(&rt, &["[^z]*z|a"]);
+    let regex = Regex::new(rt.alloc(), "[^z]*z|a").expect(&rt, "a pattern");
     let text = Vec::from_elem(rt.alloc(), b'a', 20_000).expect(&rt, "memory");
     let input = Input::new(&text);
     let dfa = dense::dfa(&rt, regex.nfa(), MatchKind::LeftmostFirst, 100);

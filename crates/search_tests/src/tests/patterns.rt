@@ -95,8 +95,8 @@ fn split_and_replace(rt: HostRuntime) {
     expect_accented(&rt, &mut regex_of(&rt, &["b*"]));
 }
 
-/// The text in two pieces, with those of its numbers and names that are found after each. The year
-/// lies in both, and the last name may go on.
+/// `In 1984 Ada` in two pieces, with those of its numbers and names that are found after each. The
+/// year lies in both, and the last name may go on.
 static PIECES: [(&[u8], &[Ends]); 2] = [
     (b"In 19", &[(1, 0, 2)]),
     (b"84 Ada", &[(1, 0, 2), (0, 3, 7)]),

@@ -183,14 +183,14 @@ fn expect_regex<R: Abort + AllocGlobal>(rt: &R, regex: &mut LazyRegex<'_>, text:
     let all = all.expect(rt, "memory");
     same(rt, all.len(), 20_001);
     expect_pieces(rt, regex, text, all.as_slice());
-    expect_sevens(rt, regex);
 }
 
-/// Searches a long text in each way.
+/// Searches long texts in each way.
 #[test]
 fn long_texts(rt: HostRuntime) {
     let (nfa, text) = (nfa(&rt, WORDS), long_text(&rt));
     let backward = backward_of(&rt, &nfa);
+    expect_sevens(&rt, &mut Regex::new(rt.alloc(), &nfa, &backward, 100));
     expect_regex(
         &rt,
         &mut Regex::new(rt.alloc(), &nfa, &backward, 100),

@@ -117,8 +117,8 @@ fn what_is_wrong_is_said(rt: HostRuntime) {
     expect_error(&rt, &bytes, FormatErrorKind::Length, 1168);
 }
 
-/// Returns whether bytes are a DFA, which is then safe: steps from each row over some units, and
-/// searches a text.
+/// Returns whether bytes are a DFA. If so, takes steps from each row, searches a text, and asserts
+/// that all rows and offsets are in range.
 fn is_safe<R: Abort>(rt: &R, bytes: &[u8]) -> bool {
     let Ok(dfa) = StoredDfa::from_bytes(bytes) else {
         return false;
@@ -151,7 +151,7 @@ fn exchanged(bytes: &mut [u8], index: usize, byte: u8) -> u8 {
     }
 }
 
-/// Each time one byte of the file is another one: a number chooses both.
+/// Each time a number chooses a place in the file, and another byte for it.
 #[test]
 fn changed_files_are_safe(rt: HostRuntime) {
     let mut bytes = file(&rt);

@@ -31,7 +31,7 @@ fn insert_three<R: Abort, A: Allocator>(rt: &R, set: &mut SparseSet<A>) {
     same(rt, set.iter().count(), 3);
 }
 
-/// Inserts, finds and removes ids: clears two sets, and one of them again.
+/// Inserts ids into a set, swaps it with another one, and clears both, and one of them again.
 fn fill<R: Abort, A: Allocator>(rt: &R, sparses: &mut SparseSets<A>) {
     insert_three(rt, &mut sparses.set1);
     sparses.swap();
@@ -93,7 +93,7 @@ fn build_in<R: Abort, A: Allocator>(rt: &R, matches: StateBuilderMatches<A>)
     holds(rt, builder.clear().capacity() > 0);
 }
 
-/// Converts a builder with the pattern 1 to a builder of NFA states.
+/// Converts a builder with the pattern 1 to a builder of NFA states, and compares its bytes.
 fn close_patterns<R: Abort, A: Allocator>(rt: &R, matches: StateBuilderMatches<A>) {
     let builder = matches.into_nfa();
     let bytes = [3, 0, 0, 0, 0, 0, 0, 0, 0, 1, 0, 0, 0, 1, 0, 0, 0];
