@@ -12,10 +12,12 @@ fn is_within(pattern: &Pattern, limit: u32) -> bool
 {
     match pattern {
         Pattern::Empty | Pattern::Literal(_) | Pattern::Class(_) | Pattern::Look(_) => true,
-        Pattern::Repetition { sub, .. } => limit > 0 && is_within(sub, limit - 1),
-        Pattern::Capture(sub) => limit > 0 && is_within(sub, limit - 1),
-        Pattern::Concat(subs) => limit > 0 && are_within(subs, limit - 1),
-        Pattern::Alternation(subs) => limit > 0 && are_within(subs, limit - 1),
+        Pattern::Repetition { sub, .. } | Pattern::Capture(sub) => {
+            limit > 0 && is_within(sub, limit - 1)
+        }
+        Pattern::Concat(subs) | Pattern::Alternation(subs) => {
+            limit > 0 && are_within(subs, limit - 1)
+        }
     }
 }
 
