@@ -18,6 +18,9 @@ use Rattle.determinize_dense.proofs.IdleStates.{step_same}
 use Rattle.ordered_reach.proofs.lists.Elements.{In_from_Contains}
 use Rattle.determinize_dense.proofs.Reached.{reached-dead}
 use Rattle.determinize_start.specs.declared.start.StartSlot.{StartSlot}
+use Rattle.std.specs.Result.{IsErrAnd}
+use Rattle.determinize_dense.specs.declared.error.DfaError.{DfaError}
+use Rattle.determinize_dense.specs.declared.error.DfaError.TheVariants.{OutOfMemory, TooManyStates}
 
 -- other values behind those that were found, and other entries
 pub stays-grown : (b : Building) (values : List Value) (next : List ℕ) → length b.values ≤ length values
@@ -279,3 +282,8 @@ stays-next {a} {b} next s = stays-more s (stays-grown b b.values next (omega ari
 pub err-as : {T U E : Type 0} {r : Result T E} {x y : E} → r ≡ Err y → r ≡ Err x
     → ◌≡◌ {A = Result U E} (Err x) (Err y)
 err-as same is = cc
+
+-- a lack of memory says nothing of the number of states
+pub out-of-memory : {T A : Type 0} {r : Result T DfaError} → IsErrAnd r (λ e. e ≡ OutOfMemory) → r ≡ Err TooManyStates
+    → A
+out-of-memory memory many = let same : TooManyStates ≡ OutOfMemory = rw many at memory in absurd (cc)

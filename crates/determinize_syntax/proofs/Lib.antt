@@ -18,3 +18,4 @@ pub mod Munch
 pub mod Hexes
 pub mod Widths
 pub mod Limits
+pub mod Unlisted

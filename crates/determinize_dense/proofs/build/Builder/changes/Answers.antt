@@ -19,3 +19,6 @@ returns g c = λ v got.
     read-at (rw (← c.self.view_is) at c.requires) c.as_slice.ensures c.index-as_slice-row.is in
     let same : c.index-as_slice-row.result ≡ v = of_some (sym here ∙ (rw (← c.self.view_is) at got)) in
     rw (← same, ← c.self.view_is, ← c.nfa.ensures) c.changes.ensures
+
+pub bounds-as_slice-row : goal.bounds-as_slice-row
+bounds-as_slice-row g c = rw c.as_slice.ensures (rw (← c.self.view_is) at c.requires)

@@ -1,5 +1,5 @@
-use Rattle.determinize_dense.proofs.Common.{byte_of, length, rules, slice_get, Some, unit_at, ◌<◌, ◌≡◌}
-use Rattle.determinize_dense.proofs.Building.{next_row-placed, read-at, err-as, stays-same, unit_at-unit}
+use Rattle.determinize_dense.proofs.Common.{byte_of, length, refl, rules, slice_get, Some, unit_at, ◌<◌, ◌≡◌}
+use Rattle.determinize_dense.proofs.Building.{err-as, next_row-placed, out-of-memory, read-at, stays-same, unit_at-unit}
 use Rattle.determinize_dense.proofs.Reached.{reached-step}
 use Rattle.determinize_dense.proofs.build.Builder.entry.Goals.{After-next_lent}
 use Rattle.determinize_dense.proofs.build.Builder.entry.Goals as goal
@@ -69,3 +69,24 @@ returns-clause-stays g c = rw (c.take_back.ensures.unchanged, ← c.self.view_is
 
 pub returns-clause-next : goal.returns-clause-next
 returns-clause-next g c = rw (← c.self.view_is) (rw (← c.self-2.view_is) at c.in_ok-entry.ensures.next)
+
+pub returns-in_err-next-clause-many : goal.returns-in_err-next-clause-many
+returns-in_err-next-clause-many g c = out-of-memory c.from_residual.ensures.1
+
+pub returns-in_err-next-clause-next : goal.returns-in_err-next-clause-next
+returns-in_err-next-clause-next g c = rw (← c.self.view_is) refl
+
+pub returns-in_err-entry-clause-next : goal.returns-in_err-entry-clause-next
+returns-in_err-entry-clause-next g c = rw (← c.self.view_is) c.in_err-entry.ensures.next
+
+pub invariant_of-self-3 : goal.invariant_of-self-3
+invariant_of-self-3 g c = rw c.take_back.ensures.unchanged c.self-2.invariant
+
+pub returns-in-Some-repeated-clause-at : goal.returns-in-Some-repeated-clause-at
+returns-in-Some-repeated-clause-at g c = c.in-Some-repeated.ensures
+
+pub returns-in-Some-clause-at : goal.returns-in-Some-clause-at
+returns-in-Some-clause-at g c = c.in-Some.ensures
+
+pub bounds-as_slice-row : goal.bounds-as_slice-row
+bounds-as_slice-row g c = rw c.as_slice.ensures (rw (← c.self.view_is) at c.requires.row)

@@ -1,5 +1,6 @@
-use Rattle.determinize_dense.proofs.Common.{arith, byte_of, columns_of, IsBase, length, mul-add-lt, mul_comm, refl}
-use Rattle.determinize_dense.proofs.Common.{unit_at, ◌*◌, ◌+◌, ◌<◌, ◌≡◌}
+use Rattle.determinize_dense.proofs.Common.{AllResolve, arith, Building, byte_of, columns_of, dead, get_or_append_left}
+use Rattle.determinize_dense.proofs.Common.{IsBase, IsBuilding, length, length-append, List, mul-add-lt, mul_comm, refl}
+use Rattle.determinize_dense.proofs.Common.{slice_get-get_or, unit_at, ℕ, ◌*◌, ◌+◌, ◌<◌, ◌≡◌}
 use Rattle.determinize_dense.proofs.Building.{next_row-base, read-at}
 use Rattle.determinize_dense.proofs.build.Builder.of_base.Goals.{After-alphabet_len}
 use Rattle.determinize_dense.proofs.build.Builder.of_base.Goals as goal
@@ -30,3 +31,15 @@ returns g c =
     (rw (← c.self.view_is) at (is-base g d)) (rw (← c.self.view_is) at c.requires.column)
     (read-at (entry-at g d) refl (rw c.alphabet_len.ensures.count at c.index.ensures))
     (rw (← c.nfa.ensures, ← unit) (c.none_gives.ensures c.if-not-none_gives.false)))
+
+-- the further states of a row are states of the NFA
+further-resolve : (b : Building) → IsBuilding b → (row base : ℕ) (further : List ℕ) → row < length b.values
+    → IsBase b row base further → AllResolve b.nfa further
+further-resolve b is row base further room base_is =
+    let at = slice_get-get_or b.values row dead room in
+    let all = rw (base_is.of_row _ at).1 at (is.resolve row _ at) in
+    λ i d h. grind (arith, all i d, get_or_append_left, length-append)
+
+pub none_gives-requires : goal.none_gives-requires
+none_gives-requires g c = rw c.nfa.ensures (further-resolve _ c.self.invariant c.args.row c.in-Some.base.row _
+    (rw (← c.self.view_is) at c.requires.row) (rw (← c.self.view_is) at (rw c.in-Some.is at c.requires.base)))

@@ -1,5 +1,5 @@
 use Rattle.determinize_dense.proofs.Common.{arith, get_last, IsReachedValue, refl, rules, same_is, [], ◌++◌, ◌∷◌, ◌≡◌}
-use Rattle.determinize_dense.proofs.Building.{building-value, one_too_many, stays-same, stays-value}
+use Rattle.determinize_dense.proofs.Building.{building-value, one_too_many, out-of-memory, stays-same, stays-value}
 use Rattle.determinize_dense.proofs.build.Builder.place.Goals.{In_default, In_ok-intern}
 use Rattle.determinize_dense.proofs.build.Builder.place.Goals as goal
 
@@ -55,3 +55,19 @@ get-requires g c = rw (← c.self.view_is) at c.requires.likely
 
 pub returns-clause-next : goal.returns-clause-next
 returns-clause-next g c = rw (← c.self.view_is) refl
+
+pub returns-in_err-found-clause-many : goal.returns-in_err-found-clause-many
+returns-in_err-found-clause-many g c = out-of-memory c.from_residual.ensures.1
+
+pub returns-in_err-intern-clause-many : goal.returns-in_err-intern-clause-many
+returns-in_err-intern-clause-many g c = out-of-memory c.from_residual-in_err-intern.ensures.1
+
+pub returns-in_err-intern-clause-next : goal.returns-in_err-intern-clause-next
+returns-in_err-intern-clause-next g c = rw (← c.self.view_is) refl
+
+pub intern-requires : goal.intern-requires
+intern-requires g c =
+    let copy : c.in_ok-found.found ≡ c.args.state.now = search rules in rw copy c.in_default.ensures.index
+
+pub invariant_of-self : goal.invariant_of-self
+invariant_of-self g c = rw c.in_err-intern.ensures.err c.self.invariant

@@ -53,3 +53,18 @@ index-requires g c =
     let count : length c.self.inside.next.items ≡ c.args.row * columns_of c.self.inside.classes + c.args.column =
     rw (← c.self.view_is) at c.requires.entry in
     omega (arith, from, count, c.len.ensures)
+
+pub bounds-bytes-column : goal.bounds-bytes-column
+bounds-bytes-column g c = omega (arith, c.if-column-bytes.false)
+
+pub overflow_sub-len : goal.overflow_sub-len
+overflow_sub-len g c =
+    let count : length c.self.inside.next.items ≡ c.args.row * columns_of c.self.inside.classes + c.args.column =
+    rw (← c.self.view_is) at c.requires.entry in
+    omega (arith, c.if-column-eq0.false, count, c.len.ensures)
+
+pub overflow_sub-before : goal.overflow_sub-before
+overflow_sub-before g c = omega (arith, c.if-column-eq0.false)
+
+pub bounds-bytes-column-2 : goal.bounds-bytes-column-2
+bounds-bytes-column-2 g c = c.if-column-bytes.false
