@@ -1,19 +1,22 @@
 -- The search of a closure, one iteration after another.
--- Main statements: IsSoFar, so_far-start, so_far-turn, so_far-stopped, edges_at, leaf_set.
+-- Main statements: IsSoFar, so_far-start, so_far-turn, so_far-stopped, so_far-ended, so_far-tried, edges_at, leaf_set.
 -- Used by: `explore`, `epsilon_closure`, `record_and_follow`, ReopenedClosure.
 -- Idea: the visited states followed by the search of the pending ones is one list throughout.
-use Rattle.determinize_core.proofs.Common.{[], accepted_sound, All-from_member, All-rest, append-nil, append_assoc}
+use Rattle.determinize_core.proofs.Common.{[], All-from_member, All-rest, append-nil, append_assoc}
 use Rattle.determinize_core.proofs.Common.{arith, Assertion, Bool, by_test, edges, Fail, false, fold}
-use Rattle.determinize_core.proofs.Common.{get_or_from_slice_get, has_id, if◌then◌else◌, IsSound, length, List, member}
+use Rattle.determinize_core.proofs.Common.{get_or_from_slice_get, has_id, if◌then◌else◌, IsSound, length, List}
+use Rattle.determinize_core.proofs.Common.{member}
 use Rattle.determinize_core.proofs.Common.{Members, nat_eq, nat_tests, Nfa, Node, not, reach_past, refl, same_decides}
-use Rattle.determinize_core.proofs.Common.{slice_get, Some, state_at, suc, sym, tries_left, ℕ, ◌++◌, ◌+◌, ◌<◌, ◌∙◌, ◌∷◌}
+use Rattle.determinize_core.proofs.Common.{slice_get, Some, state_at, suc, sym, tries_left, true, true≢false, ℕ, ◌++◌}
+use Rattle.determinize_core.proofs.Common.{◌+◌, ◌<◌, ◌∙◌, ◌∷◌}
 use Rattle.determinize_core.proofs.Common.{◌≡◌, ◌≤◌}
 use Rattle.std.proofs.Common.{All, IsTrue}
-use Rattle.std.proofs.lemmas.List.{append_cancel_left, reverse-reverse}
+use Rattle.std.proofs.lemmas.List.{append_cancel_left}
 use Rattle.std.proofs.lemmas.List.Elements.{All-append}
 use Rattle.std.proofs.lemmas.List.Sums.{fold-append}
 use Rattle.determinize_below.specs.Node.{is_epsilon}
-use Rattle.determinize_below.specs.Semantics.{edges_of}
+use Rattle.determinize_below.specs.Semantics.{BinaryUnion, ByteRange, Capture, Dense, edges_of, Look, Match, Sparse}
+use Rattle.determinize_below.specs.Semantics.{Union}
 use Rattle.ordered_reach.proofs.graph.StackSearch.{closure-held, closure-new, tries-held, tries-new}
 use Rattle.determinize_below.proofs.nfas.SoundNfa.{edges_enough}
 use Rattle.determinize_core.specs.Closure.{AddsBeginning}
@@ -23,6 +26,15 @@ use Rattle.determinize_core.specs.Private.Search.{entered, pending_after}
 pub holds-member : (ids : List ℕ) (id : ℕ) → has_id ids id ≡ member nat_eq ids id
 holds-member [] id = refl
 holds-member (x ∷ ids) id = grind (arith, nat_tests, holds-member ids id)
+
+-- what an insertion into a set says of the state
+pub unheld : (held : Bool) → true ≡ not held → held ≡ false
+unheld true h = absurd (true≢false h)
+unheld false h = refl
+
+pub held_before : (held : Bool) → false ≡ not held → held ≡ true
+held_before true h = refl
+held_before false h = absurd (true≢false (sym h))
 
 -- one iteration
 module _ (nfa : Nfa) (sound : IsSound nfa) (look : Assertion → Bool) (met : List ℕ) (id : ℕ)
@@ -98,15 +110,57 @@ module _ {W : Type 0} {nfa : Nfa} {look : Assertion → Bool} {with_one : W → 
           part = (next.more, rw from next.met_is, (_, sym next.whole));
         }
 
+    -- without pending states the search is done
+    pub so_far-ended : pending ≡ [] → record {
+      ids : met ≡ held ++ reach_past nfa look held roots;
+      recorded : now ≡ fold with_one before (reach_past nfa look held roots);
+      counted : IsTrue counts → total ≡ start + tries_left nfa look held roots;
+    }
+    so_far-ended none =
+        let left : reach_past nfa look met pending ≡ [] = reach_past-none nfa look met pending none in
+        let all : so_far.more ≡ reach_past nfa look held roots = rw (left, append-nil) at so_far.whole in record {
+          ids = rw all at so_far.met_is;
+          recorded = rw all at so_far.now_is;
+          counted = λ h. omega (arith, rw (left, none) at (so_far.counted h));
+        }
+
+    -- what was visited is a prefix of the search
+    pub so_far-part : (old new : Members) → old.ids ≡ held → new.ids ≡ met → new.capacity ≡ old.capacity
+        → AddsBeginning old new (reach_past nfa look held roots)
+    so_far-part old new from to same =
+        record { capacity = same; part = (so_far.more, rw (from, to) so_far.met_is, (_, sym so_far.whole)) }
+
+    -- one more try is within the bound
+    pub so_far-tried : IsSound nfa → (id : ℕ) {rest : List ℕ} {sum : ℕ} → pending ≡ id ∷ rest
+        → (IsTrue counts → sum ≡ total + 1) → IsTrue counts → sum ≤ start + tries_left nfa look held roots
+    so_far-tried sound id top counted h =
+        let next = so_far-turn sound id top refl refl refl counted in omega (arith, next.counted h)
+
 -- the kind of a state that was read
 pub leaf_at : (nfa : Nfa) (s : ℕ) (node : Node) → slice_get nfa.states s ≡ Some node
     → is_epsilon (state_at nfa s) ≡ is_epsilon node
 leaf_at nfa s node h = rw (get_or_from_slice_get nfa.states s node Fail h) refl
 
+leaf_edges : (holds : Assertion → Bool) (node : Node) → is_epsilon node ≡ false → edges_of holds node ≡ []
+leaf_edges holds (ByteRange t) leaf = refl
+leaf_edges holds (Sparse ts) leaf = refl
+leaf_edges holds (Dense ids) leaf = refl
+leaf_edges holds (Look look next) leaf = absurd (true≢false leaf)
+leaf_edges holds (Union ids) leaf = absurd (true≢false leaf)
+leaf_edges holds (BinaryUnion a b) leaf = absurd (true≢false leaf)
+leaf_edges holds (Capture next) leaf = absurd (true≢false leaf)
+leaf_edges holds Fail leaf = refl
+leaf_edges holds (Match pattern) leaf = refl
+
 -- the edges of a state that was read
 pub edges_at : (nfa : Nfa) (holds : Assertion → Bool) (s : ℕ) (node : Node) → slice_get nfa.states s ≡ Some node
     → edges nfa holds s ≡ edges_of holds node
 edges_at nfa holds s node h = rw (get_or_from_slice_get nfa.states s node Fail h) refl
+
+-- a state that was read and is no epsilon state has no edges
+pub edges-leaf : (nfa : Nfa) (holds : Assertion → Bool) (s : ℕ) (node : Node) → slice_get nfa.states s ≡ Some node
+    → is_epsilon node ≡ false → edges nfa holds s ≡ []
+edges-leaf nfa holds s node h leaf = edges_at nfa holds s node h ∙ leaf_edges holds node leaf
 
 -- what the search from a state that is no epsilon state adds
 pub leaf_set : (nfa : Nfa) → IsSound nfa → (look : Assertion → Bool) (held : List ℕ) (root : ℕ) (new : Bool)
@@ -114,10 +168,3 @@ pub leaf_set : (nfa : Nfa) → IsSound nfa → (look : Assertion → Bool) (held
     → (if new then held ++ root ∷ [] else held) ≡ held ++ reach_past nfa look held (root ∷ [])
 leaf_set nfa sound look held root new leaf h =
     grind (arith, same-turn nfa sound look held root {rest = []} refl refl refl, reach_past-none, append-nil)
-
--- for `epsilon_closure`
-pub ruleset leaf_search = (leaf_at, leaf_set, accepted_sound)
-
--- for `explore`
-pub ruleset exploring =
-    (so_far-start, so_far-turn, tries-turn, accepted_sound, reverse-reverse, reach_past-none, append-nil)

@@ -1,9 +1,11 @@
 -- The working list of a step: the recorded states, each once, and their closure.
--- Main statements: distinct-push, reopened_list, reopened_tries.
+-- Main statements: distinct-push, closed_list, closed_tries, reopened_list, reopened_tries.
 -- Used by: `collect_states`, `read_working_list`.
 -- Idea: a set that was empty collects the list.
-use Rattle.determinize_core.proofs.Common.{[], append-nil, arith, distinct, distinct_states, has, has_id, if◌then◌else◌}
-use Rattle.determinize_core.proofs.Common.{IsReopened, List, Nfa, none_held, Option, reach, reach_past, refl}
+use Rattle.determinize_core.proofs.Common.{[], append-nil, arith, distinct, distinct_states, false, has, has_id}
+use Rattle.determinize_core.proofs.Common.{if◌then◌else◌}
+use Rattle.determinize_core.proofs.Common.{is_reopened, IsReopened, List, Nfa, none_held, Option, reach, reach_past}
+use Rattle.determinize_core.proofs.Common.{refl}
 use Rattle.determinize_core.proofs.Common.{same_decides, tries_again, tries_left, Value, working_list, ℕ, ◌++◌, ◌∷◌}
 use Rattle.determinize_core.proofs.Common.{◌≡◌}
 use Rattle.ordered_reach.proofs.lists.NewNodes.{fresh-append, fresh-fresh, member-fresh}
@@ -20,6 +22,14 @@ distinct-push xs x = grind (
   member-fresh same_decides none_held xs x,
   fresh-append same_decides none_held xs (x ∷ []),
 )
+
+-- where the closure is not reopened, the recorded states are the working list, and nothing is tried again
+module _ (nfa : Nfa) (v : Value) (u : Option ℕ) (closed : is_reopened nfa v u ≡ false) where
+  pub closed_list : working_list nfa v u ≡ distinct_states v
+  closed_list = rw closed refl
+
+  pub closed_tries : tries_again nfa v u ≡ 0
+  closed_tries = rw closed refl
 
 module _ {nfa : Nfa} {v : Value} {u : Option ℕ} {set : ℕ} {held roots : List ℕ} (opened : IsReopened nfa v u set)
     (empty : held ≡ []) (all : roots ≡ distinct_states v) where

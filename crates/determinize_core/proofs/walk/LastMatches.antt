@@ -2,9 +2,11 @@
 -- Main statements: last_ended_found, last_ended_kept, last_match-push, each_last_unit_unrolls.
 -- Used by: `last_match`, `last_match_law`, and searches.
 -- Idea: one more value replaces the last match if it lists a pattern.
-use Rattle.determinize_core.proofs.Common.{false, HalfMatch, is_nonempty, slice_index, Some, true}
+use Rattle.determinize_core.proofs.Common.{false, HalfMatch, is_nonempty, None, slice_index, Some, sym, true}
+use Rattle.determinize_core.proofs.Common.{true≢false}
 use Rattle.determinize_core.proofs.Common.{[], add-one, ap, arith, drop, ended_at, future, get_or, last_ended}
-use Rattle.determinize_core.proofs.Common.{last_match, length, List, MatchKind, Nfa, Option, option_or, refl, step, suc}
+use Rattle.determinize_core.proofs.Common.{last_match, length, List, MatchKind, Nfa, Option, option_or, refl, step}
+use Rattle.determinize_core.proofs.Common.{suc}
 use Rattle.determinize_core.proofs.Common.{Value, value_after, ℕ, ◌++◌, ◌+◌, ◌<◌, ◌∷◌, ◌≡◌}
 use Rattle.ordered_reach.proofs.lists.Pieces.{option_or-assoc, option_or-None}
 use Rattle.std.proofs.Math.Nat.{add-zero}
@@ -30,6 +32,16 @@ listed i ps found pattern lists is = grind arith
 unlisted : (i : ℕ) (ps : List ℕ) (found : Option HalfMatch) → is_nonempty ps ≡ false
     → found ≡ option_or (ended_at i ps) found
 unlisted i ps found none = grind arith
+
+-- a list that is not empty has a first item
+pub first_listed : (ps : List ℕ) → is_nonempty ps ≡ true → 0 < length ps
+first_listed [] lists = absurd (true≢false (sym lists))
+first_listed (p ∷ ps) lists = omega arith
+
+-- no value lists a pattern where there is none
+pub last_match-empty : (vs : List Value) → length vs ≡ 0 → last_match vs ≡ None
+last_match-empty [] none = refl
+last_match-empty (v ∷ vs) none = absurd (omega arith)
 
 -- the last match of what is left of a list, from its first value on
 last_ended_more : (vs : List Value) (i : ℕ) (d : Value) → i < length vs

@@ -95,6 +95,28 @@ fn record_and_enter<'a, N: Allocator, A: Allocator, W: Recorder>(
     Ok(targets)
 }
 
+/// Records a binary union, pushes the current list and the second target, and returns the first
+/// target as the next list.
+#[inline(always)]
+fn record_and_fork<'a, N: Allocator, A: Allocator, W: Recorder>(
+    nfa: &NFA<N>,
+    id: StateID,
+    first: &'a StateID,
+    second: StateID,
+    others: &[StateID],
+    stack: &mut Vec<StateID, A>,
+    recorder: &mut W,
+) -> Result<&'a [StateID], AllocError>
+    requires { id < length nfa.now.states }
+    ensures current { IfOk result (λ current. (current.now ≡ first.now ∷ [])
+        × (reverse stack.new.items ≡ second ∷ (others.now ++ reverse stack.old.items))) }
+    ensures recorded { OnOk result (recorder.new ≡ W.with_one nfa.now recorder.old id) }
+{
+    let current = record_and_enter(nfa, id, slice::from_ref(first), others, stack, recorder)?;
+    stack.push(second)?;
+    Ok(current)
+}
+
 /// Records a state and returns the next current list: its epsilon targets, or the first of them.
 /// Other targets and `others` are pushed. Returns `others` if it has none, as most states.
 #[inline(always)]
@@ -126,10 +148,7 @@ fn record_and_follow<'a, N: Allocator, A: Allocator, W: Recorder>(
             record_and_enter(nfa, id, alternates.as_slice(), others, stack, recorder)
         }
         State::BinaryUnion { alt1, alt2 } => {
-            let first = slice::from_ref(alt1);
-            let current = record_and_enter(nfa, id, first, others, stack, recorder)?;
-            stack.push(*alt2)?;
-            Ok(current)
+            record_and_fork(nfa, id, alt1, *alt2, others, stack, recorder)
         }
         State::Capture { next } => {
             record_and_enter(nfa, id, slice::from_ref(next), others, stack, recorder)
@@ -174,7 +193,6 @@ fn take_turn<'a, N: Allocator, A: Allocator, W: Recorder, C: Counter>(
 /// Searches from these states, and then from those on the stack, the first of them first. On error
 /// the stack is not cleared.
 #[inline(always)]
-#[tactic(auto, using(crate::proofs::closure::ClosureSteps::exploring))]
 pub(crate) fn explore<N: Allocator, A: Allocator, W: Recorder, C: Counter>(
     nfa: &NFA<N>,
     first: &[StateID],
@@ -215,7 +233,6 @@ pub(crate) fn explore<N: Allocator, A: Allocator, W: Recorder, C: Counter>(
 /// alternates of a union first. A state of the set is not followed, and a `Look` state only if its
 /// assertion is in `look_have`. Only the stack allocates, and not if `start` is no epsilon state.
 /// It is empty afterwards, also on error; then the set has a prefix of what was to be added.
-#[tactic(auto, using(crate::proofs::closure::ClosureSteps::leaf_search))]
 pub fn epsilon_closure<N: Allocator, A: Allocator>(
     nfa: &NFA<N>,
     start: StateID,

@@ -1,6 +1,6 @@
 //! The start state and each next state of one NFA, with scratch that is kept between calls.
 
-ghost use Rattle.std.specs.Prelude.{◌≡◌, ◌<◌, ◌≤◌, length, IfOk, OnOk};
+ghost use Rattle.std.specs.Prelude.{◌≡◌, ◌<◌, ◌≤◌, length, IfOk, IfSome, IsSome, OnOk};
 ghost use Rattle.determinize_below.specs.Nfa.{AllResolve, IsAccepted};
 ghost use Rattle.determinize_below.specs.Unit.{byte_of};
 ghost use Rattle.determinize_below.specs.declared.search.MatchKind.TheVariants as kinds;
@@ -46,6 +46,32 @@ impl<'n, N: Allocator, A: Allocator> Model for Stepper<'n, N, A> {
     ghost invariant = { λ s.
         IfSome s.sparses (λ sets. IsPrepared s.nfa.now sets.set1 sets.set2)
         × (s.stack.items ≡ []) };
+}
+
+/// Allocates the sets, unless they are allocated already.
+#[inline(always)]
+fn prepare<N: Allocator, A: Allocator + Copy>(
+    alloc: A,
+    nfa: &NFA<N>,
+    sparses: &mut Option<SparseSets<A>>,
+) -> Result<(), AllocError>
+    requires { IfSome sparses.old (λ sets. IsPrepared nfa.now sets.set1 sets.set2) }
+    ensures prepared { IfSome sparses.new (λ sets. IsPrepared nfa.now sets.set1 sets.set2) }
+    ensures some { OnOk result (IsSome sparses.new) }
+{
+    if sparses.is_none() {
+        *sparses = Some(SparseSets::new(alloc, nfa.len())?);
+    }
+    Ok(())
+}
+
+/// Takes the builder, and leaves one without memory.
+#[inline(always)]
+fn take_builder<A: Allocator + Copy>(
+    alloc: A,
+    builder: &mut StateBuilderEmpty<A>,
+) -> StateBuilderEmpty<A> {
+    mem::replace(builder, StateBuilderEmpty::new(alloc))
 }
 
 impl<'n, N: Allocator, A: Allocator + Copy> Stepper<'n, N, A> {
@@ -120,13 +146,11 @@ impl<'n, N: Allocator, A: Allocator + Copy> Stepper<'n, N, A> {
         ensures accepted { OnOk result (IsAccepted self.old.nfa) }
         ensures unchanged { self.new ≡ self.old }
     {
-        if self.sparses.is_none() {
-            self.sparses = Some(SparseSets::new(self.alloc, self.nfa.len())?);
-        }
+        prepare(self.alloc, self.nfa, &mut self.sparses)?;
         let Some(sparses) = &mut self.sparses else {
             unreachable!()
         };
-        let empty = mem::replace(&mut self.empty_builder, StateBuilderEmpty::new(self.alloc));
+        let empty = take_builder(self.alloc, &mut self.empty_builder);
         let builder = start_state_of(self.nfa, start, kind, sparses, &mut self.stack, empty)?;
         self.finish(builder)
     }
@@ -180,13 +204,11 @@ impl<'n, N: Allocator, A: Allocator + Copy> Stepper<'n, N, A> {
         ensures resolve { IfOk result (λ builder. AllResolve self.old.nfa builder.states) }
         ensures unchanged { self.new ≡ self.old }
     {
-        if self.sparses.is_none() {
-            self.sparses = Some(SparseSets::new(self.alloc, self.nfa.len())?);
-        }
+        prepare(self.alloc, self.nfa, &mut self.sparses)?;
         let Some(sparses) = &mut self.sparses else {
             unreachable!()
         };
-        let empty = mem::replace(&mut self.empty_builder, StateBuilderEmpty::new(self.alloc));
+        let empty = take_builder(self.alloc, &mut self.empty_builder);
         next(
             self.nfa,
             self.match_kind,

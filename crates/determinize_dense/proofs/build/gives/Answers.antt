@@ -16,7 +16,7 @@ use Rattle.determinize_dense.proofs.build.gives.Goals as goal
 abbrev node_gives : Option ℕ → Node → Bool
 node_gives u n = is_some (pattern_in n) || is_nonempty (option_to_list (target_of u n))
 
--- it depends on the node of the id alone
+-- only the node of the id counts
 by-node : (nfa : Nfa) (u : Option ℕ) (s : ℕ) (n : Node) {b : Bool} → slice_get nfa.states s ≡ Some n
     → b ≡ node_gives u n → b ≡ not (gives_nothing nfa u s)
 by-node nfa u s n got is =

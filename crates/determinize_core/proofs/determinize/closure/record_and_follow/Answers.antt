@@ -1,18 +1,21 @@
-use Rattle.determinize_core.proofs.Common.{has, IfOk-weaker}
-use Rattle.std.proofs.lemmas.List.{reverse-append}
-use Rattle.determinize_core.proofs.closure.ClosureSteps.{edges_at}
+use Rattle.determinize_core.proofs.Common.{[], has, IfOk-weaker, List, refl, sym, ℕ, ◌++◌, ◌≡◌}
+use Rattle.determinize_core.proofs.closure.ClosureSteps.{edges_at, edges-leaf}
 use Rattle.determinize_core.proofs.determinize.closure.record_and_follow.Goals as goal
 
-pub returns-in_ok-push-in-BinaryUnion-clause-pending : goal.returns-in_ok-push-in-BinaryUnion-clause-pending
-returns-in_ok-push-in-BinaryUnion-clause-pending g c =
-    rw (
+-- a state without edges leaves what is pending
+unchanged : (stack : List ℕ) {current others edges : List ℕ} → edges ≡ [] → current ≡ others
+    → current ++ stack ≡ edges ++ (others ++ stack)
+unchanged stack none same = rw (none, same) refl
+
+pub returns-in-BinaryUnion-clause-pending : goal.returns-in-BinaryUnion-clause-pending
+returns-in-BinaryUnion-clause-pending g c =
+    IfOk-weaker c.record_and_fork.result _ _
+    (λ current same. rw (
       edges_at c.args.nfa.now (has c.args.look_have) c.args.id _ (rw c.in-BinaryUnion.is at c.state-2.ensures.state),
-      c.in_ok-push-in-BinaryUnion.ensures.items,
-      reverse-append,
-      c.in_ok-current-in-BinaryUnion.ensures.current.0,
-      c.in_ok-current-in-BinaryUnion.ensures.current.1,
-      c.from_ref-first.ensures.value,
-    )
+      same.0,
+      same.1,
+    ))
+    c.record_and_fork.ensures.current
 
 pub returns-in-Capture-clause-pending : goal.returns-in-Capture-clause-pending
 returns-in-Capture-clause-pending g c =
@@ -47,3 +50,18 @@ returns-in-Union-clause-pending g c =
       c.as_slice.ensures.value,
     ))
     c.record_and_enter-in-Union.ensures.current
+
+pub returns-then-not-is_epsilon-clause-pending : goal.returns-then-not-is_epsilon-clause-pending
+returns-then-not-is_epsilon-clause-pending g c =
+    IfOk-weaker c.record_only.result _ _
+    (λ current same. unchanged _ (edges-leaf c.args.nfa.now (has c.args.look_have) c.args.id _ c.state.ensures.state
+    (sym c.if-not-is_epsilon.ensures)) same)
+    c.record_only.ensures.current
+
+pub returns-then-not-contains-clause-pending : goal.returns-then-not-contains-clause-pending
+returns-then-not-contains-clause-pending g c =
+    let edges =
+    edges_at c.args.nfa.now (has c.args.look_have) c.args.id _ (rw c.in-Look.is at c.state-2.ensures.state) in
+    IfOk-weaker c.record_only-then-not-contains.result _ _
+    (λ current same. unchanged _ (rw (← c.if-not-contains.ensures) at edges) same)
+    c.record_only-then-not-contains.ensures.current
