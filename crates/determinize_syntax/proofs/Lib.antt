@@ -18,4 +18,3 @@ pub mod Munch
 pub mod Hexes
 pub mod Widths
 pub mod Limits
-pub mod Unlisted

@@ -7,7 +7,7 @@ use Rattle.determinize_core.proofs.Common.{arith, Assertion, Bool, by_test, edge
 use Rattle.determinize_core.proofs.Common.{get_or_from_slice_get, has_id, if◌then◌else◌, IsSound, length, List}
 use Rattle.determinize_core.proofs.Common.{member}
 use Rattle.determinize_core.proofs.Common.{Members, nat_eq, nat_tests, Nfa, Node, not, reach_past, refl, same_decides}
-use Rattle.determinize_core.proofs.Common.{slice_get, Some, state_at, suc, sym, tries_left, true, true≢false, ℕ, ◌++◌}
+use Rattle.determinize_core.proofs.Common.{slice_get, Some, state_at, suc, sym, tries_left, true≢false, ℕ, ◌++◌}
 use Rattle.determinize_core.proofs.Common.{◌+◌, ◌<◌, ◌∙◌, ◌∷◌}
 use Rattle.determinize_core.proofs.Common.{◌≡◌, ◌≤◌}
 use Rattle.std.proofs.Common.{All, IsTrue}
@@ -26,15 +26,6 @@ use Rattle.determinize_core.specs.Private.Search.{entered, pending_after}
 pub holds-member : (ids : List ℕ) (id : ℕ) → has_id ids id ≡ member nat_eq ids id
 holds-member [] id = refl
 holds-member (x ∷ ids) id = grind (arith, nat_tests, holds-member ids id)
-
--- what an insertion into a set says of the state
-pub unheld : (held : Bool) → true ≡ not held → held ≡ false
-unheld true h = absurd (true≢false h)
-unheld false h = refl
-
-pub held_before : (held : Bool) → false ≡ not held → held ≡ true
-held_before true h = refl
-held_before false h = absurd (true≢false (sym h))
 
 -- one iteration
 module _ (nfa : Nfa) (sound : IsSound nfa) (look : Assertion → Bool) (met : List ℕ) (id : ℕ)

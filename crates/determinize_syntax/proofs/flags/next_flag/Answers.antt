@@ -1,4 +1,4 @@
-use Rattle.determinize_syntax.proofs.Common.{◌∙◌, ◌∷◌, [], ap, arith, length, rest, rules, sym}
+use Rattle.determinize_syntax.proofs.Common.{◌∙◌, ◌∷◌, [], ap, rest, rules, sym}
 use Rattle.determinize_syntax.proofs.Flagging.{one_cleared, one_letter}
 use Rattle.determinize_syntax.proofs.Rules.{cleared_read, letter_read}
 use Rattle.determinize_syntax.proofs.flags.next_flag.Goals as goal
@@ -47,11 +47,3 @@ returns-clause-whole c g u h after other =
       c.take.ensures.read c.if-not-take.false ∙ ap (λ l. 0x2D ∷ l) (y.3 ∙ ap (λ l. y.0 ∷ l) (sym z.1)),
       rw (z.0, z.1) y.7,
     )
-
-pub returns-then-not-take-clause-progress : goal.returns-then-not-take-clause-progress
-returns-then-not-take-clause-progress c =
-    rw (c.take.ensures.left c.if-not-take.true) at c.in_ok-set.ensures.progress
-
-pub returns-clause-progress : goal.returns-clause-progress
-returns-clause-progress c =
-    let e = ap length (c.take.ensures.read c.if-not-take.false) in omega (arith, e, c.in_ok-set-2.ensures.progress)

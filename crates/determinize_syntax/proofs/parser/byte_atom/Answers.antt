@@ -1,8 +1,7 @@
 use Rattle.determinize_syntax.proofs.Common.{◌&&◌, ◌∈◌, ◌∙◌, ◌≡◌, Atom, ap, at_end, by_cases, character, clash, codes}
 use Rattle.determinize_syntax.proofs.Common.{encode_same, encode_utf8, false, is_ascii, itself, meaning, not}
-use Rattle.determinize_syntax.proofs.Common.{arith, length, refl, rest, sym, took, true}
+use Rattle.determinize_syntax.proofs.Common.{refl, rest, sym, took, true}
 use Rattle.determinize_syntax.specs.Spells.{plain}
-use Rattle.determinize_syntax.specs.Private.Names.{is_local}
 use Rattle.determinize_syntax.proofs.Bytes.{within}
 use Rattle.determinize_syntax.proofs.Rules.{shorter_by_character}
 use Rattle.determinize_syntax.proofs.Stepping.{atom_some, byte_at, byte_next, sign_next}
@@ -82,17 +81,3 @@ returns-clause-whole c k h other =
     by_cases (byte_next k c.args.flags c.in-Some.next _ (rw (c.pass-2.ensures c.in-Some.next at) at h)
     (other c.in-Some.next at) (sym c.is_sign.ensures ∙ c.if-is_sign.false)).1 (λ y. y.2)
     (λ y. clash (sym c.is_ascii.ensures ∙ c.if-not-is_ascii.false) y.2.1)
-
-pub sign-requires : goal.sign-requires
-sign-requires c = sym c.is_sign.ensures ∙ c.if-is_sign.true
-
-pub returns-then-is_sign-clause-progress : goal.returns-then-is_sign-clause-progress
-returns-then-is_sign-clause-progress c =
-    let e = ap length (c.pass.ensures c.in-Some.next (sym c.peek.ensures ∙ c.in-Some.is)) in omega (arith, e)
-
-pub returns-clause-progress : goal.returns-clause-progress
-returns-clause-progress c =
-    let e = ap length (c.pass-2.ensures c.in-Some.next (sym c.peek.ensures ∙ c.in-Some.is)) in omega (arith, e)
-
-pub returns-in_default-clause-local : goal.returns-in_default-clause-local
-returns-in_default-clause-local c = ap is_local c.error_before.ensures

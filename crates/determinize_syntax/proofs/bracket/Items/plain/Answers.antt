@@ -1,5 +1,5 @@
 use Rattle.determinize_syntax.proofs.Common.{◌∙◌, ◌∷◌, ◌≡◌, [], at_end, by_cases, char_pairs, clash, front_of, renamed}
-use Rattle.determinize_syntax.proofs.Common.{ap, arith, length, rest, rules, sym, took}
+use Rattle.determinize_syntax.proofs.Common.{rest, rules, sym, took}
 use Rattle.determinize_syntax.proofs.Listing.{plain_listed, wide_listed}
 use Rattle.determinize_syntax.proofs.Nexts.{plain_next, starts}
 use Rattle.determinize_syntax.proofs.bracket.Items.plain.Goals as goal
@@ -55,13 +55,3 @@ returns-clause-whole c u h other =
     (rw (c.pass.ensures c.in-Some.next at) at h) (other c.in-Some.next at))
     (λ y. rw (c.in_ok-add.ensures.before, c.from-character.ensures) y.2)
     (λ y. clash (sym c.is_ascii.ensures ∙ c.if-not-is_ascii.false) y.3.1)
-
-pub returns-then-not-is_ascii-clause-progress : goal.returns-then-not-is_ascii-clause-progress
-returns-then-not-is_ascii-clause-progress c = c.in_ok-character.ensures.progress
-
-pub returns-clause-progress : goal.returns-clause-progress
-returns-clause-progress c =
-    let e = ap length (c.pass.ensures c.in-Some.next (sym c.peek.ensures ∙ c.in-Some.is)) in omega (arith, e)
-
-pub returns-in_default-clause-local : goal.returns-in_default-clause-local
-returns-in_default-clause-local c = c.unclosed.ensures
