@@ -182,7 +182,6 @@ impl LookSet {
     }
 
     /// Returns the assertions in `self` that are not in `other`.
-    #[tactic(auto, using(crate::proofs::looks::LookSets::difference))]
     pub fn subtract(self, other: LookSet) -> LookSet
         ensures value { result ≡ looks.subtract self other }
         ensures members { (look : Assertion)

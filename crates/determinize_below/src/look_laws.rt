@@ -29,7 +29,6 @@ pub fn look_set_law(set: LookSet, other: LookSet)
 }
 
 /// States what each method of a set does to the members.
-#[tactic(auto, using(crate::proofs::looks::LookSets::members))]
 pub fn look_member_law(set: LookSet, other: LookSet, look: Look, member: Look)
     ensures insert { has (looks.insert set look) look ≡ true }
     ensures insert_others { ¬ (member ≡ look)

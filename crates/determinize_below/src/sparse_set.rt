@@ -43,7 +43,6 @@ impl<A: Allocator> Model for SparseSet<A> {
 impl<A: Allocator + Clone> SparseSet<A> {
     /// Returns an empty set for ids below the capacity, which must be at most 2147483647. Allocates
     /// all memory that the set will ever need, and none is kept on error.
-    #[tactic(auto, using(crate::proofs::sets::SparseSets::emptying))]
     pub fn new(alloc: A, capacity: usize) -> Result<SparseSet<A>, AllocError>
         requires { capacity ≤ ID_LIMIT }
         ensures { IfOk result (λ s. s ≡ record { ids = []; capacity = capacity }) }
@@ -92,7 +91,6 @@ impl<A: Allocator> SparseSet<A> {
 
     /// Adds the id, which must be below the capacity, and returns whether it was new. A set that
     /// contains the id already is unchanged. Does not allocate.
-    #[tactic(auto, using(crate::proofs::sets::SparseSets::pushing))]
     pub fn insert(&mut self, id: StateID) -> bool
         requires { id < self.old.capacity }
         ensures new { result ≡ not (has_id self.old.ids id) }
@@ -110,7 +108,6 @@ impl<A: Allocator> SparseSet<A> {
     }
 
     /// Removes all ids. The capacity is unchanged.
-    #[tactic(auto, using(crate::proofs::sets::SparseSets::emptying))]
     pub fn clear(&mut self)
         ensures { self.new ≡ record self.old { ids = [] } }
     {

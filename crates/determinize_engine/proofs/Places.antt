@@ -4,9 +4,10 @@
 -- Idea: by induction on the list; `same` decides equality, so a value has one place.
 use Rattle.determinize_core.proofs.Common.{[], ap, arith, Bool, by_test, cond, false, inl, inr, IsEquivalence, length}
 use Rattle.determinize_core.proofs.Common.{length-append, List, list_any, None, on_equiv, Option, refl, same, slice_get}
-use Rattle.determinize_core.proofs.Common.{Some, suc, sym, true, true≢false, unwrap_or, Value, zero, ℕ, ◌++◌, ◌<◌, ◌∙◌}
+use Rattle.determinize_core.proofs.Common.{IfSome, slice_get_within, Some, suc, sym, true, true≢false, unwrap_or, Value}
+use Rattle.determinize_core.proofs.Common.{zero, ℕ, ◌++◌, ◌<◌, ◌≤◌, ◌∙◌}
 use Rattle.determinize_core.proofs.Common.{◌∷◌, ◌≡◌, ◌⊎◌}
-use Rattle.determinize_engine.specs.States.{EachApart}
+use Rattle.determinize_engine.specs.States.{EachApart, IsIndex}
 use Rattle.determinize_engine.specs.Private.Interned.{AreInterned}
 use Rattle.determinize_engine.specs.declared.state_table.TheConstants.{MAX_STATES}
 use Rattle.std.proofs.lemmas.List.Folds.{list_any-append}
@@ -56,6 +57,16 @@ module _ (values : List Value) where
 
 pub same-or : (v w : Value) → (same v w ≡ false) ⊎ (v ≡ w)
 same-or v w = by_test (same v w) (λ e. inr (same_is v w e)) inl
+
+-- an index in a table is below the greatest number of states
+few_at : (values : List Value) (v : Value) (index : Option ℕ) → length values ≤ MAX_STATES → IsIndex values v index
+    → IfSome index (λ p. p < MAX_STATES)
+few_at values v None few at = tt
+few_at values v (Some p) few at = omega (arith, slice_get_within values p v at, few)
+
+pub index_few : {values : List Value} {at : Value → Option ℕ} → AreInterned values at → (v : Value)
+    → IfSome (at v) (λ p. p < MAX_STATES)
+index_few placed v = few_at _ v _ placed.few (placed.mapped v)
 
 -- one more state in a table
 pub interned-push : {values : List Value} {at at' : Value → Option ℕ} {n : ℕ} (v : Value) → AreInterned values at

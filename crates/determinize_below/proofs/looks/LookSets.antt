@@ -67,9 +67,6 @@ subtract-bits a b = refl
 pub has-subtract : (a b : ℕ) (l : Look) → b < 2 ^ 32 → has (subtract a b) l ≡ (has a l && not (has b l))
 has-subtract a b l h = rw subtract-bits (has-and_not a b l h)
 
--- for the method `subtract`
-pub ruleset difference = (has-and_not, subtract-bits)
-
 pub has-empty : (l : Look) → has 0 l ≡ false
 has-empty l = rw (has-bit 0 l, bit_at-zero (index_of l))
 
@@ -101,9 +98,6 @@ Decides-same l k = (
 
 pub same_other : (l k : Look) → ¬ (k ≡ l) → same l k ≡ false
 same_other l k n = false_from_ne_true _ (λ h. n (sym ((Decides-same l k).0 h)))
-
--- what each method of a set does to the members
-pub ruleset members = (has-insert, has-remove, has-union, has-intersect, has-subtract, Decides-same, same_other)
 
 -- one assertion that passes the test
 pub each_look-any : (test : Look → Bool) (l : Look) → test l ≡ true → list_any test each_look ≡ true

@@ -1,6 +1,6 @@
 -- Marks at the bytes where something changes, and states with the same target on two bytes.
--- Main statements: marks_like, marks_both, ranges_more, read_at, all_states.
--- Used by: `mark_ranges`, `mark_lines`, `mark_crlf`, `mark_words`, `mark_changes`, `are_alike`, WordBytes.
+-- Main statements: marks_like, marks_both, ranges_more, read_at, read_from, all_states.
+-- Used by: the functions of `byte_classes`, WordBytes.
 -- Idea: the first range that contains a byte is among the ranges so far, or it is the next one.
 use Rattle.determinize_below.proofs.Common.{arith, [], Bool, by_cases, cases_lt, Fail, get_or, length, List, nat_eq, nat_tests, Nfa, Node, None, refl, slice_get, Some, state_at, take, target_of, Transition, ℕ, ◌++◌, ◌+◌, ◌<◌, ◌∷◌, ◌≡◌, cond, option_or, take_more, get_or_from_slice_get, MarksChanges, matches, sparse_target}
 use Rattle.determinize_below.proofs.nfas.Edges.{state_past}
@@ -53,6 +53,12 @@ pub read_at : (nfa : Nfa) (i j : ℕ) (n : Node) (b c : ℕ) → j ≡ i → sli
     → target_of (Some b) n ≡ target_of (Some c) n
     → target_of (Some b) (state_at nfa i) ≡ target_of (Some c) (state_at nfa i)
 read_at nfa i j n b c index there same = grind (arith, get_or_from_slice_get nfa.states j n Fail there)
+
+-- and from the NFA to the state
+pub read_from : (nfa : Nfa) (j : ℕ) (n : Node) (b c : ℕ) → slice_get nfa.states j ≡ Some n
+    → target_of (Some b) (state_at nfa j) ≡ target_of (Some c) (state_at nfa j)
+    → target_of (Some b) n ≡ target_of (Some c) n
+read_from nfa j n b c there same = grind (arith, get_or_from_slice_get nfa.states j n Fail there)
 
 -- all states of the NFA, and ids out of range
 pub all_states : (nfa : Nfa) (b c : ℕ) → ((s : ℕ) → s < length nfa.states

@@ -1,8 +1,8 @@
 -- Which error validation finds first, by the number of states and the start ids.
--- Main statements: too_many, no_start, after_starts.
--- Used by: `NFA::from_parts`.
+-- Main statements: too_many, no_start, after_starts, few_states.
+-- Used by: `NFA::from_parts`, `NFA::len`.
 -- Idea: the tests of `failure` are decided one after another.
-use Rattle.determinize_below.proofs.Common.{◌≡◌, ◌<◌, ◌≤◌, ◌⊎◌, ◌∙◌, ℕ, List, Node, Some, [], and-false, arith, by_cases, false, length, length-map, lt-ltb, map, nat_lt, refl, states_failure, sym}
+use Rattle.determinize_below.proofs.Common.{None, nat_tests, ◌≡◌, ◌<◌, ◌≤◌, ◌⊎◌, ◌∙◌, ℕ, List, Node, Some, [], and-false, arith, by_cases, false, length, length-map, lt-ltb, map, nat_lt, refl, states_failure, sym}
 use Rattle.std.proofs.lemmas.Bool.{le-ltb}
 use Rattle.determinize_below.specs.Nfa.{failure}
 use Rattle.determinize_below.specs.declared.nfa.BuildError.TheVariants.{TooManyStates, UnresolvedStart}
@@ -35,3 +35,7 @@ module _ {V : Type 0} (f : V → Node) (items : List V) (count a u : ℕ) (n : c
           e,
           length-map items f,
         ) refl
+
+-- where validation finds no error
+pub few_states : (nodes : List Node) (a u : ℕ) → failure nodes a u ≡ None → length nodes ≤ ID_LIMIT
+few_states nodes a u e = grind (arith, nat_tests, e)

@@ -1,8 +1,9 @@
 -- Bytes that are sorted into classes one after another.
--- Main statements: sorted_held, sorted_new.
+-- Main statements: sorted_held, sorted_new, sorted_all.
 -- Used by: `NFA::byte_classes`.
 -- Idea: a byte joins the class of an earlier byte that is alike, or begins a class.
 use Rattle.std.specs.Prelude.{◌↔◌}
+use Rattle.determinize_below.specs.ByteClasses.{AreClasses}
 use Rattle.determinize_below.proofs.Common.{◌≡◌, ℕ, ◌+◌, ◌<◌, ◌≤◌, ◌≢◌, List, length, get_or, take, refl, sym, ◌∙◌, arith, get_or-set_other, get_or-set_same, get_or-take, length-set, length-take-le, below_more, AreAlike, Nfa, AreSorted, set}
 
 -- each element of a list, after a write behind those so far
@@ -97,4 +98,21 @@ module _ (nfa : Nfa) where
             (alike-chain (get_or F (get_or B b 0) 0) b n
             ((s.same (get_or F (get_or B b 0) 0) (s.bytes _ (s.within b h)) b h).0 (s.own _ (s.within b h))) e))),
       ));
+    }
+
+-- where all bytes are sorted
+pub sorted_all : (nfa : Nfa) (n len : ℕ) (B F : List ℕ) → AreSorted nfa n len B F → n ≡ 256
+    → AreClasses record { of_bytes = B; firsts = take len F }
+sorted_all nfa n len B F s all =
+    let size : length (take len F) ≡ len = length-take-le len F (omega (arith, s.few, s.room)) in
+    record {
+      count = s.count;
+      within = λ b h. omega (arith, size, s.within b (omega arith));
+      bytes = λ k h. let l : k < len = omega arith in rw (get_or-take len F k 0 l) (omega (arith, s.bytes k l));
+      own = λ k h. let l : k < len = omega arith in rw (get_or-take len F k 0 l) (s.own k l);
+      least = λ b h. let l : b < n = omega arith in
+          rw (get_or-take len F (get_or B b 0) 0 (s.within b l)) (s.least b l);
+      ascend = λ j k i h. let l : k < len = omega arith in
+          rw (get_or-take len F j 0 (omega arith), get_or-take len F k 0 l) (s.ascend j k i l);
+      few = omega (arith, size, s.few);
     }

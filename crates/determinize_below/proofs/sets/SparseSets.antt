@@ -1,16 +1,17 @@
 -- Sparse sets as a list of ids and its bits.
--- Main statements: distinct_push, room_for_one, cleared_all, the rulesets emptying and pushing.
+-- Main statements: distinct_push, room_for_one, cleared_all, sparse_none, sparse_again, sparse_push, sparse_clear.
 -- Used by: the calls of `SparseSet`.
 -- Idea: a bit is set exactly if its id is in the list.
-use Rattle.determinize_below.proofs.Common.{nat_tests, [], arith, false, get_or, has_bit, IsCleared, length, List, list_any-append, nat_eq, replicate, set, sym, take, true, ℕ, ◌*◌, ◌++◌, ◌+◌, ◌/◌, ◌<◌, ◌||◌, ◌∙◌, ◌∷◌, ◌≡◌, ◌⊎◌, eqb-true, length-append, list_any_more, has_id, IsSparse}
-use Rattle.std.proofs.lemmas.Grind.{common_steps}
+use Rattle.determinize_below.proofs.Common.{nat_tests, [], ap, refl, ◌≤◌, arith, false, get_or, has_bit, IsCleared, length, List, list_any-append, nat_eq, replicate, set, sym, take, true, ℕ, ◌*◌, ◌++◌, ◌+◌, ◌/◌, ◌<◌, ◌||◌, ◌∙◌, ◌∷◌, ◌≡◌, eqb-true, length-append, list_any_more, has_id, IsSparse}
 use Rattle.std.proofs.lemmas.List.Elements.{All-push}
 use Rattle.std.specs.Cmp.{nat_eq_equiv}
+use Rattle.std.specs.Int.{div_ceil}
 use Rattle.std.specs.List.{IsDistinct}
 pub use Rattle.std.proofs.lemmas.List.{length-replicate}
 use Rattle.std.proofs.lemmas.Map.Keys.{IsDistinct-push}
 use Rattle.std.proofs.lemmas.Map.Steps.{length-le_from_distinct_below}
 use Rattle.std.proofs.lemmas.Map.Views.{Contains-from_any}
+use Rattle.determinize_below.specs.declared.primitives.TheConstants.{ID_LIMIT}
 use Rattle.determinize_below.proofs.sets.Bits.{has_bit-empty}
 pub use Rattle.determinize_below.proofs.sets.Bits.{has_bit-zeros, words_back}
 
@@ -26,14 +27,6 @@ distinct_push ids id d none = IsDistinct-push nat_eq_equiv ids id d none
 
 pub holds-push : (ids : List ℕ) (id other : ℕ) → has_id (ids ++ id ∷ []) other ≡ (nat_eq other id || has_id ids other)
 holds-push ids id other = grind (arith, list_any-append (nat_eq other) ids (id ∷ []))
-
-pub holds-again : (ids : List ℕ) (id other : ℕ) → has_id ids id ≡ true
-    → (nat_eq other id || has_id ids other) ≡ has_id ids other
-holds-again ids id other h = grind (arith, nat_tests)
-
-pub get_or-push : (ids : List ℕ) (id k d : ℕ) → k < length (ids ++ id ∷ [])
-    → (get_or (ids ++ id ∷ []) k d ≡ id) ⊎ ((k < length ids) × (get_or (ids ++ id ∷ []) k d ≡ get_or ids k d))
-get_or-push ids id k d h = grind (arith, common_steps)
 
 -- there is room for an id whose bit is not set
 pub room_for_one : (ids words : List ℕ) (id capacity room : ℕ) → IsSparse ids words capacity room → id < capacity
@@ -56,7 +49,56 @@ cleared_more words fewer ids i h within so_far =
     let more = λ (id : ℕ). list_any_more (nat_eq id) ids i 0 h in
     grind (arith, has_bit-empty fewer (get_or ids i 0), more)
 
--- the rules for the invariant of an empty set, and of a set with a new id
-pub ruleset emptying = (distinct_none, has_bit-zeros, length-replicate, words_back)
+-- a set with no ids
+pub sparse_none : (ids words : List ℕ) (capacity room n : ℕ) → ids ≡ [] → words ≡ replicate n 0
+    → n ≡ div_ceil capacity 64 → capacity ≤ ID_LIMIT → capacity ≤ room → IsSparse ids words capacity room
+sparse_none ids words capacity room n none zeros size small fits = rw (none, zeros) record {
+  distinct = distinct_none [] refl;
+  below = λ k d h. absurd (omega (arith, h));
+  small = small;
+  room_for_all = fits;
+  word_for_each = length-replicate n 0 ∙ size;
+  marked = λ id h. has_bit-zeros n id;
+}
 
-pub ruleset pushing = (distinct_push, get_or-push, holds-again, holds-push, words_back)
+-- the words of a set that were lent and written to
+module _ {ids words : List ℕ} {capacity room : ℕ} (sparse : IsSparse ids words capacity room)
+    (lent new rest : List ℕ) (n : ℕ) (value : lent ≡ words) (size : n ≡ length new)
+    (same : length new ≡ length lent) where
+  count : length new ≡ div_ceil capacity 64
+  count = same ∙ ap length value ∙ sparse.word_for_each
+
+  pub sparse_clear : (cleared emptied : List ℕ) (more : ℕ) → cleared ≡ ids → emptied ≡ [] → room ≤ more
+      → IsCleared lent new cleared → IsSparse emptied (take n (new ++ rest)) capacity more
+  sparse_clear cleared emptied more is none fits bits = rw (words_back new rest n size, none) record {
+    distinct = distinct_none [] refl;
+    below = λ k d h. absurd (omega (arith, h));
+    small = sparse.small;
+    room_for_all = omega (arith, sparse.room_for_all);
+    word_for_each = count;
+    marked = λ i h. grind (arith, bits.was i, bits.none i, value, is, sparse.marked i h);
+  }
+
+  module _ (id : ℕ) (after : (other : ℕ) → has_bit new other ≡ (nat_eq other id || has_bit lent other)) where
+    pub sparse_again : has_bit lent id ≡ true → IsSparse ids (take n (new ++ rest)) capacity room
+    sparse_again held = rw (words_back new rest n size) record {
+      distinct = sparse.distinct;
+      below = sparse.below;
+      small = sparse.small;
+      room_for_all = sparse.room_for_all;
+      word_for_each = count;
+      marked = λ i h. grind (arith, nat_tests, after i, held, value, sparse.marked i h);
+    }
+
+    pub sparse_push : has_bit lent id ≡ false → id < capacity → (longer : List ℕ) (more : ℕ) → longer ≡ ids ++ id ∷ []
+        → room ≤ more → IsSparse longer (take n (new ++ rest)) capacity more
+    sparse_push unset small longer more pushed fits =
+        let none : has_id ids id ≡ false = sym (sparse.marked id small) ∙ rw value at unset in
+        rw (words_back new rest n size, pushed) record {
+          distinct = distinct_push ids id sparse.distinct none;
+          below = All-push (λ i. i < capacity) ids id sparse.below small;
+          small = sparse.small;
+          room_for_all = omega (arith, sparse.room_for_all);
+          word_for_each = count;
+          marked = λ i h. rw (after i, value, sparse.marked i h, holds-push ids id i);
+        }

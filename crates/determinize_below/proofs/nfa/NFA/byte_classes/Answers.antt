@@ -1,5 +1,5 @@
 use Rattle.determinize_below.proofs.Common.{◌≡◌, ◌+◌, ◌-◌, arith, refl}
-use Rattle.determinize_below.proofs.nfas.SortedBytes.{sorted_first, sorted_held, sorted_new}
+use Rattle.determinize_below.proofs.nfas.SortedBytes.{sorted_all, sorted_first, sorted_held, sorted_new}
 use Rattle.determinize_below.proofs.nfa.NFA.byte_classes.Goals.{then-class-len, else-class-len}
 use Rattle.determinize_below.proofs.nfa.NFA.byte_classes.Goals as goal
 
@@ -31,3 +31,7 @@ returns g c =
       };
       accepted = c.boundaries_of-boundaries.ensures.accepted;
     }
+
+pub from_parts-requires-clause-sound : goal.from_parts-requires-clause-sound
+from_parts-requires-clause-sound g c =
+    sorted_all _ _ _ _ _ c.loop-byte.invariant (omega (arith, c.loop-byte-test.false, c.loop-byte.auto.byte-end))

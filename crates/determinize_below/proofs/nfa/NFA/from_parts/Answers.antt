@@ -1,10 +1,14 @@
-use Rattle.determinize_below.proofs.Common.{None, Some, ap, arith, by_cases, length, map, node_of, refl, sym, ◌≡◌, ◌⊎◌, ◌∙◌}
+use Rattle.determinize_below.proofs.Common.{None, Some, ap, arith, by_cases, length, map, node_of, refl, sym, ◌≡◌, ◌⊎◌}
+use Rattle.determinize_below.proofs.Common.{◌∙◌}
 use Rattle.std.proofs.Common.{inl, inr}
+use Rattle.std.proofs.lemmas.Result.{IfOk-from_err}
 use Rattle.determinize_below.specs.Nfa.{failure}
 use Rattle.determinize_below.specs.declared.nfa.BuildError.{BuildError}
 use Rattle.determinize_below.specs.declared.nfa.BuildError.TheVariants.{OutOfMemory}
 use Rattle.determinize_below.proofs.Exits.{if_err_and}
-use Rattle.determinize_below.proofs.nfas.Failures.{after_starts, too_many}
+use Rattle.determinize_below.proofs.nfas.Failures.{after_starts, no_start, too_many}
+use Rattle.determinize_below.proofs.nfa.NFA.from_parts.Goals.{then-as_usize-count-via-then-as_usize-count}
+use Rattle.determinize_below.proofs.nfa.NFA.from_parts.Goals.{then-as_usize-count-via-else-as_usize-count+then-as_usize-count-2}
 use Rattle.determinize_below.proofs.nfa.NFA.from_parts.Goals as goal
 
 pub returns-then-count-gt-ID_LIMIT-clause-err : goal.returns-then-count-gt-ID_LIMIT-clause-err
@@ -81,3 +85,18 @@ returns-in_err-check_states-clause-starts g c = λ few past. absurd (by_cases pa
       c.as_usize-else-as_usize-count.ensures.value,
       c.if-as_usize-count-2.false,
     )))
+
+pub returns-then-as_usize-count-clause-err : goal.returns-then-as_usize-count-clause-err
+returns-then-as_usize-count-clause-err g c =
+    let count : c.len-count.result ≡ length c.args.states.items = omega (arith, c.len-count.ensures) in
+    let error = no_start node_of c.args.states.items c.len-count.result c.args.start_anchored c.args.start_unanchored
+    count c.if-count-gt-ID_LIMIT.false in
+    elim c.then-as_usize-count.branch [
+      | then-as_usize-count-via-then-as_usize-count w ↦
+          inl (error (inl (omega (arith, w.if-as_usize-count.true, c.as_usize.ensures.value))))
+      | then-as_usize-count-via-else-as_usize-count+then-as_usize-count-2 w ↦ inl (error
+          (inr (omega (arith, w.if-as_usize-count-2.true, w.as_usize-else-as_usize-count.ensures.value))))
+    ]
+
+pub returns-in_err-check_states-clause-accepted : goal.returns-in_err-check_states-clause-accepted
+returns-in_err-check_states-clause-accepted g c = IfOk-from_err c.from_residual.result _ c.from_residual.ensures.0

@@ -11,7 +11,7 @@ returns g c =
     let there = slice_get-map_read node_of _ _ _ within c.index.ensures in
     let passed = each_passes _ c.self.invariant _ _ there in
     record {
-      state = cc there;
+      state = rw (← c.self.view_is, ← c.as_usize.ensures.value) there;
       ascends = passed.ascends;
       whole = passed.whole;
       accepted = rw c.self.view_is at c.self.invariant;

@@ -1,4 +1,5 @@
 use Rattle.determinize_below.proofs.Common.{below_more, ◌+◌, arith}
+use Rattle.determinize_below.proofs.nfas.Boundaries.{all_states}
 use Rattle.determinize_below.proofs.nfa.byte_classes.boundaries_of.Goals as goal
 
 pub loop-index-init : goal.loop-index-init
@@ -10,4 +11,11 @@ loop-index-preserved g c = record {
   targets = λ b low h. below_more _ _
       (c.loop-index.invariant.targets b low (c.mark_changes.ensures.was (b + 1) h))
       (rw c.must.ensures at (c.mark_changes.ensures.same b low h));
+}
+
+pub returns-clause-marks : goal.returns-clause-marks
+returns-clause-marks g c = λ b low h. record {
+  targets = all_states c.args.nfa.now b (b + 1) (λ s l. c.loop-index.invariant.targets b low h s
+      (omega (arith, l, c.loop-index-test.false, c.len-index-end.ensures.count)));
+  tests = c.loop-index.invariant.tests b low h;
 }
