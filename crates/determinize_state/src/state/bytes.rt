@@ -2,7 +2,7 @@
 //!
 //! The bytes of a `State` and those of a builder encode its value (`IsSpelled`), so the readers
 //! serve both.
-#![tactic(auto, using(crate::proofs::encoding::ReadBytes::reading))]
+#![tactic(auto)]
 
 ghost use Rattle.std.specs.Prelude.{◌≡◌, ◌+◌, ◌*◌, ◌++◌, ◌<◌, ◌≤◌, length, vec_len, false, OnOk, OnErr, IsOk};
 ghost use Rattle.determinize_below.specs.declared.primitives.TheConstants.{ID_LIMIT};
@@ -61,6 +61,7 @@ pub(crate) fn has_flag(bytes: &[u8], weight: u8) -> bool
 }
 
 /// Returns look-have.
+#[tactic(auto, using(crate::proofs::encoding::ReadBytes::reading))]
 pub(crate) fn look_have(bytes: &[u8]) -> LookSet
     requires { IsSpelled bytes.now }
     ensures { result ≡ (value_of bytes.now).look_have }
@@ -69,6 +70,7 @@ pub(crate) fn look_have(bytes: &[u8]) -> LookSet
 }
 
 /// Returns look-need.
+#[tactic(auto, using(crate::proofs::encoding::ReadBytes::reading))]
 pub(crate) fn look_need(bytes: &[u8]) -> LookSet
     requires { IsSpelled bytes.now }
     ensures { result ≡ (value_of bytes.now).look_need }
@@ -94,6 +96,7 @@ pub(crate) fn set_flag<A: Allocator>(bytes: &mut Vec<u8, A>, flag: u8)
 
 /// Adds a pattern to bytes without NFA states. `ZERO` as the first stays implicit until another
 /// pattern follows.
+#[tactic(auto, using(crate::proofs::encoding::ReadBytes::reading))]
 pub(crate) fn add_pattern<A: Allocator>(bytes: &mut Vec<u8, A>, id: u32) -> Result<(), AllocError>
     requires { IsSpelled bytes.old.items }
     ensures ok { OnOk result (bytes.new.items ≡ with_pattern_bytes bytes.old.items id) }
@@ -160,6 +163,7 @@ pub(crate) fn put_number<A: Allocator>(bytes: &mut Vec<u8, A>, at: usize, number
 
 /// Returns the patterns, four bytes each. If they are implicit and there is one, these are the
 /// bytes of `ZERO`.
+#[tactic(auto, using(crate::proofs::encoding::ReadBytes::reading))]
 pub(crate) fn pattern_words(bytes: &[u8]) -> &[u8]
     requires { IsSpelled bytes.now }
     ensures { result.now ≡ words (value_of bytes.now).patterns }
@@ -186,6 +190,7 @@ pub(crate) fn pattern_ids(bytes: &[u8]) -> PatternIds<'_>
 }
 
 /// Returns an iterator over the NFA states.
+#[tactic(auto, using(crate::proofs::encoding::ReadBytes::reading))]
 pub(crate) fn nfa_state_ids(bytes: &[u8]) -> NfaStateIds<'_>
     requires { IsSpelled bytes.now }
     ensures { result ≡ (value_of bytes.now).states }
