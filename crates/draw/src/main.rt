@@ -97,28 +97,25 @@ fn read_patterns(alloc: Global, args: Args) -> Result<Vec<Pattern>, Error> {
 }
 
 /// Prints the graph of an NFA.
-fn print_nfa(rt: &impl Print, nfa: &NFA) -> Result<(), Error> {
+fn print_nfa(rt: &impl Print, nfa: &NFA) -> io::Result<()> {
     let graph = NfaGraph::new(nfa);
-    print!(rt; "{graph}")?;
-    Ok(())
+    print!(rt; "{graph}")
 }
 
 /// Prints the graph of a DFA.
-fn print_dfa(rt: &impl Print, dfa: &Dfa<'_>) -> Result<(), Error> {
+fn print_dfa(rt: &impl Print, dfa: &Dfa<'_>) -> io::Result<()> {
     let graph = DfaGraph::new(dfa);
-    print!(rt; "{graph}")?;
-    Ok(())
+    print!(rt; "{graph}")
 }
 
 /// Prints the graph of the part of a DFA that unanchored searches enter.
-fn print_search(rt: &impl Print, alloc: Global, dfa: &Dfa<'_>) -> Result<(), Error> {
+fn print_search(rt: &impl Print, alloc: Global, dfa: &Dfa<'_>) -> io::Result<()> {
     let graph = SearchGraph::new(alloc, dfa, Anchored::No)?;
-    print!(rt; "{graph}")?;
-    Ok(())
+    print!(rt; "{graph}")
 }
 
 /// Returns the arguments, without the name of the program.
-fn args(rt: &HostRuntime) -> Result<Args, Error> {
+fn args(rt: &HostRuntime) -> io::Result<Args> {
     let mut args = env::args(rt)?;
     let _program = args.next();
     Ok(args)
@@ -131,7 +128,7 @@ fn smallest(alloc: Global, nfa: &NFA) -> Result<Dfa<'_>, Error> {
 }
 
 /// Prints each graph that the arguments name before the patterns.
-fn print_graphs(rt: &HostRuntime, nfa: &NFA, dfa: &Dfa<'_>) -> Result<(), Error> {
+fn print_graphs(rt: &HostRuntime, nfa: &NFA, dfa: &Dfa<'_>) -> io::Result<()> {
     for arg in args(rt)? {
         match Graph::from_name(arg.as_str()) {
             Some(graph) => print_graph(rt, graph, nfa, dfa)?,
@@ -142,7 +139,7 @@ fn print_graphs(rt: &HostRuntime, nfa: &NFA, dfa: &Dfa<'_>) -> Result<(), Error>
 }
 
 /// Prints a graph.
-fn print_graph(rt: &HostRuntime, graph: Graph, nfa: &NFA, dfa: &Dfa<'_>) -> Result<(), Error> {
+fn print_graph(rt: &HostRuntime, graph: Graph, nfa: &NFA, dfa: &Dfa<'_>) -> io::Result<()> {
     match graph {
         Graph::Nfa => print_nfa(rt, nfa),
         Graph::Dfa => print_dfa(rt, dfa),
@@ -154,7 +151,7 @@ fn print_graph(rt: &HostRuntime, graph: Graph, nfa: &NFA, dfa: &Dfa<'_>) -> Resu
 fn print_patterns(rt: &HostRuntime, patterns: &[Pattern]) -> Result<(), Error> {
     let nfa = compile(rt.alloc(), patterns, Config::new())?;
     let dfa = smallest(rt.alloc(), &nfa)?;
-    print_graphs(rt, &nfa, &dfa)
+    Ok(print_graphs(rt, &nfa, &dfa)?)
 }
 
 fn main(rt: HostRuntime) -> Result<(), Error> {

@@ -2,7 +2,7 @@
 
 use crate::options::UsageError;
 use determinize_regex::{CompileError, ParseError};
-use std::alloc::{AllocError, AllocFailed};
+use std::alloc::AllocError;
 use std::{fmt, io};
 
 /// An error that ends the program.
@@ -40,12 +40,6 @@ impl From<UsageError> for Error {
 
 impl From<AllocError> for Error {
     fn from(error: AllocError) -> Error {
-        Error::Io(io::Error::from(error))
-    }
-}
-
-impl<T: Drop> From<AllocFailed<T>> for Error {
-    fn from(error: AllocFailed<T>) -> Error {
         Error::Io(io::Error::from(error))
     }
 }

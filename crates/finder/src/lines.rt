@@ -1,6 +1,5 @@
 //! The lines of a text, and what is printed of them.
 
-use crate::error::Error;
 use crate::options::{Options, Shows};
 use determinize_regex::{Input, Match, Matcher};
 use std::alloc::Global;
@@ -42,7 +41,7 @@ impl<'a> Lines<'a> {
         name: &str,
         input: R,
         out: &mut W,
-    ) -> Result<u64, Error> {
+    ) -> io::Result<u64> {
         let mut reader = BufReader::new(self.alloc, input)?;
         let mut line = Vec::new(self.alloc);
         self.read_lines(name, &mut reader, &mut line, out)
@@ -55,7 +54,7 @@ impl<'a> Lines<'a> {
         reader: &mut BufReader<R>,
         line: &mut Vec<u8>,
         out: &mut W,
-    ) -> Result<u64, Error> {
+    ) -> io::Result<u64> {
         let mut place = Place::default();
         let mut count = 0u64;
         for _ in 0..u64::MAX {
@@ -83,7 +82,7 @@ impl<'a> Lines<'a> {
         line: &[u8],
         place: Place,
         out: &mut W,
-    ) -> Result<bool, Error> {
+    ) -> io::Result<bool> {
         let has_match = self.matcher.is_match(&Input::new(line))?;
         if has_match == self.options.inverts {
             return Ok(false);
@@ -103,21 +102,9 @@ impl<'a> Lines<'a> {
         line: &[u8],
         place: Place,
         out: &mut W,
-    ) -> Result<(), Error> {
-        let found = self.matcher.find_all(self.alloc, &Input::new(line))?;
-        Ok(self.print_each(name, line, place, found.as_slice(), out)?)
-    }
-
-    /// Prints each of these matches of a line, unless it is empty.
-    fn print_each<W: Write>(
-        &self,
-        name: &str,
-        line: &[u8],
-        place: Place,
-        found: &[Match],
-        out: &mut W,
     ) -> io::Result<()> {
-        for found in found {
+        let found = self.matcher.find_all(self.alloc, &Input::new(line))?;
+        for found in &found {
             let bytes = line.get(found.start..found.end).unwrap_or(&[]);
             if !bytes.is_empty() {
                 let offset = place.bytes.saturating_add(found.start as u64);

@@ -78,7 +78,7 @@ fn search_input<W: Write>(
     rt: &HostRuntime,
     lines: &mut Lines<'_>,
     out: &mut W,
-) -> Result<Outcome, Error> {
+) -> io::Result<Outcome> {
     let count = lines.read("(standard input)", rt.reader(), out)?;
     Ok(Outcome::of(count))
 }
@@ -90,21 +90,20 @@ fn search_file<W: Write>(
     lines: &mut Lines<'_>,
     name: &str,
     out: &mut W,
-) -> Result<Outcome, Error> {
+) -> io::Result<Outcome> {
     if name == "-" {
         return search_input(rt, lines, out);
     }
     let result = match fs::open(rt, name) {
         Ok(file) => lines.read(name, file, out),
-        Err(error) => Err(Error::Io(error)),
+        Err(error) => Err(error),
     };
     match result {
         Ok(count) => Ok(Outcome::of(count)),
-        Err(Error::Io(error)) => {
+        Err(error) => {
             let _ = writeln!(rt.stderr(), "finder: {name}: {error}");
             Ok(Outcome::FAILED)
         }
-        Err(error) => Err(error),
     }
 }
 
@@ -115,7 +114,7 @@ fn search_all<W: Write>(
     options: &Options,
     lines: &mut Lines<'_>,
     out: &mut W,
-) -> Result<Outcome, Error> {
+) -> io::Result<Outcome> {
     if options.files.is_empty() {
         return search_input(rt, lines, out);
     }
@@ -132,20 +131,10 @@ fn search_all<W: Write>(
 }
 
 /// Searches for the patterns, and returns the exit status.
-fn search(rt: &HostRuntime, options: &Options, regex: &Regex) -> Result<ExitCode, Error> {
+fn search(rt: &HostRuntime, options: &Options, regex: &Regex) -> io::Result<ExitCode> {
     let mut out = BufWriter::new(rt.alloc(), io::writer(rt))?;
     let mut lines = Lines::new(rt.alloc(), options, regex.matcher(rt.alloc(), LIMIT));
-    search_and_flush(rt, options, &mut lines, &mut out)
-}
-
-/// Searches all files, writes what is left of the output, and returns the exit status.
-fn search_and_flush<W: Write>(
-    rt: &HostRuntime,
-    options: &Options,
-    lines: &mut Lines<'_>,
-    out: &mut W,
-) -> Result<ExitCode, Error> {
-    let outcome = search_all(rt, options, lines, out)?;
+    let outcome = search_all(rt, options, &mut lines, &mut out)?;
     out.flush()?;
     Ok(outcome.status(options.shows))
 }
@@ -158,19 +147,14 @@ fn read_options(rt: &HostRuntime) -> Result<Options, Error> {
 }
 
 /// Prints the usage, or searches as the options say, and returns the exit status.
-fn run_with(rt: &HostRuntime, options: &Options) -> Result<ExitCode, Error> {
+fn run(rt: &HostRuntime) -> Result<ExitCode, Error> {
+    let options = read_options(rt)?;
     if options.helps {
         io::writer(rt).write_all(USAGE.as_bytes())?;
         return Ok(ExitCode::SUCCESS);
     }
     let regex = options.regex(rt.alloc())?;
-    search(rt, options, &regex)
-}
-
-/// Runs the program, and returns the exit status.
-fn run(rt: &HostRuntime) -> Result<ExitCode, Error> {
-    let options = read_options(rt)?;
-    run_with(rt, &options)
+    Ok(search(rt, &options, &regex)?)
 }
 
 fn main(rt: HostRuntime) -> ExitCode {

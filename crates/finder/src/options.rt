@@ -124,25 +124,14 @@ impl Options {
     /// Takes all arguments.
     fn take_all(&mut self, rt: &HostRuntime, args: Args) -> Result<(), UsageError> {
         let mut operands = Vec::new(rt.alloc());
-        let next = self.take_each(rt.alloc(), args, &mut operands)?;
+        let mut next = Next::Any;
+        for arg in args {
+            next = self.take(rt.alloc(), arg, next, &mut operands)?;
+        }
         if next == Next::Pattern {
             return Err(UsageError::MissingPattern);
         }
         self.take_operands(rt, operands)
-    }
-
-    /// Takes each argument, and returns what one after the last would be.
-    fn take_each(
-        &mut self,
-        alloc: Global,
-        args: Args,
-        operands: &mut Vec<String>,
-    ) -> Result<Next, UsageError> {
-        let mut next = Next::Any;
-        for arg in args {
-            next = self.take(alloc, arg, next, operands)?;
-        }
-        Ok(next)
     }
 
     /// Returns the patterns, compiled.
