@@ -1,6 +1,5 @@
 //! Pattern strings that are made here: random ones, and long ones of a megabyte.
 
-use crate::error::ReplayError;
 use crate::strings::{answer, answer_again};
 use determinize_syntax::parse;
 use std::alloc::{AllocError, Global};
@@ -93,7 +92,7 @@ fn draw(state: &mut u64, limit: u64) -> u64 {
 }
 
 /// Replaces a text by a random one of at most 40 characters.
-fn make_random(state: &mut u64, text: &mut String) -> Result<(), ReplayError> {
+fn make_random(state: &mut u64, text: &mut String) -> Result<(), AllocError> {
     text.clear();
     let count = CHARACTERS.chars().count() as u64;
     for _ in 0..draw(state, 41) {
@@ -107,13 +106,12 @@ fn make_random(state: &mut u64, text: &mut String) -> Result<(), ReplayError> {
 
 /// Parses random texts. If one is a pattern, then the text that `Display` writes of it must be read
 /// as the same pattern.
-fn parse_random(alloc: Global, counts: &mut Counts) -> Result<(), ReplayError> {
+fn parse_random(alloc: Global, text: &mut String, counts: &mut Counts) -> Result<(), AllocError> {
     let mut state = 1;
-    let mut text = String::new(alloc);
     for _ in 0..RANDOM {
-        make_random(&mut state, &mut text)?;
+        make_random(&mut state, text)?;
         counts.random = counts.random.saturating_add(1);
-        if !is_read_again(alloc, &text)? {
+        if !is_read_again(alloc, text.as_str())? {
             counts.differ = counts.differ.saturating_add(1);
         }
     }
@@ -121,22 +119,16 @@ fn parse_random(alloc: Global, counts: &mut Counts) -> Result<(), ReplayError> {
 }
 
 /// Returns whether the text that `Display` writes of the pattern of a text is read as the text is.
-fn is_read_again(alloc: Global, text: &str) -> Result<bool, ReplayError> {
+fn is_read_again(alloc: Global, text: &str) -> Result<bool, AllocError> {
     let read = answer(alloc, text)?;
     let again = answer_again(alloc, text)?;
     Ok(read == again)
 }
 
-/// Returns a long text.
-fn long_text(alloc: Global, first: &str, repeated: &str) -> Result<String, AllocError> {
-    let mut text = String::new(alloc);
+/// Replaces a text by one of a megabyte: `first`, and then `repeated` again and again.
+fn make_long(text: &mut String, first: &str, repeated: &str) -> Result<(), AllocError> {
+    text.clear();
     text.push_str(first)?;
-    add_repeated(&mut text, repeated)?;
-    Ok(text)
-}
-
-/// Adds a text again and again.
-fn add_repeated(text: &mut String, repeated: &str) -> Result<(), AllocError> {
     for _ in 0..LONG / repeated.len().max(1) {
         text.push_str(repeated)?;
     }
@@ -144,41 +136,43 @@ fn add_repeated(text: &mut String, repeated: &str) -> Result<(), AllocError> {
 }
 
 /// Parses a long text, and returns whether it is read as expected.
-fn is_read(alloc: Global, text: &str, expected: &str) -> Result<bool, ReplayError> {
-    match parse(alloc, text) {
-        Ok(_) => Ok(expected.is_empty()),
-        Err(_) => Ok(answer(alloc, text)?.as_str() == expected),
+fn is_read(alloc: Global, text: &str, expected: &str) -> Result<bool, AllocError> {
+    if expected.is_empty() {
+        return Ok(parse(alloc, text).is_ok());
     }
+    let read = answer(alloc, text)?;
+    Ok(read.as_str() == expected)
 }
 
-/// Returns brackets of characters that are all different, no two of them neighbours, of a megabyte.
-fn make_brackets(alloc: Global) -> Result<String, ReplayError> {
-    let mut text = String::new(alloc);
+/// Replaces a text by brackets of characters that are all different, no two of them neighbours, of
+/// a megabyte.
+fn make_brackets(text: &mut String) -> Result<(), AllocError> {
+    text.clear();
     text.push_str("(?u)[")?;
     for i in 0..LONG as u32 / 4 {
         if let Some(character) = char::from_u32(0x1_0000 + 2 * i) {
             text.push(character)?;
         }
     }
-    text.push_str("]")?;
-    Ok(text)
+    text.push(']')
 }
 
 /// Parses long texts.
-fn parse_long(alloc: Global, counts: &mut Counts) -> Result<(), ReplayError> {
+fn parse_long(alloc: Global, text: &mut String, counts: &mut Counts) -> Result<(), AllocError> {
     for (first, repeated, expected) in long_texts() {
-        let text = long_text(alloc, first, repeated)?;
-        counts.count_long(is_read(alloc, &text, expected)?);
+        make_long(text, first, repeated)?;
+        counts.count_long(is_read(alloc, text.as_str(), expected)?);
     }
-    let brackets = make_brackets(alloc)?;
-    counts.count_long(is_read(alloc, &brackets, "")?);
+    make_brackets(text)?;
+    counts.count_long(is_read(alloc, text.as_str(), "")?);
     Ok(())
 }
 
 /// Parses all texts that are made here, and returns the counts.
-pub fn parse_generated(alloc: Global) -> Result<Counts, ReplayError> {
+pub fn parse_generated(alloc: Global) -> Result<Counts, AllocError> {
     let mut counts = Counts::default();
-    parse_random(alloc, &mut counts)?;
-    parse_long(alloc, &mut counts)?;
+    let mut text = String::new(alloc);
+    parse_random(alloc, &mut text, &mut counts)?;
+    parse_long(alloc, &mut text, &mut counts)?;
     Ok(counts)
 }

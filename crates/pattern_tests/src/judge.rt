@@ -95,8 +95,10 @@ impl Judged {
         patterns: &[Pattern],
         printed: &[String],
     ) -> Result<(), AllocError> {
-        for (pattern, wanted) in patterns.iter().zip(printed.iter()) {
-            self.judge_text_of(alloc, pattern, wanted.as_str())?;
+        for i in 0..printed.len() {
+            if let Some(pattern) = patterns.get(i) {
+                self.judge_text_of(alloc, pattern, printed[i].as_str())?;
+            }
         }
         Ok(())
     }
@@ -109,18 +111,18 @@ impl Judged {
         wanted: &str,
     ) -> Result<(), AllocError> {
         let text = format!(in alloc; "{pattern} {pattern:?}")?;
-        if !is_twice(text.as_str(), wanted) {
-            writeln!(self.report, "{text}, and not {wanted}")?;
+        if is_twice(text.as_str(), wanted) {
+            return Ok(());
         }
-        Ok(())
+        writeln!(self.report, "{text}, and not {wanted}")
     }
 
     /// Reports that the patterns of a job with an expected error were compiled.
     fn judge_no_error(&mut self, head: &Head<'_>) -> Result<(), AllocError> {
-        if let Some(wanted) = head.error {
-            writeln!(self.report, "an NFA, and not the error {wanted}")?;
+        match head.error {
+            Some(wanted) => writeln!(self.report, "an NFA, and not the error {wanted}"),
+            None => Ok(()),
         }
-        Ok(())
     }
 
     /// Compares the error of `compile` with the expected one.
@@ -139,17 +141,18 @@ impl Judged {
     /// Compares the number of states with the one that is expected, and with the limit.
     fn judge_states(&mut self, head: &Head<'_>, states: usize) -> Result<(), AllocError> {
         let states = states.saturating_sub(PREFIX_STATES);
-        if let Some(wanted) = head.states {
-            if states != wanted {
+        match head.states {
+            Some(wanted) if states != wanted => {
                 writeln!(self.report, "{states} states, and not {wanted}")?;
             }
+            _ => {}
         }
-        if let Some(limit) = head.limit {
-            if states > limit {
-                writeln!(self.report, "{states} states, and the limit is {limit}")?;
+        match head.limit {
+            Some(limit) if states > limit => {
+                writeln!(self.report, "{states} states, and the limit is {limit}")
             }
+            _ => Ok(()),
         }
-        Ok(())
     }
 
     /// Finds all matches of each text, and compares them with the expected ones.
@@ -195,15 +198,12 @@ impl Judged {
         wanted: &str,
     ) -> Result<(), AllocError> {
         self.texts = self.texts.saturating_add(1);
-        for _ in found {
-            self.matches = self.matches.saturating_add(1);
-        }
+        self.matches = self.matches.saturating_add(found.len() as u64);
         let shown = shown(alloc, found)?;
-        if shown.as_str() != wanted {
-            let shown = shown.as_str();
-            writeln!(self.report, "{text}: {shown}, and not {wanted}")?;
+        if shown.as_str() == wanted {
+            return Ok(());
         }
-        Ok(())
+        writeln!(self.report, "{text}: {shown}, and not {wanted}")
     }
 }
 
@@ -237,12 +237,11 @@ fn write_matches(text: &mut String, found: &[Match]) -> Result<(), AllocError> {
     if found.is_empty() {
         return text.push('-');
     }
-    for (index, found) in found.iter().enumerate() {
-        if index > 0 {
-            text.push(',')?;
-        }
+    let mut comma = "";
+    for found in found {
         let (pattern, start, end) = (found.pattern.as_usize(), found.start, found.end);
-        write!(text, "{pattern}:{start}-{end}")?;
+        write!(text, "{comma}{pattern}:{start}-{end}")?;
+        comma = ",";
     }
     Ok(())
 }

@@ -35,16 +35,23 @@ fn push_all(alloc: Global, stack: &mut Vec<Pattern>, word: &str) -> Result<(), J
 fn pattern(alloc: Global, stack: &mut Vec<Pattern>, word: &str) -> Result<Pattern, JobError> {
     let (kind, value) = word.split_once(':').unwrap_or((word, ""));
     match kind {
-        "E" => Ok(Pattern::Empty),
-        "L" => Ok(Pattern::Literal(values::bytes(alloc, value)?)),
-        "C" => class(alloc, value),
-        "U" => chars(alloc, value),
-        "N" => none_of_chars(alloc, value),
-        "K" => Ok(Pattern::Look(values::look(value)?)),
         "G" => Ok(Pattern::Capture(part(alloc, stack)?)),
         "R" => repetition(alloc, stack, value),
         "S" => Ok(Pattern::Concat(parts(alloc, stack, value)?)),
         "A" => Ok(Pattern::Alternation(parts(alloc, stack, value)?)),
+        _ => leaf(alloc, kind, value),
+    }
+}
+
+/// Returns the pattern of a word that has no parts.
+fn leaf(alloc: Global, kind: &str, value: &str) -> Result<Pattern, JobError> {
+    match kind {
+        "E" => Ok(Pattern::Empty),
+        "L" => Ok(Pattern::Literal(values::bytes(alloc, value)?)),
+        "C" => class(alloc, value),
+        "U" => chars(alloc, value, false),
+        "N" => chars(alloc, value, true),
+        "K" => Ok(Pattern::Look(values::look(value)?)),
         _ => Err(JobError::Malformed("a word of a pattern")),
     }
 }
@@ -88,64 +95,56 @@ fn class(alloc: Global, value: &str) -> Result<Pattern, JobError> {
     Ok(Pattern::class(alloc, ranges.as_slice())?)
 }
 
+/// A range that a word is read as.
+trait Range: Copy {
+    /// Returns the range of a word such as `61-7a`.
+    fn read(word: &str) -> Result<Self, JobError>;
+}
+
 /// Adds ranges such as `30-39,61-7a`.
-fn add_ranges(ranges: &mut Vec<ClassBytesRange>, value: &str) -> Result<(), JobError> {
+fn add_ranges<T: Range>(ranges: &mut Vec<T>, value: &str) -> Result<(), JobError> {
     if !value.is_empty() {
         for word in value.split(',') {
-            ranges.push(range(word)?)?;
+            ranges.push(T::read(word)?)?;
         }
     }
     Ok(())
 }
 
-/// Returns the range of a word such as `61-7a`.
-fn range(word: &str) -> Result<ClassBytesRange, JobError> {
-    match word.split_once('-') {
-        Some((start, end)) => Ok(ClassBytesRange {
-            start: values::byte(start)?,
-            end: values::byte(end)?,
-        }),
-        None => Err(JobError::Malformed("a range of bytes")),
+impl Range for ClassBytesRange {
+    fn read(word: &str) -> Result<ClassBytesRange, JobError> {
+        match word.split_once('-') {
+            Some((start, end)) => Ok(ClassBytesRange {
+                start: values::byte(start)?,
+                end: values::byte(end)?,
+            }),
+            None => Err(JobError::Malformed("a range of bytes")),
+        }
     }
 }
 
-/// Returns the pattern of a character in ranges such as `e9-e9,20ac-20ac`.
-fn chars(alloc: Global, value: &str) -> Result<Pattern, JobError> {
-    let ranges = char_ranges(alloc, value)?;
-    Ok(Pattern::chars(alloc, ranges.as_slice())?)
-}
-
-/// Returns the pattern of a character in none of the ranges.
-fn none_of_chars(alloc: Global, value: &str) -> Result<Pattern, JobError> {
-    let ranges = char_ranges(alloc, value)?;
-    Ok(Pattern::none_of_chars(alloc, ranges.as_slice())?)
-}
-
-/// Returns the ranges of characters of words such as `e9-e9,20ac-20ac`.
-fn char_ranges(alloc: Global, value: &str) -> Result<Vec<ClassUnicodeRange>, JobError> {
+/// Returns the pattern of a character in ranges such as `e9-e9,20ac-20ac`, or in none of them if
+/// `negated` is set.
+fn chars(alloc: Global, value: &str, negated: bool) -> Result<Pattern, JobError> {
     let mut ranges = Vec::new(alloc);
-    add_char_ranges(&mut ranges, value)?;
-    Ok(ranges)
+    add_ranges(&mut ranges, value)?;
+    let pattern = if negated {
+        Pattern::none_of_chars(alloc, ranges.as_slice())
+    } else {
+        Pattern::chars(alloc, ranges.as_slice())
+    };
+    Ok(pattern?)
 }
 
-/// Adds ranges of characters.
-fn add_char_ranges(ranges: &mut Vec<ClassUnicodeRange>, value: &str) -> Result<(), JobError> {
-    if !value.is_empty() {
-        for word in value.split(',') {
-            ranges.push(char_range(word)?)?;
+impl Range for ClassUnicodeRange {
+    fn read(word: &str) -> Result<ClassUnicodeRange, JobError> {
+        match word.split_once('-') {
+            Some((start, end)) => Ok(ClassUnicodeRange {
+                start: character(start)?,
+                end: character(end)?,
+            }),
+            None => Err(JobError::Malformed("a range of characters")),
         }
-    }
-    Ok(())
-}
-
-/// Returns the range of a word such as `20ac-20ac`.
-fn char_range(word: &str) -> Result<ClassUnicodeRange, JobError> {
-    match word.split_once('-') {
-        Some((start, end)) => Ok(ClassUnicodeRange {
-            start: character(start)?,
-            end: character(end)?,
-        }),
-        None => Err(JobError::Malformed("a range of characters")),
     }
 }
 

@@ -112,7 +112,7 @@ fn report<W: Write>(
 }
 
 /// Returns what the text is read as.
-pub fn answer(alloc: Global, text: &str) -> Result<String, ReplayError> {
+pub fn answer(alloc: Global, text: &str) -> Result<String, AllocError> {
     let mut out = String::new(alloc);
     write_answer(alloc, text, &mut out)?;
     Ok(out)
@@ -130,23 +130,17 @@ fn write_answer(alloc: Global, text: &str, out: &mut String) -> Result<(), Alloc
 }
 
 /// Returns what the text is read as that the pattern of this text is written as.
-pub fn answer_again(alloc: Global, text: &str) -> Result<String, ReplayError> {
+pub fn answer_again(alloc: Global, text: &str) -> Result<String, AllocError> {
     let mut written = String::new(alloc);
-    if write_again(alloc, text, &mut written)? {
-        answer(alloc, written.as_str())
-    } else {
-        answer(alloc, text)
-    }
+    write_again(alloc, text, &mut written)?;
+    answer(alloc, written.as_str())
 }
 
-/// Writes the pattern of a text, and returns whether it is the text of one.
-fn write_again(alloc: Global, text: &str, written: &mut String) -> Result<bool, AllocError> {
+/// Writes the pattern of a text, or the text as it is if it is that of no pattern.
+fn write_again(alloc: Global, text: &str, written: &mut String) -> Result<(), AllocError> {
     match parse(alloc, text) {
-        Ok(pattern) => {
-            write!(written, "{pattern}")?;
-            Ok(true)
-        }
-        Err(_) => Ok(false),
+        Ok(pattern) => write!(written, "{pattern}"),
+        Err(_) => written.push_str(text),
     }
 }
 
@@ -159,8 +153,7 @@ fn write_tree(out: &mut String, pattern: &Pattern) -> Result<(), AllocError> {
         Pattern::Look(look) => write!(out, "{look:?}"),
         Pattern::Capture(sub) => {
             out.push_str("(cap ")?;
-            write_tree(out, sub)?;
-            out.push(')')
+            write_closed(out, sub)
         }
         Pattern::Repetition {
             min,
@@ -169,23 +162,10 @@ fn write_tree(out: &mut String, pattern: &Pattern) -> Result<(), AllocError> {
             sub,
         } => {
             write_operator(out, *min, *max, *greedy)?;
-            write_tree(out, sub)?;
-            out.push(')')
+            write_closed(out, sub)
         }
-        Pattern::Literal(bytes) => {
-            out.push_str("(cat")?;
-            write_bytes(out, bytes)?;
-            out.push(')')
-        }
-        Pattern::Concat(subs) => match count_parts(pattern) {
-            0 => out.push_str("empty"),
-            1 => write_all(out, subs, ""),
-            _ => {
-                out.push_str("(cat")?;
-                write_all(out, subs, " ")?;
-                out.push(')')
-            }
-        },
+        Pattern::Literal(bytes) => write_literal(out, bytes),
+        Pattern::Concat(subs) => write_concat(out, subs),
         Pattern::Alternation(subs) => {
             out.push_str("(alt")?;
             write_branches(out, subs)?;
@@ -194,36 +174,69 @@ fn write_tree(out: &mut String, pattern: &Pattern) -> Result<(), AllocError> {
     }
 }
 
-/// Writes the parts of the patterns, each after `space`.
+/// Writes the pattern in a group, and closes the group.
+#[cycle(tree)]
+fn write_closed(out: &mut String, sub: &Pattern) -> Result<(), AllocError> {
+    write_tree(out, sub)?;
+    out.push(')')
+}
+
+/// Writes a concatenation, flattened.
+#[cycle(tree)]
+fn write_concat(out: &mut String, subs: &[Pattern]) -> Result<(), AllocError> {
+    match count_all(subs) {
+        0 => out.push_str("empty"),
+        1 => write_all(out, subs, ""),
+        _ => {
+            out.push_str("(cat")?;
+            write_all(out, subs, " ")?;
+            out.push(')')
+        }
+    }
+}
+
+/// Writes the parts of a concatenation, each after `space`.
 #[cycle(tree)]
 fn write_all(out: &mut String, subs: &[Pattern], space: &str) -> Result<(), AllocError> {
     for i in 0..subs.len() {
-        match &subs[i] {
-            Pattern::Empty => {}
-            Pattern::Literal(bytes) => write_bytes(out, bytes)?,
-            Pattern::Concat(subs) => write_all(out, subs, space)?,
-            sub => {
-                out.push_str(space)?;
-                write_tree(out, sub)?;
-            }
-        }
+        write_part(out, &subs[i], space)?;
     }
     Ok(())
 }
 
-/// Writes the branches of the patterns.
+/// Writes a part, or its own parts if it is a concatenation, each after `space`.
+#[cycle(tree)]
+fn write_part(out: &mut String, sub: &Pattern, space: &str) -> Result<(), AllocError> {
+    match sub {
+        Pattern::Empty => Ok(()),
+        Pattern::Literal(bytes) => write_bytes(out, bytes),
+        Pattern::Concat(subs) => write_all(out, subs, space),
+        _ => {
+            out.push_str(space)?;
+            write_tree(out, sub)
+        }
+    }
+}
+
+/// Writes the branches of an alternation.
 #[cycle(tree)]
 fn write_branches(out: &mut String, subs: &[Pattern]) -> Result<(), AllocError> {
     for i in 0..subs.len() {
-        match &subs[i] {
-            Pattern::Alternation(subs) => write_branches(out, subs)?,
-            sub => {
-                out.push(' ')?;
-                write_tree(out, sub)?;
-            }
-        }
+        write_branch(out, &subs[i])?;
     }
     Ok(())
+}
+
+/// Writes a branch after a space, or its own branches if it is an alternation.
+#[cycle(tree)]
+fn write_branch(out: &mut String, sub: &Pattern) -> Result<(), AllocError> {
+    match sub {
+        Pattern::Alternation(subs) => write_branches(out, subs),
+        _ => {
+            out.push(' ')?;
+            write_tree(out, sub)
+        }
+    }
 }
 
 /// Returns the number of parts of the pattern once its concatenations are flattened, at most 2.
@@ -246,6 +259,13 @@ fn count_all(subs: &[Pattern]) -> usize {
     count
 }
 
+/// Writes a literal.
+fn write_literal(out: &mut String, bytes: &[u8]) -> Result<(), AllocError> {
+    out.push_str("(cat")?;
+    write_bytes(out, bytes)?;
+    out.push(')')
+}
+
 fn write_bytes(out: &mut String, bytes: &[u8]) -> Result<(), AllocError> {
     for byte in bytes {
         write!(out, " [{byte:02x}]")?;
@@ -259,10 +279,10 @@ fn write_operator(
     max: Option<u32>,
     greedy: bool,
 ) -> Result<(), AllocError> {
-    let name = if greedy { "greedy" } else { "lazy" };
+    out.push_str(if greedy { "(greedy " } else { "(lazy " })?;
     match max {
-        None => write!(out, "({name} {min} inf "),
-        Some(max) => write!(out, "({name} {min} {max} "),
+        None => write!(out, "{min} inf "),
+        Some(max) => write!(out, "{min} {max} "),
     }
 }
 
@@ -279,9 +299,9 @@ fn write_class(out: &mut String, class: &ClassBytes) -> Result<(), AllocError> {
 
 /// Writes a range of bytes, or its only byte, after `space`.
 fn write_range(out: &mut String, space: &str, start: u8, end: u8) -> Result<(), AllocError> {
+    write!(out, "{space}{start:02x}")?;
     if start == end {
-        write!(out, "{space}{start:02x}")
-    } else {
-        write!(out, "{space}{start:02x}-{end:02x}")
+        return Ok(());
     }
+    write!(out, "-{end:02x}")
 }
