@@ -41,7 +41,7 @@ pub fn expect_walk<R: Abort + AllocGlobal>(
 fn steps_by_class(rt: HostRuntime) {
     let nfa = dense::nfa(&rt, LETTERS, StateID::ZERO);
     let kind = MatchKind::LeftmostFirst;
-    for (limit, second, kept) in [(10, 4, 4), (2, 8, 2)] {
+    for &(limit, second, kept) in &[(10, 4, 4), (2, 8, 2)] {
         let mut lazy = Lazy::new_by_class(rt.alloc(), &nfa, kind, limit);
         expect_letters(&rt, &mut lazy, 4, kept);
         expect_letters(&rt, &mut lazy, second, kept);

@@ -208,18 +208,6 @@ fn last_patterns<R: Abort + AllocGlobal>(rt: &R, fields: &Fields<'_>) -> Vec<Pat
     patterns.unwrap_or(Vec::new(rt.alloc()))
 }
 
-/// Asserts the same of searches by a DFA and by the smallest one.
-fn expect_both<R: Abort + AllocGlobal>(
-    rt: &R,
-    dfa: &Dfa<'_>,
-    around: &Around<'_>,
-    last: &str,
-    patterns: &[PatternID],
-) {
-    expect_found(rt, dfa, around, last, patterns);
-    expect_found(rt, &least(rt, dfa), around, last, patterns);
-}
-
 /// Asserts that searches of the text of a walk by a DFA of at most 1000 states and by the smallest
 /// one have its last match, that the patterns where the text ends are those of its last state, and
 /// that searches through a cache by class have that match.
@@ -237,13 +225,9 @@ fn expect_walk<R: Abort + AllocGlobal>(
         look_ahead: fields.look_ahead().expect(rt, "a byte"),
     };
     let patterns = last_patterns(rt, fields);
-    expect_both(
-        rt,
-        &dfa(rt, nfa, kind, 1000),
-        &around,
-        last,
-        patterns.as_slice(),
-    );
+    let dfa = dfa(rt, nfa, kind, 1000);
+    expect_found(rt, &dfa, &around, last, &patterns);
+    expect_found(rt, &least(rt, &dfa), &around, last, &patterns);
     let mut lazy = Lazy::new_by_class(rt.alloc(), nfa, kind, 50);
     by_class::expect_walk(rt, &mut lazy, &around, last);
 }
@@ -350,20 +334,17 @@ fn dense_patterns(rt: HostRuntime) {
     }
 }
 
-/// Compares the size and the text of a DFA of five states, and the size of the smallest one.
-fn expect_size_and_text<R: Abort + AllocGlobal>(rt: &R, dfa: &Dfa<'_>) {
-    same(rt, dfa.memory_usage(), 5 * 36 + 4);
-    let wanted = "Dfa { match_kind: All, len: 5, alphabet_len: 3, .. }";
-    expect_debug(rt, dfa, wanted);
-    same(rt, least(rt, dfa).memory_usage(), 4 * 36 + 4);
-}
-
-/// The rows have three entries: for word bytes, for other bytes and for EOI. A row takes 12 bytes
-/// for these and 24 for its list. One row lists a pattern: that after a word.
+/// A DFA has five states, and the smallest one four. The rows have three entries: for word bytes,
+/// for other bytes and for EOI. A row takes 12 bytes for these and 24 for its list. One row lists a
+/// pattern: that after a word.
 #[test]
 fn dense_size_and_text(rt: HostRuntime) {
     let nfa = nfa(&rt, WORD, StateID::ZERO);
-    expect_size_and_text(&rt, &dfa(&rt, &nfa, MatchKind::All, 5));
+    let dfa = dfa(&rt, &nfa, MatchKind::All, 5);
+    same(&rt, dfa.memory_usage(), 5 * 36 + 4);
+    let wanted = "Dfa { match_kind: All, len: 5, alphabet_len: 3, .. }";
+    expect_debug(&rt, &dfa, wanted);
+    same(&rt, least(&rt, &dfa).memory_usage(), 4 * 36 + 4);
 }
 
 /// Minimizes a DFA, and asserts both numbers of states.

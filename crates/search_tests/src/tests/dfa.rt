@@ -76,26 +76,16 @@ fn expect_counts<R: Abort>(rt: &R, dfa: &Dfa<'_>)
     }
 }
 
-/// Searches for first matches.
-fn expect_first<R: Abort>(rt: &R, dfa: &Dfa<'_>) {
-    expect_ends(rt, dfa, true, &ANCHORED);
-    expect_ends(rt, dfa, false, &FIRST);
-}
-
-/// Searches for all matches.
-fn expect_all<R: Abort>(rt: &R, dfa: &Dfa<'_>)
-    requires { dfa.now.kind ≡ kinds.All }
-{
-    expect_ends(rt, dfa, true, &ANCHORED);
-    expect_ends(rt, dfa, false, &ALL);
-    expect_counts(rt, dfa);
-}
-
 #[test]
 fn smallest_dfas(rt: HostRuntime) {
     let nfa = nfa(&rt, FOO_OR_BAR, StateID::must(2));
     let first = smallest(rt.alloc(), &nfa, MatchKind::LeftmostFirst, 100);
-    expect_first(&rt, &first.expect(&rt, "few states"));
+    let first = first.expect(&rt, "few states");
+    expect_ends(&rt, &first, true, &ANCHORED);
+    expect_ends(&rt, &first, false, &FIRST);
     let all = smallest(rt.alloc(), &nfa, MatchKind::All, 100);
-    expect_all(&rt, &all.expect(&rt, "few states"));
+    let all = all.expect(&rt, "few states");
+    expect_ends(&rt, &all, true, &ANCHORED);
+    expect_ends(&rt, &all, false, &ALL);
+    expect_counts(&rt, &all);
 }

@@ -313,24 +313,6 @@ fn find_by_regex<R: Abort + AllocGlobal, A: Allocator + Copy>(
     }
 }
 
-/// Finds the matches of a row by an NFA and its reverse, through new caches of this limit.
-fn search_both<R: Abort + AllocGlobal, A: Allocator + Copy>(
-    rt: &R,
-    alloc: A,
-    nfa: &NFA,
-    backward: &NFA<A>,
-    row: &Row,
-    limit: usize,
-    search: &Search,
-) -> Result<(), AllocError>
-    requires forward { nfa.now.reverse ≡ false }
-    requires prefix { HasPrefix nfa.now }
-    requires reverse { IsReverseOf backward.now nfa.now }
-{
-    let mut regex = Regex::new(alloc, nfa, backward, limit);
-    find_by_regex(rt, alloc, &mut regex, row, search)
-}
-
 /// Finds the matches of a row by its NFA and the reverse, through new caches of this limit.
 pub fn search_regex<R: Abort + AllocGlobal, A: Allocator + Copy>(
     rt: &R,
@@ -341,7 +323,10 @@ pub fn search_regex<R: Abort + AllocGlobal, A: Allocator + Copy>(
 ) -> Result<(), BuildError> {
     let nfa = nfa(rt, row.states);
     match reversed(alloc, &nfa) {
-        Ok(backward) => build_error(search_both(rt, alloc, &nfa, &backward, row, limit, search)),
+        Ok(backward) => {
+            let mut regex = Regex::new(alloc, &nfa, &backward, limit);
+            build_error(find_by_regex(rt, alloc, &mut regex, row, search))
+        }
         Err(error) => Err(error),
     }
 }
@@ -384,7 +369,7 @@ fn expect_row<R: Abort + AllocGlobal>(rt: &R, row: &Row) {
 #[test]
 fn all_matches(rt: HostRuntime) {
     for row in &ROWS {
-        for limit in [0, 64] {
+        for &limit in &[0, 64] {
             for search in &PLAIN_SEARCHES {
                 fail_each_in_turn(&rt, &Trial::SearchPlain(row, limit, search));
             }

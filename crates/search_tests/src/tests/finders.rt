@@ -94,12 +94,14 @@ pub fn expect_input<R: Abort + AllocGlobal>(rt: &R, nfa: &NFA, backward: &NFA, i
     expect_by_two(rt, &ends, &starts, input, wanted.as_slice());
 }
 
-/// The matches of `a|b`, if its NFA has one start state: each begins where the one before ended.
+/// Texts, and their matches of `a|b` if its NFA has one start state.
+static ROWS: [(&[u8], &[Ends]); 2] = [(b"abcab", &[(0, 0, 1), (0, 1, 2)]), (b"cab", &[])];
+
+/// Each match begins where the one before ended.
 #[test]
 fn one_start(rt: HostRuntime) {
     let nfa = dense::nfa(&rt, "S:61>1,62>1 M:0", StateID::ZERO);
-    let rows: [(&[u8], &[Ends]); 2] = [(b"abcab", &[(0, 0, 1), (0, 1, 2)]), (b"cab", &[])];
-    for (text, wanted) in rows {
+    for &(text, wanted) in &ROWS {
         let lazy = Lazy::new(rt.alloc(), &nfa, MatchKind::LeftmostFirst, 50);
         let found = find_all(rt.alloc(), &mut Plain::new(&nfa, lazy), &Input::new(text));
         expect_found(&rt, found, wanted);
@@ -108,19 +110,16 @@ fn one_start(rt: HostRuntime) {
 
 /// Compares the memory of both caches of a `Regex` after a search with that of each, and once they
 /// are cleared.
-fn expect_caches<R: Abort>(rt: &R, regex: &mut OwnedRegex) {
-    let found = regex.find(&Input::new(b"abcd e"));
-    holds(rt, found.expect(rt, "memory").is_some());
-    let forward = regex.forward().memory_usage();
-    let backward = regex.backward().memory_usage();
-    holds(rt, forward > 0 && backward > 0);
-    same(rt, regex.memory_usage(), forward.saturating_add(backward));
-    regex.clear();
-    same(rt, regex.memory_usage(), 0);
-}
-
 #[test]
 fn memory_of_both_caches(rt: HostRuntime) {
     let made = OwnedRegex::from_nfa(rt.alloc(), nfa(&rt, WORDS), 100);
-    expect_caches(&rt, &mut made.expect(&rt, "a regex"));
+    let mut regex = made.expect(&rt, "a regex");
+    let found = regex.find(&Input::new(b"abcd e"));
+    holds(&rt, found.expect(&rt, "memory").is_some());
+    let forward = regex.forward().memory_usage();
+    let backward = regex.backward().memory_usage();
+    holds(&rt, forward > 0 && backward > 0);
+    same(&rt, regex.memory_usage(), forward.saturating_add(backward));
+    regex.clear();
+    same(&rt, regex.memory_usage(), 0);
 }

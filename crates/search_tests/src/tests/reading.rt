@@ -58,18 +58,14 @@ fn expect_small<R: Abort + AllocGlobal>(rt: &R, row: RowId) {
     expect_rows(rt, &least(rt, &dfa));
 }
 
-/// Compares the last row of a DFA of 17.
-fn expect_last<R: Abort + AllocGlobal>(rt: &R, row: RowId) {
-    same(rt, row.as_usize(), 16);
-    expect_text(rt, &row, "16");
-    expect_debug(rt, &row, "RowId(16)");
-    expect_small(rt, row);
-}
-
 #[test]
 fn rows(rt: HostRuntime) {
     let words = nfa(&rt, TOKENS, StateID::must(2));
     let large = dfa(&rt, &words, MatchKind::All, 100);
     expect_words(&rt, &large);
-    expect_last(&rt, large.rows().last().unwrap_or(RowId::DEAD));
+    let last = large.rows().last().unwrap_or(RowId::DEAD);
+    same(&rt, last.as_usize(), 16);
+    expect_text(&rt, &last, "16");
+    expect_debug(&rt, &last, "RowId(16)");
+    expect_small(&rt, last);
 }

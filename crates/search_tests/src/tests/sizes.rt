@@ -10,7 +10,7 @@ use crate::tests::uses::over;
 use crate::tests::{dense, ended, holds, same};
 use determinize_below::{Anchored, HalfMatch, Input, Look, MatchKind, NFA, StateID};
 use determinize_dense::Dfa;
-use determinize_find::{Builder, LazyRegex, Match, Pieces, Regex, plain};
+use determinize_find::{Builder, LazyRegex, Pieces, Regex, plain};
 use determinize_lazy::Lazy;
 use std::alloc::Global;
 use std::process::Abort;
@@ -85,20 +85,16 @@ fn expect_reversed<R: Abort + AllocGlobal>(rt: &R, nfa: &NFA) {
     expect_texts(rt, &twice, &RUNS);
 }
 
-/// Builds an NFA of these states without the usual prefix, and one with it.
-fn expect_built<R: Abort + AllocGlobal>(rt: &R, builder: &Builder<Global>, start: StateID) {
-    let nfa = builder.build(start, StateID::ZERO).expect(rt, "an NFA");
-    expect_texts(rt, &nfa, &TEXTS);
-    expect_reversed(rt, &nfa);
-    let prefixed = builder.build_with_prefix(start).expect(rt, "an NFA");
-    expect_texts(rt, &prefixed, &TEXTS);
-}
-
+/// Builds an NFA without the usual prefix, and one with it.
 #[test]
 fn three_patterns(rt: HostRuntime) {
     let mut builder = Builder::new(rt.alloc());
     let start = add_three(&rt, &mut builder);
-    expect_built(&rt, &builder, start);
+    let nfa = builder.build(start, StateID::ZERO).expect(&rt, "an NFA");
+    expect_texts(&rt, &nfa, &TEXTS);
+    expect_reversed(&rt, &nfa);
+    let prefixed = builder.build_with_prefix(start).expect(&rt, "an NFA");
+    expect_texts(&rt, &prefixed, &TEXTS);
 }
 
 /// `[01]*1[01]{9}`.
@@ -132,20 +128,6 @@ fn long_text<R: Abort + AllocGlobal>(rt: &R) -> Vec<u8> {
     text
 }
 
-/// Finds the words of a text in one piece, of which the last word is kept until the text ends.
-fn expect_pieces<R: Abort + AllocGlobal>(
-    rt: &R,
-    regex: &mut LazyRegex<'_>,
-    text: &[u8],
-    wanted: &[Match],
-) {
-    let (mut stream, mut found) = (Pieces::new(rt.alloc()), Vec::new(rt.alloc()));
-    put(rt, &mut stream, regex, text, &mut found);
-    holds(rt, stream.bytes_kept() >= 30_000);
-    end(rt, &stream, regex, &mut found);
-    expect_same(rt, Ok(found), wanted);
-}
-
 /// Finds 100 words by `plain`, and none in spaces.
 fn expect_plain<R: Abort + AllocGlobal>(rt: &R, lazy: &mut Lazy<'_>, text: &[u8])
     requires forward { lazy.old.nfa.reverse ≡ false }
@@ -168,21 +150,17 @@ fn expect_scans<R: Abort>(rt: &R, lazy: &mut Lazy<'_>, text: &[u8]) {
     same(rt, states.len(), text.len().saturating_add(2));
 }
 
-/// Searches the first 300 bytes of a long text by `plain`, scans it, and walks over it.
-fn expect_cache<R: Abort + AllocGlobal>(rt: &R, lazy: &mut Lazy<'_>, text: &[u8])
-    requires forward { lazy.old.nfa.reverse ≡ false }
-    requires kind { lazy.old.kind ≡ kinds.LeftmostFirst }
-{
-    expect_plain(rt, lazy, text.get(..300).unwrap_or(&[]));
-    expect_scans(rt, lazy, text);
-}
-
-/// Finds all words of a long text by an NFA and its reverse, whole and in one piece.
+/// Finds all words of a long text by an NFA and its reverse: whole, and in one piece, of which the
+/// last word is kept until the text ends.
 fn expect_regex<R: Abort + AllocGlobal>(rt: &R, regex: &mut LazyRegex<'_>, text: &[u8]) {
     let all = regex.find_all(rt.alloc(), &Input::new(text));
     let all = all.expect(rt, "memory");
     same(rt, all.len(), 20_001);
-    expect_pieces(rt, regex, text, all.as_slice());
+    let (mut stream, mut found) = (Pieces::new(rt.alloc()), Vec::new(rt.alloc()));
+    put(rt, &mut stream, regex, text, &mut found);
+    holds(rt, stream.bytes_kept() >= 30_000);
+    end(rt, &stream, regex, &mut found);
+    expect_same(rt, Ok(found), all.as_slice());
 }
 
 /// Searches long texts in each way.
@@ -197,5 +175,6 @@ fn long_texts(rt: HostRuntime) {
         &text,
     );
     let mut lazy = Lazy::new(rt.alloc(), &nfa, MatchKind::LeftmostFirst, 100);
-    expect_cache(&rt, &mut lazy, &text);
+    expect_plain(&rt, &mut lazy, text.get(..300).unwrap_or(&[]));
+    expect_scans(&rt, &mut lazy, &text);
 }

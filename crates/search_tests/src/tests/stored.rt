@@ -102,9 +102,9 @@ fn a_file_is_searched(rt: HostRuntime) {
 fn what_is_wrong_is_said(rt: HostRuntime) {
     for &(index, word, kind, offset) in &WRONG {
         let mut bytes = file(&rt);
-        let places = bytes.iter_mut().skip(index.saturating_mul(4));
-        for (place, byte) in places.zip(word.to_le_bytes()) {
-            *place = byte;
+        let (first, word) = (index.saturating_mul(4), word.to_le_bytes());
+        for (at, byte) in word.iter().enumerate() {
+            exchanged(&mut bytes, first.saturating_add(at), *byte);
         }
         expect_error(&rt, &bytes, kind, offset);
     }

@@ -156,27 +156,9 @@ fn leftmost<R: Abort + AllocGlobal>(
     found
 }
 
-/// Returns the leftmost match of a text and the one that begins with it, which is the leftmost one
-/// if there is one.
-fn expect_place<R: Abort + AllocGlobal>(
-    rt: &R,
-    lazy: &mut Lazy<'_>,
-    regex: &mut LazyRegex<'_>,
-    place: &Place,
-) -> Option<Match>
-    requires forward { lazy.old.nfa.reverse ≡ false }
-    requires kind { lazy.old.kind ≡ kinds.LeftmostFirst }
-{
-    let anywhere = leftmost(rt, lazy, regex, &place.input(rt, Anchored::No));
-    let first = leftmost(rt, lazy, regex, &place.input(rt, Anchored::Yes));
-    if first.is_some() {
-        same_match(rt, anywhere, first);
-    }
-    first
-}
-
-/// Returns the match of the text of a walk by [`expect_place`], through new caches. Asserts that
-/// each finder finds the same matches, anywhere and at the start of the text.
+/// Returns the match that begins with the text of a walk, through new caches. Asserts that it is
+/// the leftmost one if there is one, and that each finder finds the same matches, anywhere and at
+/// the start of the text.
 fn expect_finders<R: Abort + AllocGlobal>(
     rt: &R,
     nfa: &NFA,
@@ -187,11 +169,18 @@ fn expect_finders<R: Abort + AllocGlobal>(
     requires prefix { HasPrefix nfa.now }
     requires reverse { IsReverseOf backward.now nfa.now }
 {
-    expect_input(rt, nfa, backward, &place.input(rt, Anchored::No));
-    expect_input(rt, nfa, backward, &place.input(rt, Anchored::Yes));
+    let input = place.input(rt, Anchored::No);
+    let anchored = place.input(rt, Anchored::Yes);
+    expect_input(rt, nfa, backward, &input);
+    expect_input(rt, nfa, backward, &anchored);
     let mut lazy = Lazy::new(rt.alloc(), nfa, MatchKind::LeftmostFirst, 50);
     let mut regex = Regex::new(rt.alloc(), nfa, backward, 50);
-    expect_place(rt, &mut lazy, &mut regex, place)
+    let anywhere = leftmost(rt, &mut lazy, &mut regex, &input);
+    let first = leftmost(rt, &mut lazy, &mut regex, &anchored);
+    if first.is_some() {
+        same_match(rt, anywhere, first);
+    }
+    first
 }
 
 /// Returns the match of the text of a walk by [`expect_finders`], of its NFA with the usual prefix,

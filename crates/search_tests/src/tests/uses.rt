@@ -9,7 +9,6 @@ use determinize_below::{
     Anchored, BuildError, Input, Look, LookMatcher, MatchKind, NFA, SparseSet, StateID, Transition,
 };
 use determinize_core::start::Start;
-use determinize_core::state::State;
 use determinize_find::{Builder, reversed};
 use determinize_lazy::Lazy;
 use determinize_uses::{built, cache, input, lexer, nfa, scanner, search, values, walk};
@@ -63,17 +62,13 @@ fn small_values(rt: HostRuntime) {
 }
 
 /// Compares which states of a walk over `a12` are match states: the last two.
-fn expect_positions<R: Abort>(rt: &R, states: &[State]) {
+fn expect_walk<R: Abort>(rt: &R, lazy: &mut Lazy<'_>) {
+    let states = lazy.walk(lazy.nfa().start_unanchored(), None, b"a12");
+    let states = states.expect(rt, "memory");
     for (index, state) in states.iter().enumerate() {
         let patterns = state.match_pattern_ids().expect(rt, "memory");
         same(rt, patterns.is_some(), index > 2);
     }
-}
-
-/// Walks over the same text.
-fn expect_walk<R: Abort>(rt: &R, lazy: &mut Lazy<'_>) {
-    let states = lazy.walk(lazy.nfa().start_unanchored(), None, b"a12");
-    expect_positions(rt, states.expect(rt, "memory").as_slice());
 }
 
 /// A number in a text, by a search and by a walk, through a cache for each.
@@ -150,20 +145,13 @@ fn lines<A: Allocator + Copy>(alloc: A, has_prefix: bool) -> Result<NFA<A>, Buil
 /// Two texts, of which only the first has a line, and the ends of their matches.
 static LINES: [(&[u8], usize); 2] = [(b"b!;a", 2), (b"b!b", 0)];
 
-/// Searches these texts.
-fn search_lines<R: Abort, N: Allocator>(rt: &R, lazy: &mut Lazy<'_, N>) {
-    for &(text, end) in &LINES {
-        expect_search(rt, lazy, &Input::new(text), ended(end));
-    }
-}
-
-/// Compares the number of states of an NFA, and searches with it.
+/// Compares the number of states of an NFA, and searches these texts with it.
 fn expect_nfa<R: Abort + AllocGlobal, N: Allocator>(rt: &R, nfa: &NFA<N>, count: usize) {
     same(rt, (nfa.len(), nfa.pattern_len()), (count, 1));
-    search_lines(
-        rt,
-        &mut Lazy::new(rt.alloc(), nfa, MatchKind::LeftmostFirst, 50),
-    );
+    let mut lazy = Lazy::new(rt.alloc(), nfa, MatchKind::LeftmostFirst, 50);
+    for &(text, end) in &LINES {
+        expect_search(rt, &mut lazy, &Input::new(text), ended(end));
+    }
 }
 
 /// Builds an NFA of this number of states, and searches with it.
@@ -235,14 +223,6 @@ fn expect_walks<R: Abort + AllocGlobal>(rt: &R, nfa: &NFA) {
     same_end(rt, found, None);
 }
 
-/// Compares all numbers of a text.
-fn expect_all<R: Abort + AllocGlobal>(rt: &R, nfa: &NFA)
-    requires { nfa.now.reverse ≡ false }
-{
-    let found = scanner::matches(rt.alloc(), nfa, b"ab 42 c7");
-    expect_found(rt, found, &[(0, 3, 5), (0, 7, 8)]);
-}
-
 /// Searches texts through one cache of this limit.
 fn expect_searches<R: Abort + AllocGlobal>(rt: &R, nfa: &NFA, limit: usize) {
     let texts: [&[u8]; 4] = [b"42 c", b"ab", b"7", b""];
@@ -256,10 +236,11 @@ fn numbers(rt: HostRuntime) {
     let nfa = nfa::digits(rt.alloc()).expect(&rt, "memory");
     expect_closures(&rt, &nfa);
     expect_walks(&rt, &nfa);
-    for limit in [0, 2, 100] {
+    for &limit in &[0, 2, 100] {
         expect_searches(&rt, &nfa, limit);
     }
-    expect_all(&rt, &nfa);
+    let found = scanner::matches(rt.alloc(), &nfa, b"ab 42 c7");
+    expect_found(&rt, found, &[(0, 3, 5), (0, 7, 8)]);
 }
 
 /// Asserts whether a match ends at the end of the text, by a walk through the cache.
