@@ -17,7 +17,7 @@ mod values;
 mod without;
 
 use crate::tests::alloc_failure::trial::{OfWalk, Trial};
-use crate::tests::caches::start_of;
+use crate::tests::caches::{start_of, states_through};
 use crate::tests::{holds, nfa_of, same};
 use determinize_below::{Anchored, HalfMatch, Input, MatchKind, NFA};
 use determinize_core::determinize::{last_match, walk, walk_between};
@@ -154,11 +154,8 @@ impl Row {
         &self,
         lazy: &mut Lazy<'_, Global, A>,
     ) -> Result<Vec<State<A>, A>, AllocError> {
-        let (start, behind, text) = (start_of(lazy), self.look_behind, self.text.as_slice());
-        match self.look_ahead {
-            None => lazy.walk(start, behind, text),
-            ahead => lazy.walk_between(start, behind, text, ahead),
-        }
+        let (behind, text) = (self.look_behind, self.text.as_slice());
+        states_through(lazy, behind, text, self.look_ahead)
     }
 
     /// Returns the states of the walk.

@@ -19,6 +19,10 @@ fn texts_of_ids_and_units(rt: HostRuntime) {
     same(&rt, joined(&rt, "", pattern, "").as_str(), "2147483646");
     let units = (Unit::u8(b'a'), Unit::from(None));
     expect_text(&rt, &((state, pattern), units), VALUES);
+}
+
+#[test]
+fn texts_of_numbers_that_are_no_ids(rt: HostRuntime) {
     let state = StateID::new(2_147_483_647);
     let pattern = PatternID::new(3_000_000_000);
     expect_text(&rt, &(state, pattern), ERRORS);

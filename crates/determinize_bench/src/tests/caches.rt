@@ -9,7 +9,7 @@ use determinize_core::determinize::{last_match, walk_between};
 use determinize_core::state::State;
 use determinize_lazy::Lazy;
 use example_walks::fields::Fields;
-use std::alloc::{Allocator, Global};
+use std::alloc::{AllocError, Allocator, Global};
 use std::process::Abort;
 
 /// `\b\w+\b` of ASCII words.
@@ -44,6 +44,20 @@ fn cache<'n, R: Abort + AllocGlobal>(
     lazy
 }
 
+/// Returns the states of a walk through a cache.
+pub fn states_through<A: Allocator + Copy>(
+    lazy: &mut Lazy<'_, Global, A>,
+    behind: Option<u8>,
+    text: &[u8],
+    ahead: Option<u8>,
+) -> Result<Vec<State<A>, A>, AllocError> {
+    let start = start_of(lazy);
+    match ahead {
+        None => lazy.walk(start, behind, text),
+        ahead => lazy.walk_between(start, behind, text, ahead),
+    }
+}
+
 /// Returns the states of a walk through the cache, which are those of a walk without it.
 fn walk_through<R: Abort + AllocGlobal>(
     rt: &R,
@@ -52,13 +66,8 @@ fn walk_through<R: Abort + AllocGlobal>(
     text: &[u8],
     ahead: Option<u8>,
 ) -> Vec<State> {
-    let start = start_of(lazy);
-    let states = match ahead {
-        None => lazy.walk(start, behind, text),
-        ahead => lazy.walk_between(start, behind, text, ahead),
-    };
-    let states = states.expect(rt, "memory");
-    let (nfa, kind) = (lazy.nfa(), lazy.match_kind());
+    let states = states_through(lazy, behind, text, ahead).expect(rt, "memory");
+    let (nfa, kind, start) = (lazy.nfa(), lazy.match_kind(), start_of(lazy));
     let wanted = walk_between(rt.alloc(), nfa, kind, start, behind, text, ahead);
     holds(rt, wanted.expect(rt, "memory") == states);
     states
@@ -135,15 +144,11 @@ fn expect_letters<R: Abort>(rt: &R, lazy: &mut Lazy<'_>) {
 enum Call<'t> {
     /// Walks over a text between these bytes, where the last match ends at this offset.
     Walk(Option<u8>, &'t [u8], Option<u8>, Option<usize>),
-    /// Walks over a text, where the second state has these bytes.
-    Second(&'t [u8], &'t [u8]),
     /// Searches a text, where the match ends at this offset.
     SearchText(&'t [u8], Option<usize>),
     /// Searches the range of a haystack from the first offset to the second one, where the match
     /// ends at the last one.
     Search(&'t [u8], usize, usize, Option<usize>),
-    /// Makes the calls of [`expect_letters`].
-    Letters,
     /// Compares the numbers of computed transitions and of cached states.
     Counts(u64, usize),
     /// Clears the cache.
@@ -157,12 +162,10 @@ fn make_calls<R: Abort + AllocGlobal>(rt: &R, lazy: &mut Lazy<'_>, calls: &[Call
     for call in calls {
         match *call {
             Call::Walk(behind, text, ahead, end) => walk(rt, lazy, behind, text, ahead, end),
-            Call::Second(text, bytes) => second(rt, lazy, text, bytes),
             Call::SearchText(text, end) => search_text(rt, lazy, text, end),
             Call::Search(haystack, start, end, wanted) => {
                 search(rt, lazy, &input_of(rt, haystack, start, end), wanted)
             }
-            Call::Letters => expect_letters(rt, lazy),
             Call::Counts(computed, kept) => counts(rt, lazy, computed, kept),
             Call::Clear => lazy.clear(),
             Call::Text(wanted) => texts::expect_text(rt, lazy, wanted),
@@ -204,12 +207,17 @@ fn what_is_kept(rt: HostRuntime) {
     make(&rt, WORDS, false, first, 16, &all);
     let cleared = [WALK, Call::Clear, WALK, Call::Counts(14, 3)];
     make(&rt, WORDS, false, first, 16, &cleared);
+    let rest = [REST, Call::Counts(6, 3), INSIDE, Call::Counts(12, 5)];
+    make(&rt, WORDS, false, first, 16, &rest);
+}
+
+#[test]
+fn what_small_caches_keep(rt: HostRuntime) {
+    let first = MatchKind::LeftmostFirst;
     let two = [WALK, Call::Counts(7, 2), WALK, Call::Counts(14, 2)];
     make(&rt, WORDS, false, first, 2, &two);
     let none = [WALK, Call::Counts(7, 0), WALK, Call::Counts(14, 0)];
     make(&rt, WORDS, false, first, 0, &none);
-    let rest = [REST, Call::Counts(6, 3), INSIDE, Call::Counts(12, 5)];
-    make(&rt, WORDS, false, first, 16, &rest);
     let inside = [INSIDE, Call::Counts(6, 1), INSIDE, Call::Counts(12, 1)];
     make(&rt, WORDS, false, first, 1, &inside);
 }
@@ -228,12 +236,11 @@ fn bytes_ahead(rt: HostRuntime) {
 /// `\b` of Unicode words, unanchored: an empty text, and one with a byte that is no word byte.
 #[test]
 fn the_end_is_no_byte(rt: HostRuntime) {
-    let states = "BU:2,1 B:00-ff>0 L:WordUnicode>3 M:0";
-    let calls = [
-        Call::Second(b"", &[0; 9]),
-        Call::Second(b"\0", b"\0\0\x40\x01\0\0\x01\0\0\0\x04\x01"),
-    ];
-    make(&rt, states, false, MatchKind::All, 16, &calls);
+    let nfa = nfa(&rt, "BU:2,1 B:00-ff>0 L:WordUnicode>3 M:0", false);
+    let mut lazy = cache(&rt, &nfa, MatchKind::All, 16);
+    second(&rt, &mut lazy, b"", &[0; 9]);
+    let wanted = b"\0\0\x40\x01\0\0\x01\0\0\0\x04\x01";
+    second(&rt, &mut lazy, b"\0", wanted);
 }
 
 /// A word between other bytes.
@@ -270,8 +277,8 @@ fn nothing_to_search(rt: HostRuntime) {
 /// Letters after a byte ff, by searches in reverse from the end of a range.
 #[test]
 fn ranges_backward(rt: HostRuntime) {
-    let states = "BU:1,2 B:61>0 B:ff>3 M:0";
-    make(&rt, states, true, MatchKind::All, 16, &[Call::Letters]);
+    let nfa = nfa(&rt, "BU:1,2 B:61>0 B:ff>3 M:0", true);
+    expect_letters(&rt, &mut cache(&rt, &nfa, MatchKind::All, 16));
 }
 
 /// Returns a word of `len` bytes.
@@ -316,13 +323,24 @@ fn long_text_under_both_kinds(rt: HostRuntime) {
 /// and the index of the key.
 const STATE: usize = 258 * 4 + 32 + 32 + 8;
 
+/// Returns the index of the first of these states that is equal to this one, or their number if
+/// none is.
+fn index_of(states: &[State], state: &State) -> usize {
+    for (index, other) in states.iter().enumerate() {
+        if other == state {
+            return index;
+        }
+    }
+    states.len()
+}
+
 /// Returns the heap bytes of the states of a walk in a cache that has them all: those of a state of
 /// more than 30 bytes, once in the list and once as a key.
 fn heap_bytes(states: &[State]) -> usize {
     let mut bytes = 0usize;
     for (index, state) in states.iter().enumerate() {
         let len = state.as_bytes().len();
-        if len > 30 && !states.iter().take(index).any(|other| other == state) {
+        if len > 30 && index_of(states, state) == index {
             bytes = bytes.saturating_add(len.saturating_mul(2));
         }
     }
@@ -338,7 +356,7 @@ fn expect_taken<R: Abort>(rt: &R, lazy: &mut Lazy<'_>, states: &[State]) {
     let left = lazy.memory_usage();
     let taken = cached.saturating_add(heap_bytes(states));
     same(rt, used, left.saturating_add(taken));
-    holds(rt, left > 0 && left < 600);
+    same(rt, (left > 0, left < 600), (true, true));
 }
 
 /// Walks over a text through a new cache, and compares the numbers of transitions computed and of

@@ -59,6 +59,17 @@ fn expect_sizes<R: Abort + AllocGlobal>(rt: &R, states: &[State], wanted: &[Size
     }
 }
 
+/// Returns the states of a walk over a text.
+fn states_of<R: Abort + AllocGlobal>(
+    rt: &R,
+    kind: MatchKind,
+    nfa: &NFA,
+    text: &[u8],
+) -> Vec<State> {
+    let states = walk(rt.alloc(), nfa, kind, nfa.start_anchored(), None, text);
+    states.expect(rt, "memory")
+}
+
 /// Walks over `ab`, and compares the numbers of patterns and NFA states of each state, and the last
 /// match.
 fn expect<R: Abort + AllocGlobal>(
@@ -68,8 +79,7 @@ fn expect<R: Abort + AllocGlobal>(
     wanted: [Sizes; 4],
     last: Option<HalfMatch>,
 ) {
-    let states = walk(rt.alloc(), nfa, kind, nfa.start_anchored(), None, b"ab");
-    let states = states.expect(rt, "memory");
+    let states = states_of(rt, kind, nfa, b"ab");
     expect_sizes(rt, states.as_slice(), &wanted);
     same(rt, last_match(states.as_slice()), last);
 }
@@ -116,15 +126,19 @@ fn wide_union_of_itself(rt: HostRuntime) {
     expect(&rt, MatchKind::All, &nfa, wanted, None);
 }
 
-/// The NFA has a match of each of many patterns, from 0 on, and then a union of the matches, where
-/// it starts.
+/// Returns an NFA with a match of each of many patterns, from 0 on, and then a union of the
+/// matches, where it starts.
+fn nfa_of_many_patterns<R: Abort + AllocGlobal>(rt: &R) -> NFA {
+    let mut states = String::new(rt.alloc());
+    write_numbers(rt, &mut states, "M:", 0, PATTERNS, " ");
+    states.push_str("U:0").expect(rt, "memory");
+    write_numbers(rt, &mut states, ",", 1, PATTERNS, "");
+    nfa(rt, states.as_str(), "start=50000")
+}
+
 #[test]
 fn many_patterns_at_once(rt: HostRuntime) {
-    let mut states = String::new(rt.alloc());
-    write_numbers(&rt, &mut states, "M:", 0, PATTERNS, " ");
-    states.push_str("U:0").expect(&rt, "memory");
-    write_numbers(&rt, &mut states, ",", 1, PATTERNS, "");
-    let nfa = nfa(&rt, states.as_str(), "start=50000");
+    let nfa = nfa_of_many_patterns(&rt);
     for (kind, count) in [(MatchKind::All, PATTERNS), (MatchKind::LeftmostFirst, 1)] {
         let wanted = [(0, PATTERNS + 1), (count, 0), (0, 0), (0, 0)];
         expect(&rt, kind, &nfa, wanted, ended(Some(0)));
@@ -161,7 +175,5 @@ fn expect_great<R: Abort + AllocGlobal>(rt: &R, states: &[State]) {
 fn great_ids(rt: HostRuntime) {
     let states = repeated(&rt, "", "F ", DEAD_ENDS, GREAT);
     let nfa = nfa(&rt, states.as_str(), "start=300003");
-    let kind = MatchKind::All;
-    let states = walk(rt.alloc(), &nfa, kind, nfa.start_anchored(), None, b"");
-    expect_great(&rt, states.expect(&rt, "memory").as_slice());
+    expect_great(&rt, states_of(&rt, MatchKind::All, &nfa, b"").as_slice());
 }

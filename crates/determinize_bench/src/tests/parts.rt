@@ -2,6 +2,7 @@
 
 use crate::tests::texts::text_of;
 use crate::tests::{same, same_at};
+use determinize_below::nfa::State;
 use determinize_below::{Look, LookMatcher, LookSet, NFA, StateID};
 use example_walks::states;
 use std::process::Abort;
@@ -15,7 +16,11 @@ fn expect_readers<R: Abort + AllocGlobal>(rt: &R, nfa: &NFA, start: StateID) {
     let wanted = LookSet::empty().insert(Look::End).insert(Look::WordAscii);
     let found = (nfa.start_anchored(), first, any);
     same(rt, found, (start, StateID::ZERO, wanted));
-    let state = nfa.state(first);
+    expect_assertion(rt, nfa.state(first));
+}
+
+/// Compares whether a state that is an assertion is an epsilon state, and its text.
+fn expect_assertion<R: Abort + AllocGlobal>(rt: &R, state: &State) {
     let text = text_of(rt, state);
     let found = (state.is_epsilon(), text.contains("WordAscii"));
     same_at(rt, text.as_str(), found, (true, true));

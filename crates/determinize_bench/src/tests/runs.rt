@@ -331,11 +331,15 @@ const NO_JOB: &str = "none\n> dead\n|\n> dead\n|dead\n|>dead\n";
 const OTHER_ARGUMENTS: &str = "stdin|--help|\n|cache|cache\nx|cache\n1\n2|search|find\n1";
 
 #[test]
-fn inputs_that_are_rejected(rt: HostRuntime) {
+fn inputs_without_a_job(rt: HostRuntime) {
     for input in NO_JOB.split('|') {
         let said = "line 1: an answer without a job\n";
         expect(&rt, "", input.as_bytes(), 2, "", said);
     }
+}
+
+#[test]
+fn arguments_that_are_rejected(rt: HostRuntime) {
     for arguments in OTHER_ARGUMENTS.split('|') {
         expect(&rt, arguments, DEAD.as_bytes(), 2, "", NOT_TAKEN);
     }

@@ -23,19 +23,20 @@ const TABLES: &str = "\
 (LookBehind { looks: LookSet { bits: 0 }, from_word: true, half_crlf: false }, \
 LookTables { reverse: false, terminator: 10, any: LookSet { bits: 68 } })";
 
+/// Returns whether a line starts after a line feed.
+fn starts_line(tables: &LookTables) -> bool {
+    let at_start = tables.at_start(start_kind_of(b'\n', Some(b'\n')));
+    at_start.looks.contains(Look::StartLF)
+}
+
 /// Compares the look-behind at the start of a line and after a word byte, the assertions that EOI
 /// satisfies, and two debug texts.
 #[test]
 fn tables_of_assertions(rt: HostRuntime) {
     let tables = LookTables::of(&caches::nfa(&rt, ASSERTIONS, false));
-    let at_start = tables.at_start(start_kind_of(b'\n', Some(b'\n')));
-    let starts_line = at_start.looks.contains(Look::StartLF);
     let after = tables.after(Unit::u8(b'a'));
     let opened = tables.opened(after.from_word, after.half_crlf, Unit::eoi(256));
-    same(
-        &rt,
-        (starts_line, opened.contains(Look::WordAscii)),
-        (true, true),
-    );
+    let found = (starts_line(&tables), opened.contains(Look::WordAscii));
+    same(&rt, found, (true, true));
     expect_text(&rt, &(after, tables), TABLES);
 }

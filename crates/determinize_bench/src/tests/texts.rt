@@ -4,7 +4,7 @@ use crate::tests::caches::nfa;
 use crate::tests::states::{built, with_patterns, with_start};
 use crate::tests::{joined, parts_of, same};
 use determinize_below::StateID;
-use determinize_core::state::StateBuilderEmpty;
+use determinize_core::state::{StateBuilderEmpty, StateBuilderMatches};
 use std::fmt::Debug;
 use std::process::Abort;
 
@@ -29,11 +29,17 @@ look_have: LookSet { bits: 0 }, look_need: LookSet { bits: 0 }, \
 match_pattern_ids: [], nfa_state_ids: [] }, \
 StateBuilderEmpty { .. })";
 
+/// Returns a builder with the flag from-word, patterns and look-have.
+fn entered<R: Abort + AllocGlobal>(rt: &R) -> StateBuilderMatches {
+    let mut builder = with_patterns(rt, "1,0");
+    builder.set_is_from_word();
+    builder.set_look_have(with_start);
+    builder
+}
+
 #[test]
 fn texts_of_builders(rt: HostRuntime) {
-    let mut entered = with_patterns(&rt, "1,0");
-    entered.set_is_from_word();
-    entered.set_look_have(with_start);
+    let entered = entered(&rt);
     let mut half = with_patterns(&rt, "-");
     half.set_is_half_crlf();
     let empty = StateBuilderEmpty::new(rt.alloc());

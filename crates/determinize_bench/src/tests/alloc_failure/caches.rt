@@ -74,12 +74,11 @@ fn scan_text<R: Abort, A: Allocator + Copy>(
 ) -> bool {
     let mut is_sound = true;
     for piece in row.text.as_slice().chunks(2) {
-        if lazy.feed(scan, piece).is_err() {
-            if lazy.feed(scan, piece).is_err() {
-                return false;
-            }
-            is_sound = false;
+        let is_fed = lazy.feed(scan, piece).is_ok();
+        if !is_fed && lazy.feed(scan, piece).is_err() {
+            return false;
         }
+        is_sound &= is_fed;
     }
     is_same(rt, lazy.finish(scan, row.look_ahead), row.last) && is_sound
 }
@@ -101,14 +100,13 @@ fn step_each<R: Abort, A: Allocator + Copy>(
     row: &Row,
 ) -> bool {
     let mut is_sound = true;
-    for (index, bytes) in row.states.iter().enumerate() {
-        same(rt, walker.state().as_bytes(), bytes.as_slice());
-        if lazy.next(walker, row.unit(index)).is_err() {
-            if lazy.next(walker, row.unit(index)).is_err() {
-                return false;
-            }
-            is_sound = false;
+    for index in 0..row.states.len() {
+        same(rt, walker.state().as_bytes(), row.bytes(index));
+        let is_stepped = lazy.next(walker, row.unit(index)).is_ok();
+        if !is_stepped && lazy.next(walker, row.unit(index)).is_err() {
+            return false;
         }
+        is_sound &= is_stepped;
     }
     is_sound
 }
@@ -143,13 +141,17 @@ fn walks_and_searches(rt: HostRuntime) {
 /// The number of times that each of two long walks goes through its three states.
 const ROUNDS: usize = 1_000;
 
+/// Walks over a text through a cache.
+fn walk_over<R: Abort, A: Allocator + Copy>(rt: &R, lazy: &mut Lazy<'_, Global, A>, text: &[u8]) {
+    let states = lazy.walk(start_of(lazy), None, text).expect(rt, "memory");
+    same(rt, states.len(), text.len().saturating_add(2));
+}
+
 /// Walks over a text twice through a cache of two states.
 fn walk_twice<R: Abort, A: Allocator + Copy>(rt: &R, alloc: A, nfa: &NFA, text: &[u8]) {
     let mut lazy = Lazy::new(alloc, nfa, MatchKind::All, 2);
-    for _ in 0..2u8 {
-        let states = lazy.walk(start_of(&lazy), None, text).expect(rt, "memory");
-        same(rt, states.len(), text.len().saturating_add(2));
-    }
+    walk_over(rt, &mut lazy, text);
+    walk_over(rt, &mut lazy, text);
     holds(rt, lazy.computed() >= 6_000);
 }
 

@@ -8,7 +8,7 @@ use crate::tests::alloc_failure::trial::{OfWalk, Trial};
 use crate::tests::alloc_failure::{Row, fail_each_in_turn, fail_each_over_walks};
 use crate::tests::runs::words;
 use crate::tests::states::with_start;
-use crate::tests::{holds, parts_of, same};
+use crate::tests::{parts_of, same};
 use determinize_below::{LookSet, NFA, SparseSet, SparseSets, StateID, Unit};
 use determinize_core::determinize::{
     Steps, add_nfa_states, epsilon_closure, next, next_counted, set_lookbehind_from_start,
@@ -87,7 +87,7 @@ pub fn close<R: Abort, A: Allocator + Copy>(
 ) -> Result<(), TextError> {
     match closed(alloc, &closing.nfa, closing.have, closing.held.as_slice()) {
         Ok(set) => {
-            holds(rt, set.iter().eq(wanted.iter().copied()));
+            same(rt, set.as_slice(), wanted);
             Ok(())
         }
         Err(error) => Err(error),
@@ -125,23 +125,23 @@ fn begun<A: Allocator + Copy>(alloc: A, row: &Row) -> Result<StateBuilderNFA<A>,
     Ok(matches.into_nfa())
 }
 
-/// Records the first closure of a walk in a builder with the look-behind of its start.
-fn record_in<R: Abort, A: Allocator + Copy>(
-    rt: &R,
+/// Adds the states of the first closure of a walk to a builder with the look-behind of its start.
+fn add_closure<A: Allocator + Copy>(
     alloc: A,
     row: &Row,
     builder: &mut StateBuilderNFA<A>,
 ) -> Result<(), TextError> {
     let set = closed(alloc, &row.nfa, builder.look_have(), &[])?;
     add_nfa_states(&row.nfa, &set, builder)?;
-    same(rt, builder.as_bytes(), row.bytes(0));
     Ok(())
 }
 
 /// Records the first closure of a walk.
 pub fn record<R: Abort, A: Allocator + Copy>(rt: &R, alloc: A, row: &Row) -> Result<(), TextError> {
     let mut builder = begun(alloc, row)?;
-    record_in(rt, alloc, row, &mut builder)
+    add_closure(alloc, row, &mut builder)?;
+    same(rt, builder.as_bytes(), row.bytes(0));
+    Ok(())
 }
 
 /// Returns a builder with an assertion.
@@ -151,20 +151,29 @@ fn after_start<A: Allocator>(alloc: A) -> Result<StateBuilderNFA<A>, AllocError>
     Ok(builder)
 }
 
-/// Returns a builder with an assertion and the states of a set of only the start state of a walk.
-fn with_set<A: Allocator + Copy>(alloc: A, row: &Row) -> Result<StateBuilderNFA<A>, TextError> {
-    let mut builder = after_start(alloc)?;
+/// Adds the states of a set of only the start state of a walk to a builder.
+fn add_set<A: Allocator + Copy>(
+    alloc: A,
+    row: &Row,
+    builder: &mut StateBuilderNFA<A>,
+) -> Result<(), TextError> {
     let set = records::set(alloc, row.nfa.len(), &[row.nfa.start_anchored()])?;
-    add_nfa_states(&row.nfa, &set, &mut builder)?;
-    Ok(builder)
+    add_nfa_states(&row.nfa, &set, builder)?;
+    Ok(())
 }
 
-/// Returns a builder with an assertion and the start state of a walk.
-fn with_state<A: Allocator>(alloc: A, row: &Row) -> Result<StateBuilderNFA<A>, AllocError> {
+/// Adds the start state of a walk to a builder with an assertion, and compares its bytes.
+fn expect_one<R: Abort, A: Allocator>(
+    rt: &R,
+    alloc: A,
+    row: &Row,
+    wanted: &[u8],
+) -> Result<(), AllocError> {
     let mut builder = after_start(alloc)?;
     add_state(&row.nfa, row.nfa.start_anchored(), &mut builder)?;
     builder.settle();
-    Ok(builder)
+    same(rt, builder.as_bytes(), wanted);
+    Ok(())
 }
 
 /// Records only the start state of a walk. The builder must be as if a set of this one state had
@@ -174,9 +183,9 @@ pub fn record_one<R: Abort, A: Allocator + Copy>(
     alloc: A,
     row: &Row,
 ) -> Result<(), TextError> {
-    let wanted = with_set(alloc, row)?;
-    let builder = with_state(alloc, row)?;
-    same(rt, builder.as_bytes(), wanted.as_bytes());
+    let mut wanted = after_start(alloc)?;
+    add_set(alloc, row, &mut wanted)?;
+    expect_one(rt, alloc, row, wanted.as_bytes())?;
     Ok(())
 }
 
@@ -268,13 +277,13 @@ fn step_each<R: Abort, A: Allocator + Copy>(
     requires resolve { AllResolve row.now.nfa first.states }
 {
     let mut state = first;
-    for (index, bytes) in row.states.iter().skip(1).enumerate() {
-        let unit = Unit::from(row.unit(index));
+    for index in 1..row.states.len() {
+        let unit = Unit::from(row.unit(index - 1));
         match step(row, is_counted, sparses, stack, state, unit) {
             Ok(next) => state = next,
             Err(_) => return false,
         }
-        same(rt, state.as_bytes(), bytes.as_slice());
+        same(rt, state.as_bytes(), row.bytes(index));
     }
     true
 }

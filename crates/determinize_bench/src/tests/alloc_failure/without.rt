@@ -38,7 +38,8 @@ fn fill<R: Abort, A: Allocator>(rt: &R, sparses: &mut SparseSets<A>) {
     same(rt, (sparses.set1.len(), sparses.set2.len()), (0, 3));
     sparses.clear();
     sparses.set1.clear();
-    holds(rt, sparses.set1.is_empty() && sparses.set2.is_empty());
+    let are_empty = (sparses.set1.is_empty(), sparses.set2.is_empty());
+    same(rt, are_empty, (true, true));
 }
 
 /// Makes the dead state and an empty builder.
@@ -134,8 +135,21 @@ fn begin_walk<R: Abort, A: Allocator>(rt: &R, heap: &Heap, alloc: A, row: &Row) 
     heap.end();
 }
 
-/// Computes the closure of a state into an empty set, with a stack of more capacity than any walk
-/// of an example needs if it is an epsilon state, and otherwise with one of no capacity.
+/// Returns a stack of more capacity than any walk of an example needs if the state is an epsilon
+/// state, and otherwise of no capacity.
+fn stack<R: Abort, A: Allocator>(rt: &R, alloc: A, row: &Row, id: StateID) -> Vec<StateID, A>
+    requires { id < length row.now.nfa.states }
+    ensures { result.items ≡ [] }
+{
+    let capacity = if row.nfa.state(id).is_epsilon() {
+        100
+    } else {
+        0
+    };
+    Vec::with_capacity(alloc, capacity).expect(rt, "memory")
+}
+
+/// Computes the closure of a state into an empty set, with a new [`stack`].
 fn close<R: Abort, A: Allocator + Copy>(
     rt: &R,
     heap: &Heap,
@@ -148,9 +162,7 @@ fn close<R: Abort, A: Allocator + Copy>(
 {
     holds(rt, set.capacity() == row.nfa.len());
     let id = StateID::must(number);
-    let is_epsilon = row.nfa.state(id).is_epsilon();
-    let stack = Vec::with_capacity(alloc, if is_epsilon { 100 } else { 0 });
-    let mut stack = stack.expect(rt, "memory");
+    let mut stack = stack(rt, alloc, row, id);
     heap.begin();
     let closed = epsilon_closure(&row.nfa, id, LookSet::empty(), &mut stack, set);
     closed.expect(rt, "no allocation");
@@ -167,27 +179,23 @@ fn close_each<R: Abort, A: Allocator + Copy>(rt: &R, heap: &Heap, alloc: A, row:
     same(rt, set.len(), 0);
 }
 
-/// Clears a cache, which has states and computed transitions if it is filled.
-fn clear_cache<R: Abort, A: Allocator + Copy>(
-    rt: &R,
-    lazy: &mut Lazy<'_, Global, A>,
-    is_filled: bool,
-) {
+/// Clears a cache. Returns whether it then has no states, and before had states and computed
+/// transitions exactly if it was filled.
+fn clear_cache<A: Allocator + Copy>(lazy: &mut Lazy<'_, Global, A>, is_filled: bool) -> bool {
     let found = (lazy.states_kept() > 0, lazy.computed() > 0);
-    same(rt, found, (is_filled, is_filled));
     lazy.clear();
-    same(rt, lazy.states_kept(), 0);
+    found == (is_filled, is_filled) && lazy.states_kept() == 0
 }
 
 /// Makes a cache and clears it, empty and with states.
 fn make_cache<R: Abort, A: Allocator + Copy>(rt: &R, heap: &Heap, alloc: A, row: &Row) {
     heap.begin();
     let mut lazy = Lazy::new(alloc, &row.nfa, row.kind, 100);
-    clear_cache(rt, &mut lazy, false);
+    holds(rt, clear_cache(&mut lazy, false));
     heap.end();
     holds(rt, row.walk_through(&mut lazy).is_ok());
     heap.begin();
-    clear_cache(rt, &mut lazy, true);
+    holds(rt, clear_cache(&mut lazy, true));
     heap.end();
 }
 
@@ -202,9 +210,9 @@ fn search_each<R: Abort, A: Allocator + Copy>(
     row: &Row,
 ) -> Found {
     let last = row.search_text(lazy).expect(rt, "memory");
-    let found = lazy.search_input(&row.input()).expect(rt, "memory");
-    let is_match = lazy.is_match(&row.input()).expect(rt, "memory");
-    (last, found, is_match)
+    let input = row.input();
+    let found = lazy.search_input(&input).expect(rt, "memory");
+    (last, found, lazy.is_match(&input).expect(rt, "memory"))
 }
 
 /// Searches three times through one cache. The first searches cache each transition, and the second
@@ -221,7 +229,8 @@ fn search_cached<R: Abort, A: Allocator + Copy>(
     heap.begin();
     let found = search_each(rt, lazy, row);
     heap.end();
-    holds(rt, found == wanted && lazy.computed() == computed);
+    holds(rt, found == wanted);
+    same(rt, lazy.computed(), computed);
 }
 
 /// Searches through a cache under each match kind.
@@ -241,17 +250,23 @@ fn read_flags<R: Abort, A: Allocator>(rt: &R, state: &State<A>, bytes: &[u8]) {
     same(rt, (flags & 4 != 0, flags & 8 != 0, true), told);
 }
 
-/// Calls all readers of a state.
-fn read_state<R: Abort, A: Allocator + Copy>(rt: &R, state: &State<A>, bytes: &[u8]) {
+/// Calls the readers of the patterns of a state.
+fn read_patterns<R: Abort, A: Allocator + Copy>(rt: &R, state: &State<A>) {
     let count = state.match_len();
-    let found = (state.as_bytes(), state.memory_usage(), state.is_match());
-    same(rt, found, (bytes, bytes.len(), count > 0));
-    holds(rt, state == state && state <= state);
+    same(rt, state.is_match(), count > 0);
     if count > 0 {
         let _ = state.match_pattern(0);
     } else {
         holds(rt, matches!(state.match_pattern_ids(), Ok(None)));
     }
+}
+
+/// Calls all readers of a state.
+fn read_state<R: Abort, A: Allocator + Copy>(rt: &R, state: &State<A>, bytes: &[u8]) {
+    same(rt, state.as_bytes(), bytes);
+    same(rt, state.memory_usage(), bytes.len());
+    same(rt, (state == state, state <= state), (true, true));
+    read_patterns(rt, state);
     read_flags(rt, state, bytes);
     for _ in state.iter_nfa_state_ids() {}
 }
