@@ -19,7 +19,6 @@ use crate::primitives::{PatternID, StateID};
 use std::alloc::{Allocator, Global};
 
 /// A state of a Thompson NFA.
-#[derive(Drop)]
 pub enum State<A: Allocator = Global> {
     /// Has a transition on one range of bytes.
     ByteRange { trans: Transition },
@@ -41,6 +40,22 @@ pub enum State<A: Allocator = Global> {
     Match { pattern_id: PatternID },
 }
 
+impl<A: Allocator> Drop for State<A> {
+    fn drop(self) {
+        match self {
+            State::Sparse(_transitions) => {}
+            State::Dense(_transitions) => {}
+            State::Union { alternates: _ } => {}
+            State::ByteRange { trans: _ } => {}
+            State::Look { look: _, next: _ } => {}
+            State::BinaryUnion { alt1: _, alt2: _ } => {}
+            State::Capture { next: _ } => {}
+            State::Fail => {}
+            State::Match { pattern_id: _ } => {}
+        }
+    }
+}
+
 impl<A: Allocator> State<A> {
     /// Returns whether the state has epsilon transitions: a `Look`, a union or a `Capture`. A union
     /// without alternates counts, too.
@@ -57,20 +72,16 @@ impl<A: Allocator> State<A> {
     }
 }
 
-/// Returns whether the state is a `Match`.
-fn is_match<A: Allocator>(state: &State<A>) -> bool
-    ensures { result ≡ is_match_node (nodes.node_of state.now) }
-{
-    match state {
-        State::Match { .. } => true,
-        _ => false,
-    }
-}
-
 /// Returns the number of `Match` states.
 pub(crate) fn match_count<A: Allocator>(states: &[State<A>]) -> usize
     ensures count { result ≡ count_by (λ s. is_match_node (nodes.node_of s)) states.now }
     ensures limit { result ≤ length states.now }
 {
-    states.iter().filter(|state| is_match(*state)).count()
+    let mut count = 0;
+    for state in states {
+        if let State::Match { .. } = state {
+            count += 1;
+        }
+    }
+    count
 }

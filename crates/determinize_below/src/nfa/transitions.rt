@@ -2,10 +2,9 @@
 //!
 //! No transition is on EOI, so each `matches_unit` returns false or `None` for it.
 
-ghost use Rattle.std.specs.Prelude.{◌≡◌, ℕ, IsTrue, length, None, Option, nat_le, Some, if◌then◌else◌};
-ghost use Rattle.std.specs.List.{find};
-ghost use Rattle.std.specs.Option.{option_and_then, option_map};
-ghost use Rattle.determinize_below.specs.Transition.{sparse_target};
+ghost use Rattle.std.specs.Prelude.{◌≡◌, ℕ, IsTrue, length, None, Option, Some, if◌then◌else◌};
+ghost use Rattle.std.specs.Option.{option_and_then};
+ghost use Rattle.determinize_below.specs.Transition.{is_ascending, sparse_target};
 ghost use Rattle.determinize_below.specs.Transition as transitions;
 ghost use Rattle.determinize_below.specs.Unit.{byte_of};
 
@@ -34,13 +33,6 @@ impl Transition {
         self.start <= byte && byte <= self.end
     }
 
-    /// Returns whether the range does not end before this byte.
-    fn reaches(&self, byte: u8) -> bool
-        ensures { result ≡ nat_le byte self.now.end }
-    {
-        self.end >= byte
-    }
-
     /// Returns whether the unit is a byte in the range.
     pub fn matches_unit(&self, unit: Unit) -> bool
         ensures { result ≡ transitions.matches_unit self.now (byte_of unit) }
@@ -53,11 +45,16 @@ impl Transition {
 }
 
 /// Transitions on ranges of bytes. In an NFA the ranges are sorted and do not overlap.
-#[derive(Drop)]
 #[derive_where(Debug)]
 pub struct SparseTransitions<A: Allocator = Global> {
     /// The transitions, sorted by range.
     pub transitions: Vec<Transition, A>,
+}
+
+impl<A: Allocator> Drop for SparseTransitions<A> {
+    fn drop(self) {
+        let SparseTransitions { transitions: _ } = self;
+    }
 }
 
 impl<A: Allocator> Model for SparseTransitions<A> {
@@ -76,22 +73,7 @@ impl<A: Allocator> SparseTransitions<A> {
         requires { IsTrue (transitions.is_ascending self.now) }
         ensures { result ≡ sparse_target self.now byte }
     {
-        // Only the first range that does not end before the byte can contain it: the later ones
-        // begin above its end.
-        let (start, next) = self.first_reaching(byte)?;
-        (start <= byte).then_some(next)
-    }
-
-    /// Returns the start and the target of the first transition whose range does not end before the
-    /// byte.
-    fn first_reaching(&self, byte: u8) -> Option<(u8, StateID)>
-        ensures { result
-            ≡ option_map (λ t. (t.start, t.next)) (find (λ t. nat_le byte t.end) self.now) }
-    {
-        self.transitions
-            .iter()
-            .find(|t| t.reaches(byte))
-            .map(|t| (t.start, t.next))
+        target_in(self.transitions.as_slice(), byte)
     }
 
     /// Returns the target on this unit, or `None` if it is EOI or in no range. The ranges must be
@@ -108,13 +90,33 @@ impl<A: Allocator> SparseTransitions<A> {
     }
 }
 
+/// Returns the target on this byte in sorted ranges, or `None` if no range contains it.
+fn target_in(transitions: &[Transition], byte: u8) -> Option<StateID>
+    requires { IsTrue (is_ascending transitions.now) }
+    ensures { result ≡ sparse_target transitions.now byte }
+{
+    for t in transitions {
+        // Only the first range that does not end before the byte can contain it: the later ones
+        // begin above its end.
+        if byte <= t.end {
+            return (t.start <= byte).then_some(t.next);
+        }
+    }
+    None
+}
+
 /// A table of targets, one per byte. The target 0 means that there is no transition, so no dense
 /// state can have a transition to state 0. In an NFA the table has 256 entries.
-#[derive(Drop)]
 #[derive_where(Debug)]
 pub struct DenseTransitions<A: Allocator = Global> {
     /// The targets, indexed by byte.
     pub transitions: Vec<StateID, A>,
+}
+
+impl<A: Allocator> Drop for DenseTransitions<A> {
+    fn drop(self) {
+        let DenseTransitions { transitions: _ } = self;
+    }
 }
 
 impl<A: Allocator> Model for DenseTransitions<A> {
