@@ -1,18 +1,18 @@
 //! The validation of the parts of an NFA, and the set of its assertions.
 
-ghost use Rattle.std.specs.Prelude.{◌≡◌, ℕ, Bool, Some, None, [], length, map, nat_lt, nat_eq, not, IfOk, OnOk, IfErr, ◌⊎◌, ◌||◌};
+ghost use Rattle.std.specs.Prelude.{◌≡◌, ℕ, Bool, Some, None, [], length, map, nat_lt, nat_eq, OnOk, IfErr, ◌⊎◌, ◌||◌};
 ghost use Rattle.std.specs.List.{list_all, list_any};
 ghost use Rattle.std.specs.HashSet.{contains};
 ghost use Rattle.determinize_below.specs.Node.{node_of};
-ghost use Rattle.determinize_below.specs.Nfa as nfas;
-ghost use Rattle.determinize_below.specs.Nfa.{resolves, is_sparse_sound, is_dense_sound, looks_of, failure_of, repeats, states_failure, is_match_of};
+ghost use Rattle.determinize_below.specs.Transition.{is_ascending};
+ghost use Rattle.determinize_below.specs.Nfa.{resolves, looks_of, failure_of, repeats, states_failure, is_match_of};
 
 use crate::look::LookSet;
 use crate::nfa::BuildError;
 use crate::nfa::state::State;
 use crate::nfa::transitions::Transition;
 use crate::primitives::{PatternID, StateID};
-use std::alloc::{AllocError, Allocator};
+use std::alloc::Allocator;
 use std::collections::HashSet;
 use std::hash::{BuildHasherDefault, FoldHasher};
 
@@ -34,26 +34,32 @@ fn is_resolved<A: Allocator>(state: &State<A>, count: usize) -> bool
 fn are_below(ids: &[StateID], count: usize) -> bool
     ensures { result ≡ list_all (λ i. nat_lt i count) ids.now }
 {
-    ids.iter().all(|id| id.as_usize() < count)
+    for id in ids {
+        if id.as_usize() >= count {
+            return false;
+        }
+    }
+    true
 }
 
 fn have_targets_below(transitions: &[Transition], count: usize) -> bool
     ensures { result ≡ list_all (λ t. nat_lt t.next count) transitions.now }
 {
-    transitions.iter().all(|t| t.next.as_usize() < count)
+    for t in transitions {
+        if t.next.as_usize() >= count {
+            return false;
+        }
+    }
+    true
 }
 
-/// Returns whether the ranges of a sparse state are sorted, not empty and do not overlap; true for
-/// other states.
-fn is_sparse_in_order<A: Allocator>(state: &State<A>) -> bool
-    ensures { result ≡ is_sparse_sound (node_of state.now) }
+/// Returns whether the ranges are sorted, not empty and do not overlap.
+fn are_in_order(transitions: &[Transition]) -> bool
+    ensures { result ≡ is_ascending transitions.now }
 {
-    let State::Sparse(sparse) = state else {
-        return true;
-    };
     // The least start of the next range: 256 after a range that ends at 255.
     let mut low = 0u16;
-    for t in &sparse.transitions {
+    for t in transitions {
         if u16::from(t.start) < low || t.end < t.start {
             return false;
         }
@@ -62,51 +68,21 @@ fn is_sparse_in_order<A: Allocator>(state: &State<A>) -> bool
     true
 }
 
-/// Returns whether a dense state has 256 targets; true for other states.
-fn is_dense_whole<A: Allocator>(state: &State<A>) -> bool
-    ensures { result ≡ is_dense_sound (node_of state.now) }
-{
-    match state {
-        State::Dense(dense) => dense.transitions.len() == 256,
-        _ => true,
-    }
-}
-
-/// Returns the set with the assertion of the state, if it has one.
-fn with_look<A: Allocator>(looks: LookSet, state: &State<A>) -> LookSet
-    ensures { result ≡ nfas.with_look looks (node_of state.now) }
-{
-    match state {
-        State::Look { look, .. } => looks.insert(*look),
-        _ => looks,
-    }
-}
-
 /// Returns the set of the assertions of all states.
 pub(crate) fn looks_in<A: Allocator>(states: &[State<A>]) -> LookSet
     ensures { result ≡ looks_of (map node_of states.now) }
 {
     let mut looks = LookSet::empty();
     for state in states {
-        looks = with_look(looks, state);
+        if let State::Look { look, .. } = state {
+            looks = looks.insert(*look);
+        }
     }
     looks
 }
 
 /// The patterns of the `Match` states so far.
 type Patterns<A> = HashSet<PatternID, BuildHasherDefault<FoldHasher>, A>;
-
-/// Adds the pattern and returns whether it was new.
-fn add_pattern<A: Allocator + Clone>(
-    seen: &mut Patterns<A>,
-    pattern: PatternID,
-) -> Result<bool, AllocError>
-    ensures added { IfOk result (λ added. added ≡ not (contains nat_eq seen.old pattern)) }
-    ensures after { OnOk result ((q : ℕ) →
-        contains nat_eq seen.new q ≡ (nat_eq q pattern || contains nat_eq seen.old q)) }
-{
-    Ok(seen.insert(pattern)?)
-}
 
 /// Validates one state and adds its pattern to `seen`, the patterns of the earlier states.
 fn check_state<A: Allocator, B: Allocator + Clone>(
@@ -126,16 +102,23 @@ fn check_state<A: Allocator, B: Allocator + Clone>(
     if !is_resolved(state, count) {
         return Err(BuildError::UnresolvedId(index));
     }
-    if !is_sparse_in_order(state) {
-        return Err(BuildError::BadSparse(index));
-    }
-    if !is_dense_whole(state) {
-        return Err(BuildError::BadDense(index));
-    }
-    if let State::Match { pattern_id } = state {
-        if !add_pattern(seen, *pattern_id)? {
-            return Err(BuildError::RepeatedPattern(index));
+    match state {
+        State::Sparse(sparse) => {
+            if !are_in_order(sparse.transitions.as_slice()) {
+                return Err(BuildError::BadSparse(index));
+            }
         }
+        State::Dense(dense) => {
+            if dense.transitions.len() != 256 {
+                return Err(BuildError::BadDense(index));
+            }
+        }
+        State::Match { pattern_id } => {
+            if !seen.insert(*pattern_id)? {
+                return Err(BuildError::RepeatedPattern(index));
+            }
+        }
+        _ => {}
     }
     Ok(())
 }
