@@ -10,14 +10,14 @@
 ghost use Rattle.std.specs.Prelude.{◌≡◌, ℕ, ◌+◌, ◌<◌, ◌≤◌, ◌&&◌, Some, false, length, nat_eq, slice_index, true};
 ghost use Rattle.std.specs.Bool.{Decides};
 ghost use Rattle.determinize_below.specs.ByteClasses.{AreAlike, AreClassesOf, AreTestedAlike};
-ghost use Rattle.determinize_below.specs.ByteClasses.{MarksChanges, is_marked};
+ghost use Rattle.determinize_below.specs.ByteClasses.{MarksChanges};
 ghost use Rattle.determinize_below.specs.Look.{has_crlf, has_line, has_word};
 ghost use Rattle.determinize_below.specs.Semantics.{state_at, target_of, within};
 ghost use Rattle.determinize_below.specs.Semantics as semantics;
 ghost use Rattle.determinize_below.specs.Nfa.{IsAccepted, is_dense_sound, is_sparse_sound};
 ghost use Rattle.determinize_below.specs.Node.{node_of};
 ghost use Rattle.determinize_below.specs.Private.Boundaries.{AreBoundaries};
-ghost use Rattle.determinize_below.specs.Transition.{dense_target, matches, sparse_target};
+ghost use Rattle.determinize_below.specs.Transition.{dense_target, sparse_target};
 
 use crate::alphabet::{ByteClasses, is_word_byte};
 use crate::nfa::{NFA, State, Transition};
@@ -91,19 +91,12 @@ fn mark_between(start: u8, end: u8, marks: &mut [bool; 256])
     }
 }
 
-/// Marks the first byte of the range of the transition, and the byte after its last.
-fn mark_range(trans: &Transition, marks: &mut [bool; 256])
-    ensures { MarksChanges (matches trans.now) marks.old marks.new }
-{
-    mark_between(trans.start, trans.end, marks);
-}
-
 /// Marks the first byte of each range, and the byte after its last.
 fn mark_ranges(transitions: &[Transition], marks: &mut [bool; 256])
     ensures { MarksChanges (sparse_target transitions.now) marks.old marks.new }
 {
     for trans in transitions {
-        mark_range(trans, marks);
+        mark_between(trans.start, trans.end, marks);
     }
 }
 
@@ -125,7 +118,7 @@ fn mark_state<A: Allocator>(state: &State<A>, marks: &mut [bool; 256])
     ensures { MarksChanges (λ b. target_of (Some b) (node_of state.now)) marks.old marks.new }
 {
     match state {
-        State::ByteRange { trans } => mark_range(trans, marks),
+        State::ByteRange { trans } => mark_between(trans.start, trans.end, marks),
         State::Sparse(sparse) => mark_ranges(sparse.transitions.as_slice(), marks),
         State::Dense(dense) => mark_targets(dense.transitions.as_slice(), marks),
         _ => {}
@@ -179,24 +172,15 @@ fn mark_words<A: Allocator>(nfa: &NFA<A>, marks: &mut [bool; 256])
     mark_word_bytes(marks);
 }
 
-/// Returns marks at the bytes that an assertion of the NFA distinguishes from the byte before.
-fn tested_bytes<A: Allocator>(nfa: &NFA<A>) -> [bool; 256]
-    ensures { (b : ℕ) → b < 255 → is_marked result (b + 1) ≡ false
-        → AreTestedAlike nfa.now b (b + 1) }
-{
-    let mut marks = [false; 256];
-    mark_lines(nfa, &mut marks);
-    mark_crlf(nfa, &mut marks);
-    mark_words(nfa, &mut marks);
-    marks
-}
-
 /// Returns marks at all bytes that the NFA may distinguish from the byte before.
 fn boundaries_of<A: Allocator>(nfa: &NFA<A>) -> [bool; 256]
     ensures marks { AreBoundaries nfa.now result }
     ensures accepted { IsAccepted nfa.now }
 {
-    let mut marks = tested_bytes(nfa);
+    let mut marks = [false; 256];
+    mark_lines(nfa, &mut marks);
+    mark_crlf(nfa, &mut marks);
+    mark_words(nfa, &mut marks);
     for index in 0..nfa.len() {
         nfa.mark_changes(StateID::must(index), &mut marks);
     }

@@ -14,9 +14,8 @@ impl<A: Allocator> fmt::Debug for NFA<A> {
         f.write_str("NFA(\n")?;
         write_states(f, self.states.as_slice())?;
         let (anchored, unanchored) = (self.start_anchored, self.start_unanchored);
-        let (reverse, line) = (self.reverse, self.look_matcher.get_line_terminator());
-        write_starts(f, anchored, unanchored)?;
-        write!(f, "reverse: {reverse}, line_terminator: {line:02x}\n)")
+        let line = self.look_matcher.get_line_terminator();
+        write_settings(f, anchored, unanchored, self.reverse, line)
     }
 }
 
@@ -30,14 +29,17 @@ fn write_states<A: Allocator, W: fmt::Write>(
     Ok(())
 }
 
-fn write_starts<W: fmt::Write>(
+fn write_settings<W: fmt::Write>(
     f: &mut fmt::Formatter<W>,
     anchored: StateID,
     unanchored: StateID,
+    reverse: bool,
+    line: u8,
 ) -> fmt::Result {
     write!(
         f,
-        "start_anchored: {anchored}, start_unanchored: {unanchored}, "
+        "start_anchored: {anchored}, start_unanchored: {unanchored}, reverse: {reverse}, \
+         line_terminator: {line:02x}\n)"
     )
 }
 

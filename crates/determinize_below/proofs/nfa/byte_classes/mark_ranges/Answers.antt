@@ -5,4 +5,4 @@ use Rattle.determinize_below.proofs.nfa.byte_classes.mark_ranges.Goals as goal
 pub loop-trans-preserved : goal.loop-trans-preserved
 loop-trans-preserved c =
     ranges_more c.args.transitions.now c.loop-trans.trans-index c.trans-item.result c.args.marks.now c.loop-trans.marks
-    c.mark_range.new.marks (omega arith) c.trans-item.is c.loop-trans.invariant c.mark_range.ensures
+    c.mark_between.new.marks (omega arith) c.trans-item.is c.loop-trans.invariant c.mark_between.ensures
