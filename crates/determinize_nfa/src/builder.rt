@@ -192,10 +192,7 @@ impl<A: Allocator + Copy> Builder<A> {
             IsNotSet (is_patchable (slice_index_or self.old.states from nodes.Fail)) from e) }
     {
         let index = from.as_usize();
-        if !has_target(&self.states[index]) {
-            return Err(BuildError::NotPatchable(index));
-        }
-        redirect(&mut self.states[index], to)
+        redirect(&mut self.states[index], to, index)
     }
 
     /// Gives a union without alternates, as `add_union(&[])` adds it, these alternates, in order of
@@ -234,7 +231,7 @@ impl<A: Allocator + Copy> Builder<A> {
     {
         let states = copies(self.alloc, self.states.as_slice())?;
         let (anchored, unanchored) = (start_anchored, start_unanchored);
-        let matcher = self.look_matcher.clone()?;
+        let matcher = copy_of(&self.look_matcher);
         NFA::from_parts(self.alloc, states, anchored, unanchored, false, matcher)
     }
 
@@ -252,21 +249,17 @@ impl<A: Allocator + Copy> Builder<A> {
         ensures err { IfErr result (λ e. IsUnfit self.now start_anchored e) }
     {
         let count = self.states.len();
-        let (union, skip) = (StateID::new(count)?, StateID::new(count + 1)?);
+        let skip = StateID::new(count + 1)?;
+        let union = StateID::must(count);
         if start_anchored.as_usize() >= count {
             return Err(BuildError::UnresolvedStart);
         }
         if let Some(index) = first_to(self.states.as_slice(), union, skip) {
             return Err(BuildError::UnresolvedId(index));
         }
-        let matcher = self.look_matcher.clone()?;
-        let states = with_prefix(
-            self.alloc,
-            self.states.as_slice(),
-            start_anchored,
-            union,
-            skip,
-        )?;
+        let mut states = copies(self.alloc, self.states.as_slice())?;
+        push_prefix(&mut states, start_anchored, union, skip)?;
+        let matcher = copy_of(&self.look_matcher);
         NFA::from_parts(self.alloc, states, start_anchored, union, false, matcher)
     }
 }
@@ -287,39 +280,32 @@ pub(crate) fn push_state<A: Allocator>(
     Ok(states.push(state)?)
 }
 
-/// Returns copies of the states, and the two states of the usual prefix: a union that prefers the
-/// start, and a range of all bytes back to it.
-fn with_prefix<A: Allocator + Copy>(
-    alloc: A,
-    states: &[State<A>],
+/// Adds the two states of the usual prefix: a union that prefers the start, and a range of all
+/// bytes back to it.
+fn push_prefix<A: Allocator>(
+    states: &mut Vec<State<A>, A>,
     start: StateID,
     union: StateID,
     skip: StateID,
-) -> Result<Vec<State<A>, A>, AllocError>
-    ensures { IfOk result (λ made. map node_of made.items
-        ≡ (map node_of states.now ++ nodes.BinaryUnion start skip ∷ [])
+) -> Result<(), AllocError>
+    ensures { OnOk result (map node_of states.new.items
+        ≡ (map node_of states.old.items ++ nodes.BinaryUnion start skip ∷ [])
         ++ nodes.ByteRange record { start = 0; end = 255; next = union } ∷ []) }
 {
-    let mut made = copies(alloc, states)?;
     let (alt1, alt2) = (start, skip);
-    push_state(&mut made, State::BinaryUnion { alt1, alt2 })?;
+    push_state(states, State::BinaryUnion { alt1, alt2 })?;
     let (start, end, next) = (0, 255, union);
     let trans = Transition { start, end, next };
-    push_state(&mut made, State::ByteRange { trans })?;
-    Ok(made)
+    push_state(states, State::ByteRange { trans })
 }
 
-/// Returns whether the state is a union, or has one target.
-fn has_target<A: Allocator>(state: &State<A>) -> bool
-    ensures { result ≡ is_patchable (node_of state.now) }
+/// Returns a copy of the matcher: its `clone` cannot fail, but has an error.
+pub(crate) fn copy_of(look_matcher: &LookMatcher) -> LookMatcher
+    ensures { result ≡ look_matcher.now }
 {
-    match state {
-        State::ByteRange { .. }
-        | State::Look { .. }
-        | State::Capture { .. }
-        | State::Union { .. } => true,
-        _ => false,
-    }
+    let mut made = LookMatcher::new();
+    made.set_line_terminator(look_matcher.get_line_terminator());
+    made
 }
 
 /// Returns whether the state is a union without alternates.
@@ -391,19 +377,21 @@ fn copies<A: Allocator + Copy>(
     Ok(made)
 }
 
-/// Sets the target of a state that has one target, or adds a last alternate to a union.
-fn redirect<A: Allocator>(state: &mut State<A>, to: StateID) -> Result<(), BuildError>
+/// Sets the target of the state with this index if it has one target, or adds a last alternate to a
+/// union.
+fn redirect<A: Allocator>(state: &mut State<A>, to: StateID, index: usize) -> Result<(), BuildError>
     ensures redirected { OnOk result
         (node_of state.new ≡ builders.redirected to (node_of state.old)) }
+    ensures patchable { OnOk result (is_patchable (node_of state.old) ≡ true) }
     ensures failed { OnErr result (node_of state.new ≡ node_of state.old) }
-    ensures err { IfErr result (λ e. e ≡ BuildError.OutOfMemory) }
+    ensures err { IfErr result (λ e. IsNotSet (is_patchable (node_of state.old)) index e) }
 {
     match state {
         State::ByteRange { trans } => trans.next = to,
         State::Look { next, .. } => *next = to,
         State::Capture { next } => *next = to,
         State::Union { alternates } => alternates.push(to)?,
-        _ => {}
+        _ => return Err(BuildError::NotPatchable(index)),
     }
     Ok(())
 }
@@ -412,7 +400,11 @@ fn redirect<A: Allocator>(state: &mut State<A>, to: StateID) -> Result<(), Build
 fn first_to<A: Allocator>(states: &[State<A>], id: StateID, other: StateID) -> Option<usize>
     ensures { result ≡ position (λ s. has_transition_to id other (node_of s)) states.now }
 {
-    states
-        .iter()
-        .position(|state| leads_to(state, id) || leads_to(state, other))
+    for index in 0..states.len() {
+        let state = &states[index];
+        if leads_to(state, id) || leads_to(state, other) {
+            return Some(index);
+        }
+    }
+    None
 }

@@ -17,14 +17,19 @@ use std::alloc::Allocator;
 fn have_id(ids: &[StateID], id: StateID) -> bool
     ensures { result ≡ list_any (nat_eq id) ids.now }
 {
-    ids.iter().any(|other| id == *other)
+    ids.contains(&id)
 }
 
 /// Returns whether some transition has the id as its target.
 fn have_target(transitions: &[Transition], id: StateID) -> bool
     ensures { result ≡ list_any (λ t. nat_eq id t.next) transitions.now }
 {
-    transitions.iter().any(|t| id == t.next)
+    for t in transitions {
+        if id == t.next {
+            return true;
+        }
+    }
+    false
 }
 
 /// Returns whether the state has a transition to the id, over some byte or without input.

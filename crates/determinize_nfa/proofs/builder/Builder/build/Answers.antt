@@ -6,12 +6,11 @@ copied : (g : _) (c : goal.After-from_parts g) → ◌≡◌ {A = BuilderValue}
     record {
       states = map node_of c.in_ok-states.states.items;
       patterns = c.self.inside.patterns;
-      terminator = c.in_ok-matcher.matcher;
+      terminator = c.copy_of-matcher.result;
     }
     c.args.self.now
 copied g c =
-    let cases = c.in_ok-matcher.ensures.cases in
-    rw (c.in_ok-states.ensures, c.as_slice.ensures.value, ← cases.3, cases.4, cases.2) c.self.view_is
+    rw (c.in_ok-states.ensures, c.as_slice.ensures.value, c.copy_of-matcher.ensures) c.self.view_is
 
 pub returns-clause-ok : goal.returns-clause-ok
 returns-clause-ok g c = IfOk-weaker c.from_parts.result _ _
@@ -29,7 +28,3 @@ returns-clause-err g c = rw (ap (λ (b : BuilderValue). b.states) (copied g c)) 
 
 pub returns-in_err-states-clause-err : goal.returns-in_err-states-clause-err
 returns-in_err-states-clause-err g c = if_err_and c.from_residual.result _ _ (λ e h. inr h) c.from_residual.ensures.1
-
-pub returns-in_err-matcher-clause-err : goal.returns-in_err-matcher-clause-err
-returns-in_err-matcher-clause-err g c = if_err_and c.from_residual-in_err-matcher.result
-    _ _ (λ e h. inr h) c.from_residual-in_err-matcher.ensures.1

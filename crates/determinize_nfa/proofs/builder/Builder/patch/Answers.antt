@@ -1,21 +1,10 @@
-use Rattle.determinize_nfa.proofs.Common.{NotPatchable, IfErr-weaker, ap, arith, inl, inr, length-map, length-set}
-use Rattle.determinize_nfa.proofs.Common.{map-set, node_of, on_ok_weaker, refl, sym, ◌∙◌, ◌≡◌}
+use Rattle.determinize_nfa.proofs.Common.{ap, arith, length-map, length-set}
+use Rattle.determinize_nfa.proofs.Common.{map-set, node_of, on_ok_weaker, refl, ◌∙◌, ◌≡◌}
 use Rattle.std.proofs.Math.Seq.{map-set_same}
 use Rattle.std.proofs.lemmas.Result.{on_err_weaker}
 use Rattle.determinize_nfa.proofs.building.Building.{index_within, node_is}
 use Rattle.determinize_nfa.specs.Builder.{redirected}
 use Rattle.determinize_nfa.proofs.builder.Builder.patch.Goals as goal
-
-pub index-requires : goal.index-requires
-index-requires g c =
-    omega (arith, index_within _ _ c.self.view_is c.as_usize-index.ensures.value c.requires, c.self.inside.states.ok.0)
-
-pub returns-then-not-has_target-clause-err : goal.returns-then-not-has_target-clause-err
-returns-then-not-has_target-clause-err g c = inl (
-  rw (node_is _ _ c.self.view_is c.as_usize-index.ensures.value c.requires c.index.result.now c.index.ensures)
-      (sym c.has_target.ensures ∙ c.if-not-has_target.true),
-  ap NotPatchable c.as_usize-index.ensures.value,
-)
 
 pub index_mut-requires : goal.index_mut-requires
 index_mut-requires g c =
@@ -39,9 +28,9 @@ returns-clause-patched g c =
     c.redirect.ensures.redirected
 
 pub returns-clause-patchable : goal.returns-clause-patchable
-returns-clause-patchable g c = on_ok_weaker c.redirect.result
-    (λ n. rw (node_is _ _ c.self.view_is c.as_usize-index.ensures.value c.requires c.index.result.now c.index.ensures)
-    (sym c.has_target.ensures ∙ c.if-not-has_target.false)) c.redirect.ensures.redirected
+returns-clause-patchable g c =
+    rw (node_is _ _ c.self.view_is c.as_usize-index.ensures.value c.requires c.index_mut.result.now
+    c.index_mut.ensures.value) c.redirect.ensures.patchable
 
 pub returns-clause-failed : goal.returns-clause-failed
 returns-clause-failed g c = on_err_weaker c.redirect.result
@@ -56,4 +45,9 @@ pub returns-clause-count : goal.returns-clause-count
 returns-clause-count g c = rw (← c.self.view_is) (simp (length-map, length-set))
 
 pub returns-clause-err : goal.returns-clause-err
-returns-clause-err g c = IfErr-weaker c.redirect.result _ _ (λ e z. inr z) c.redirect.ensures.err
+returns-clause-err g c =
+    rw (
+      node_is _ _ c.self.view_is c.as_usize-index.ensures.value c.requires c.index_mut.result.now
+          c.index_mut.ensures.value,
+      ← c.as_usize-index.ensures.value,
+    ) c.redirect.ensures.err
