@@ -1,18 +1,15 @@
 //! The transitions of a state of any kind, in one list.
 
-ghost use Rattle.std.specs.Prelude.{◌≡◌, ◌∷◌, [], drop, length, map, true};
-ghost use Rattle.std.specs.Iterator.{YieldsFirst, item_count};
+ghost use Rattle.std.specs.Prelude.{◌≡◌, drop, length, map, true};
 ghost use Rattle.determinize_below.specs.Nfa.{is_dense_sound};
 ghost use Rattle.determinize_below.specs.Node.{node_of};
 ghost use Rattle.determinize_nfa.specs.Private.Arcs.{IsFirstOf, arcs_from, next_of, runs};
-ghost use Rattle.determinize_nfa.specs.Private.Arcs as lists;
 ghost use Rattle.determinize_nfa.specs.Reversal as reversals;
 ghost use Rattle.determinize_nfa.specs.declared.arcs.Arc.TheVariants as variants;
 
 use determinize_below::nfa::{State, Transition};
 use determinize_below::{Look, StateID};
 use std::alloc::Allocator;
-use std::marker::Model;
 
 /// A transition of a state.
 #[derive(Clone, Copy)]
@@ -37,53 +34,9 @@ impl Arc {
     }
 }
 
-/// An iterator over the transitions of a state, in order: of a dense state one for each run of
-/// bytes with one target.
-#[derive(Drop)]
-pub(crate) struct Arcs<'s, A: Allocator> {
-    state: &'s State<A>,
-    /// The index of the next transition; in a dense state that of a byte.
-    from: usize,
-}
-
-impl<'s, A: Allocator> Model for Arcs<'s, A> {
-    ghost use Rattle.std.specs.Prelude.{◌≡◌, List, true};
-    ghost use Rattle.determinize_below.specs.Nfa.{is_dense_sound};
-    ghost use Rattle.determinize_below.specs.Node.{node_of};
-    ghost use Rattle.determinize_nfa.specs.Private.Arcs.{arcs_from};
-    ghost use Rattle.determinize_nfa.specs.declared.arcs.Arc as arcs;
-
-    ghost Value = { List arcs.Arc };
-
-    ghost view = { λ s. arcs_from s.from (node_of s.state.now) };
-
-    ghost invariant = { λ s. is_dense_sound (node_of s.state.now) ≡ true };
-}
-
-impl<'s, A: Allocator> Iterator for Arcs<'s, A> {
-    type Item = Arc;
-
-    ghost next_gives = { YieldsFirst (λ s. s) };
-
-    ghost remaining = { item_count (λ s. s) };
-
-    fn next(&mut self) -> Option<Arc> {
-        let (arc, after) = arc_from(self.state, self.from)?;
-        self.from = after;
-        Some(arc)
-    }
-}
-
-/// Returns an iterator over the transitions of a state.
-pub(crate) fn arcs_of<A: Allocator>(state: &State<A>) -> Arcs<'_, A>
-    requires { is_dense_sound (node_of state.now) ≡ true }
-    ensures { result ≡ lists.arcs_of (node_of state.now) }
-{
-    Arcs { state, from: 0 }
-}
-
-/// Returns the first transition of a state from an index on, and the index after it.
-fn arc_from<A: Allocator>(state: &State<A>, from: usize) -> Option<(Arc, usize)>
+/// Returns the first transition of a state from an index on, and the index after it. In a dense
+/// state an index is a byte, and there is one transition for each run of bytes with one target.
+pub(crate) fn arc_from<A: Allocator>(state: &State<A>, from: usize) -> Option<(Arc, usize)>
     requires { is_dense_sound (node_of state.now) ≡ true }
     ensures { IsFirstOf (λ k. arcs_from k (node_of state.now)) from result }
 {

@@ -16,8 +16,8 @@ ghost use Rattle.determinize_nfa.specs.Private.Turning.{IsTurnedOver};
 ghost use Rattle.determinize_nfa.specs.Private.Turning as turning;
 ghost use Rattle.determinize_nfa.specs.Reversal.{IsReverseOf, IsTooLarge, most_states};
 
-use crate::arcs::{Arc, arcs_of};
-use crate::builder::push_state;
+use crate::arcs::{Arc, arc_from};
+use crate::builder::{copy_of, push_state};
 use crate::reached::reached;
 use determinize_below::nfa::{BuildError, State, Transition};
 use determinize_below::{ID_LIMIT, NFA, PatternID, StateID};
@@ -124,8 +124,10 @@ impl<A: Allocator + Copy> Turned<A> {
         ensures err { IfErr result (λ e.
             IsTooLarge (turning.total (turning.with_reversed self.old id (node_of state.now))) e) }
     {
-        for arc in arcs_of(state) {
+        let mut from = 0;
+        while let Some((arc, after)) = arc_from(state, from) {
             self.add_arc(id, arc)?;
+            from = after;
         }
         if let State::Match { .. } = state {
             self.ends.push(id)?;
@@ -174,9 +176,14 @@ impl<A: Allocator + Copy> Turned<A> {
     fn into_states(self, alloc: A) -> Result<Vec<State<A>, A>, AllocError>
         ensures { IfOk result (λ made. map node_of made.items ≡ states.states_of self) }
     {
-        let Turned { into, rest, ends } = self;
-        let mut made = gathered_all(alloc, into)?;
-        end_states(&mut made, ends, rest)?;
+        let Turned {
+            into,
+            mut rest,
+            ends,
+        } = self;
+        let mut made = Vec::new(alloc);
+        gather_all(&mut made, into)?;
+        end_states(&mut made, ends, &mut rest)?;
         Ok(made)
     }
 }
@@ -194,35 +201,34 @@ fn gathered<A: Allocator>(alternates: Vec<StateID, A>) -> State<A>
     }
 }
 
-/// Returns the state for each list.
-fn gathered_all<A: Allocator + Copy>(
-    alloc: A,
+/// Adds the state for each list.
+fn gather_all<A: Allocator>(
+    made: &mut Vec<State<A>, A>,
     lists: Vec<Vec<StateID, A>, A>,
-) -> Result<Vec<State<A>, A>, AllocError>
-    ensures { IfOk result (λ made. map node_of made.items
-        ≡ map states.gathered (map (λ v. v.items) lists.items)) }
+) -> Result<(), AllocError>
+    ensures { OnOk result (map node_of made.new.items ≡ map node_of made.old.items
+        ++ map states.gathered (map (λ v. v.items) lists.items)) }
 {
-    let mut made = Vec::new(alloc);
     for alternates in lists {
-        push_state(&mut made, gathered(alternates))?;
+        push_state(made, gathered(alternates))?;
     }
-    Ok(made)
+    Ok(())
 }
 
-/// Adds the match state, the start state, and the states that read a byte or test an assertion.
+/// Adds the match state, the start state, and the states that read a byte or test an assertion,
+/// which are taken from `rest`.
 fn end_states<A: Allocator>(
     made: &mut Vec<State<A>, A>,
     ends: Vec<StateID, A>,
-    rest: Vec<State<A>, A>,
+    rest: &mut Vec<State<A>, A>,
 ) -> Result<(), AllocError>
     ensures { OnOk result (map node_of made.new.items ≡ map node_of made.old.items
-        ++ nodes.Match 0 ∷ nodes.Union ends.items ∷ map node_of rest.items) }
+        ++ nodes.Match 0 ∷ nodes.Union ends.items ∷ map node_of rest.old.items) }
 {
-    let mut rest = rest;
     let pattern_id = PatternID::ZERO;
     push_state(made, State::Match { pattern_id })?;
     push_state(made, State::Union { alternates: ends })?;
-    made.append(&mut rest)
+    made.append(rest)
 }
 
 /// Returns the NFA that reads in the other direction and reports where matches begin: from a
@@ -247,9 +253,10 @@ pub fn reversed<N: Allocator, A: Allocator + Copy>(
     ensures err { IfErr result (λ e. IsTooLarge (most_states nfa.now) e) }
 {
     let count = nfa.len();
-    let (begin, start) = (StateID::new(count)?, StateID::new(count + 1)?);
-    let matcher = nfa.look_matcher().clone()?;
+    let start = StateID::new(count + 1)?;
+    let begin = StateID::must(count);
     let turned = Turned::over(alloc, nfa, begin)?;
     let states = turned.into_states(alloc)?;
+    let matcher = copy_of(nfa.look_matcher());
     NFA::from_parts(alloc, states, start, start, !nfa.is_reverse(), matcher)
 }

@@ -1,46 +1,69 @@
-use Rattle.determinize_nfa.proofs.Common.{None, ap, arith, each_passes, length, node_of, rules, slice_get, sym, ◌<◌}
-use Rattle.determinize_nfa.proofs.Common.{◌∙◌, ◌≡◌}
+use Rattle.determinize_nfa.proofs.Common.{List, None, Some, [], ap, arith, each_passes, get_or, length, node_of, refl}
+use Rattle.determinize_nfa.proofs.Common.{rules, slice_get, slice_get-get_or, sym, ℕ, ◌<◌, ◌∙◌, ◌≡◌}
+use Rattle.std.proofs.lemmas.Option.{slice_get_past}
 use Rattle.determinize_below.specs.Members.{Members}
 use Rattle.determinize_nfa.proofs.reversing.FoundStates.{found_all, found_index, found_more, found_start}
+use Rattle.determinize_nfa.specs.Private.Closed.{visited}
 use Rattle.determinize_nfa.proofs.reached.reached.Goals as goal
 
-pub loop-id-init : goal.loop-id-init
-loop-id-init g c =
+-- the state with an index
+read : {xs ids : List ℕ} {i x : ℕ} → xs ≡ ids → x ≡ get_or xs i x → i < length ids → slice_get ids i ≡ Some x
+read {ids = ids} {i = i} {x = x} e is l = slice_get-get_or ids i x l ∙ ap Some (sym (rw e at is))
+
+pub loop-index-init : goal.loop-index-init
+loop-index-init g c =
     let below : c.args.nfa.now.start_anchored < length c.args.nfa.now.states = search rules in
-    record {
-      capacity = ap (λ (m : Members). m.capacity) c.in_ok-found.ensures.start;
-      found = rw c.in_ok-found.ensures.start (found_start c.args.nfa.now below);
-    }
+    let start : ◌≡◌ {A = Members} c.insert.new.self
+    record { ids = visited [] c.args.nfa.now.start_anchored; capacity = length c.args.nfa.now.states }
+    = rw (
+      c.insert.ensures.after,
+      c.insert.ensures.new,
+      c.in_ok-found.ensures,
+      c.len.ensures.count,
+      c.start_anchored.ensures.value,
+    ) refl in
+    record { capacity = rw start refl; found = rw start (found_start c.args.nfa.now below) }
 
 pub state-requires : goal.state-requires
 state-requires g c =
-    (found_index c.args.nfa.now _ _ _ c.loop-id.invariant.found (sym c.nth.ensures ∙ c.in-Some.is)).1
+    let is = read c.as_slice.ensures.ids c.index-as_slice-index.is
+    (omega (arith, c.loop-index-test.true, c.len-in-loop-index.ensures)) in
+    (found_index c.args.nfa.now _ _ _ c.loop-index.invariant.found is).1
 
 pub visit_targets-requires : goal.visit_targets-requires
 visit_targets-requires g c =
-    let passed = each_passes c.args.nfa.now c.state.ensures.accepted c.in-Some.id (node_of c.state.result.now)
-    c.state.ensures.state in
-    record { resolves = rw c.loop-id.invariant.capacity passed.resolves; whole = passed.whole }
+    let passed = each_passes c.args.nfa.now c.state.ensures.accepted c.index-as_slice-index.result
+    (node_of c.state.result.now) c.state.ensures.state in
+    record { resolves = rw c.loop-index.invariant.capacity passed.resolves; whole = passed.whole }
 
 pub overflow_add-index : goal.overflow_add-index
 overflow_add-index g c =
-    let low = found_index c.args.nfa.now _ _ _ c.loop-id.invariant.found (sym c.nth.ensures ∙ c.in-Some.is) in
-    omega (arith, low.0, c.begun.ensures.limit)
+    let is = read c.as_slice.ensures.ids c.index-as_slice-index.is
+    (omega (arith, c.loop-index-test.true, c.len-in-loop-index.ensures)) in
+    let low = found_index c.args.nfa.now _ _ _ c.loop-index.invariant.found is in
+    omega (arith, low.0, c.len.ensures.limit, c.len.ensures.count)
 
-pub loop-id-smaller : goal.loop-id-smaller
-loop-id-smaller g c =
-    let low = found_index c.args.nfa.now _ _ _ c.loop-id.invariant.found (sym c.nth.ensures ∙ c.in-Some.is) in
+pub loop-index-smaller : goal.loop-index-smaller
+loop-index-smaller g c =
+    let is = read c.as_slice.ensures.ids c.index-as_slice-index.is
+    (omega (arith, c.loop-index-test.true, c.len-in-loop-index.ensures)) in
+    let low = found_index c.args.nfa.now _ _ _ c.loop-index.invariant.found is in
     omega (arith, low.0)
 
-pub loop-id-preserved : goal.loop-id-preserved
-loop-id-preserved g c = record {
-  capacity = ap (λ (m : Members). m.capacity) c.visit_targets.ensures ∙ c.loop-id.invariant.capacity;
-  found = rw c.visit_targets.ensures
-      (found_more c.args.nfa.now c.state.ensures.accepted _ _ _ (node_of c.state.result.now) c.loop-id.invariant.found
-      (sym c.nth.ensures ∙ c.in-Some.is) c.state.ensures.state);
-}
+pub loop-index-preserved : goal.loop-index-preserved
+loop-index-preserved g c =
+    let is = read c.as_slice.ensures.ids c.index-as_slice-index.is
+    (omega (arith, c.loop-index-test.true, c.len-in-loop-index.ensures)) in
+    record {
+      capacity = ap (λ (m : Members). m.capacity) c.visit_targets.ensures ∙ c.loop-index.invariant.capacity;
+      found = rw c.visit_targets.ensures
+          (found_more c.args.nfa.now c.state.ensures.accepted _ _ _ (node_of c.state.result.now)
+          c.loop-index.invariant.found is c.state.ensures.state);
+    }
 
 pub returns-clause-closed : goal.returns-clause-closed
 returns-clause-closed g c =
-    let none : slice_get c.loop-id.found.ids c.loop-id.index ≡ None = search rules in
-    found_all c.args.nfa.now c.loop-id.found.ids c.loop-id.index c.loop-id.invariant.found none
+    let none : slice_get c.loop-index.found.ids c.loop-index.index ≡ None
+    = slice_get_past c.loop-index.found.ids c.loop-index.index
+    (omega (arith, c.loop-index-test.false, c.len-in-loop-index.ensures)) in
+    found_all c.args.nfa.now c.loop-index.found.ids c.loop-index.index c.loop-index.invariant.found none

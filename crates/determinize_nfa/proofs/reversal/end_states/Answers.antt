@@ -10,9 +10,9 @@ on_items (Err x) now more was e = tt
 
 pub returns : goal.returns
 returns g c = on_ok_weaker c.append.result
-    (λ (all : c.append.new.self.items ≡ c.push_state-2.new.states.items ++ c.args.rest.items). rw (
+    (λ (all : c.append.new.self.items ≡ c.push_state-2.new.states.items ++ c.args.rest.now.items). rw (
       all,
-      map-append node_of c.push_state-2.new.states.items c.args.rest.items,
+      map-append node_of c.push_state-2.new.states.items c.args.rest.now.items,
       c.in_ok-push_state-2.ensures.nodes,
       c.in_ok-push_state.ensures.nodes,
     ) (simp append_assoc))

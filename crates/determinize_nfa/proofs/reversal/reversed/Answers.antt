@@ -1,5 +1,5 @@
 use Rattle.determinize_nfa.proofs.Common.{IfErr-weaker, IfOk-weaker, Nfa, ap, arith, by_cases, if_err_and, inl, length}
-use Rattle.determinize_nfa.proofs.Common.{looks_of, map, most_states, node_of, not, refl, suc, sym, ◌+◌, ◌∙◌, ◌≡◌}
+use Rattle.determinize_nfa.proofs.Common.{looks_of, map, most_states, node_of, not, refl, suc, ◌+◌, ◌∙◌, ◌≡◌}
 use Rattle.determinize_nfa.proofs.Limits.{too_many}
 use Rattle.determinize_nfa.proofs.reversing.BothWays.{IsMadeOf, made_reverse}
 use Rattle.determinize_nfa.proofs.reversing.Counts.{larger, most}
@@ -7,17 +7,11 @@ use Rattle.determinize_nfa.proofs.reversing.Recorded.{all_recorded}
 use Rattle.determinize_nfa.proofs.reversing.Validation.{one_match, only_size}
 use Rattle.determinize_nfa.proofs.reversal.reversed.Goals as goal
 
-pub returns-in_err-begin-clause-err : goal.returns-in_err-begin-clause-err
-returns-in_err-begin-clause-err g c = if_err_and c.from_residual.result _ _
-    (too_many c.len-count.result (most_states c.args.nfa.now) (omega (arith, c.len-count.ensures.count))
-    c.in_err-begin.ensures.ok)
-    c.from_residual.ensures.1
-
 pub returns-in_err-start-clause-err : goal.returns-in_err-start-clause-err
-returns-in_err-start-clause-err g c = if_err_and c.from_residual-in_err-start.result _ _
+returns-in_err-start-clause-err g c = if_err_and c.from_residual.result _ _
     (too_many (c.len-count.result + 1) (most_states c.args.nfa.now) (omega (arith, c.len-count.ensures.count))
     c.in_err-start.ensures.ok)
-    c.from_residual-in_err-start.ensures.1
+    c.from_residual.ensures.1
 
 pub returns-in_err-turned-clause-err : goal.returns-in_err-turned-clause-err
 returns-in_err-turned-clause-err g c = if_err_and c.from_residual-in_err-turned.result _ _
@@ -32,15 +26,14 @@ returns g c =
     let few = most c.args.nfa.now turned over in
     let start : c.in_ok-start.start ≡ suc (length c.args.nfa.now.states)
     = omega (arith, c.in_ok-start.ensures.ok.1, c.len-count.ensures.count) in
-    let cases = c.in_ok-matcher.ensures.cases in
-    let matcher : c.in_ok-matcher.matcher ≡ c.args.nfa.now.terminator
-    = sym cases.3 ∙ cases.4 ∙ cases.2 ∙ c.look_matcher.ensures.value in
+    let matcher : c.copy_of-matcher.result ≡ c.args.nfa.now.terminator
+    = c.copy_of-matcher.ensures ∙ c.look_matcher.ensures.value in
     let made : (b : Nfa) → b ≡ record {
       states = map node_of c.in_ok-states.states.items;
       start_anchored = c.in_ok-start.start;
       start_unanchored = c.in_ok-start.start;
       reverse = not c.is_reverse.result;
-      terminator = c.in_ok-matcher.matcher;
+      terminator = c.copy_of-matcher.result;
       look_set_any = looks_of (map node_of c.in_ok-states.states.items);
     } → IsMadeOf c.args.nfa.now b turned = λ b p. rw p (record {
       direction = ap not c.is_reverse.ensures;

@@ -1,5 +1,5 @@
 use Rattle.determinize_nfa.proofs.Common.{append_assoc}
-use Rattle.determinize_nfa.proofs.reversal.gathered_all.Goals as goal
+use Rattle.determinize_nfa.proofs.reversal.gather_all.Goals as goal
 
 pub loop-alternates-preserved : goal.loop-alternates-preserved
 loop-alternates-preserved g c =
