@@ -86,7 +86,12 @@ impl ClassBytes {
 fn is_in_some(ranges: &[ClassBytesRange], byte: u8) -> bool
     ensures { result ≡ list_any (λ r. within r.start r.end byte) ranges.now }
 {
-    ranges.iter().any(|range| range.contains(byte))
+    for range in ranges {
+        if range.contains(byte) {
+            return true;
+        }
+    }
+    false
 }
 
 /// Returns the class of the bytes in one of the ranges, or in none if `negated` is set: a scan of
