@@ -3,10 +3,16 @@
 //! It is the text of a pattern over bytes, to be read with the flag `(?-u)`. A byte that is no
 //! printable ASCII character is written `\xHH`.
 
-use crate::class::{ClassBytes, ClassBytesRange};
+use crate::class::ClassBytes;
 use crate::pattern::Pattern;
 use determinize_below::Look;
 use std::fmt;
+
+/// The text of the pattern of the empty text.
+const EMPTY: &str = "(?:)";
+
+/// The text of the class without bytes.
+const NONE: &str = "[^\\x00-\\xFF]";
 
 /// Writes the pattern as text, with groups where they are needed.
 impl fmt::Display for Pattern {
@@ -72,7 +78,7 @@ fn needs_group(pattern: &Pattern, place: Place) -> bool {
 #[cycle(write_bare)]
 fn write_bare<W: fmt::Write>(f: &mut fmt::Formatter<W>, pattern: &Pattern) -> fmt::Result {
     match pattern {
-        Pattern::Empty => f.write_str("(?:)"),
+        Pattern::Empty => f.write_str(EMPTY),
         Pattern::Literal(bytes) => write_literal(f, bytes),
         Pattern::Class(class) => write_class(f, class),
         Pattern::Look(look) => f.write_str(look_text(*look)),
@@ -87,29 +93,21 @@ fn write_bare<W: fmt::Write>(f: &mut fmt::Formatter<W>, pattern: &Pattern) -> fm
             if *greedy { Ok(()) } else { f.write_str("?") }
         }
         Pattern::Capture(sub) => write_group(f, "(", sub),
-        Pattern::Concat(subs) => write_all(f, subs, ""),
-        Pattern::Alternation(subs) => write_choice(f, subs),
+        Pattern::Concat(subs) => write_all(f, subs, "", EMPTY),
+        Pattern::Alternation(subs) => write_all(f, subs, "|", NONE),
     }
 }
 
-/// Writes the branches of an alternation.
-#[cycle(write_bare)]
-fn write_choice<W: fmt::Write>(f: &mut fmt::Formatter<W>, subs: &[Pattern]) -> fmt::Result {
-    if subs.is_empty() {
-        return write_none(f);
-    }
-    write_all(f, subs, "|")
-}
-
-/// Writes patterns with a separator between them.
+/// Writes patterns with a separator between them, or the text `none` if there is none.
 #[cycle(write_bare)]
 fn write_all<W: fmt::Write>(
     f: &mut fmt::Formatter<W>,
     subs: &[Pattern],
     separator: &str,
+    none: &str,
 ) -> fmt::Result {
     if subs.is_empty() {
-        return f.write_str("(?:)");
+        return f.write_str(none);
     }
     for i in 0..subs.len() {
         if i > 0 {
@@ -120,15 +118,10 @@ fn write_all<W: fmt::Write>(
     Ok(())
 }
 
-/// Writes the class without bytes.
-fn write_none<W: fmt::Write>(f: &mut fmt::Formatter<W>) -> fmt::Result {
-    f.write_str("[^\\x00-\\xFF]")
-}
-
 /// Writes the bytes of a literal.
 fn write_literal<W: fmt::Write>(f: &mut fmt::Formatter<W>, bytes: &[u8]) -> fmt::Result {
     if bytes.is_empty() {
-        return f.write_str("(?:)");
+        return f.write_str(EMPTY);
     }
     for byte in bytes {
         write_byte(f, *byte)?;
@@ -136,27 +129,21 @@ fn write_literal<W: fmt::Write>(f: &mut fmt::Formatter<W>, bytes: &[u8]) -> fmt:
     Ok(())
 }
 
-/// Writes a class of bytes in brackets.
+/// Writes a class of bytes in brackets: each range as one byte, or two with a hyphen between them.
 fn write_class<W: fmt::Write>(f: &mut fmt::Formatter<W>, class: &ClassBytes) -> fmt::Result {
     let ranges = class.ranges();
     if ranges.is_empty() {
-        return write_none(f);
+        return f.write_str(NONE);
     }
     f.write_str("[")?;
     for range in ranges {
-        write_range(f, *range)?;
+        write_byte(f, range.start)?;
+        if range.start != range.end {
+            f.write_str("-")?;
+            write_byte(f, range.end)?;
+        }
     }
     f.write_str("]")
-}
-
-/// Writes a range of a class: one byte, or two with a hyphen between them.
-fn write_range<W: fmt::Write>(f: &mut fmt::Formatter<W>, range: ClassBytesRange) -> fmt::Result {
-    write_byte(f, range.start)?;
-    if range.start == range.end {
-        return Ok(());
-    }
-    f.write_str("-")?;
-    write_byte(f, range.end)
 }
 
 /// Writes a byte: escaped if it has a meaning in the syntax, and in hexadecimal if it is not
