@@ -41,8 +41,7 @@ pub fn push_chars(
         3,
         start.max(0x1_0000),
         end.min(0x11_0000),
-    )?;
-    Ok(())
+    )
 }
 
 /// Adds branches for the numbers from `start` on and below `end`, which are written with `count`
@@ -63,26 +62,24 @@ fn push_numbers(
         return Ok(());
     }
     let last = end - 1;
-    if count == 0 {
-        let byte = Pattern::range(alloc, lead + start as u8, lead + last as u8)?;
-        branches.push(byte)?;
-        return Ok(());
-    }
-    if let Some(cut) = cut(start, last) {
-        push_numbers(branches, alloc, lead, count, start, cut)?;
-        push_numbers(branches, alloc, lead, count, cut, end)?;
-        return Ok(());
-    }
-    let mut firsts = Vec::new(alloc);
-    push_numbers(
-        &mut firsts,
-        alloc,
-        lead,
-        count - 1,
-        start / 64,
-        last / 64 + 1,
-    )?;
-    let bytes = with_digit(alloc, one_of(firsts), start % 64, last % 64)?;
+    let bytes = if count == 0 {
+        Pattern::range(alloc, lead + start as u8, lead + last as u8)?
+    } else {
+        if let Some(cut) = cut(start, last) {
+            push_numbers(branches, alloc, lead, count, start, cut)?;
+            return push_numbers(branches, alloc, lead, count, cut, end);
+        }
+        let mut firsts = Vec::new(alloc);
+        push_numbers(
+            &mut firsts,
+            alloc,
+            lead,
+            count - 1,
+            start / 64,
+            last / 64 + 1,
+        )?;
+        with_digit(alloc, one_of(firsts), start % 64, last % 64)?
+    };
     branches.push(bytes)?;
     Ok(())
 }
