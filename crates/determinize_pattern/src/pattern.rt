@@ -1,7 +1,7 @@
 //! Patterns as values: what a regular expression says, without its text.
 
 ghost use Rattle.std.specs.Prelude.{◌≡◌, ◌∷◌, ◌<◌, ◌≤◌, None, Some, IfOk, IfSome, [], false, map, true};
-ghost use Rattle.determinize_pattern.specs.Classes.{HasBytes, is_chosen, pairs};
+ghost use Rattle.determinize_pattern.specs.Classes.{HasBytes, is_apart, is_chosen, pairs};
 ghost use Rattle.determinize_pattern.specs.Meaning as meanings;
 ghost use Rattle.determinize_pattern.specs.Patterns as patterns;
 ghost use Rattle.determinize_pattern.specs.Patterns.{IsClass, at_least, choice, meaning, repeated, sequence};
@@ -115,8 +115,7 @@ impl Pattern {
         requires { start ≤ end }
         ensures { IfOk result (λ p. meaning p ≡ meanings.Byte ((start, end) ∷ [])) }
     {
-        let class = ClassBytes::from_sorted(alloc, &[ClassBytesRange { start, end }])?;
-        Ok(Pattern::Class(class))
+        of_sorted(alloc, &[ClassBytesRange { start, end }])
     }
 
     /// Returns the pattern of a byte in one of the ranges, which may overlap and be in any order.
@@ -154,7 +153,7 @@ impl Pattern {
                 end: 122,
             },
         ];
-        Ok(Pattern::Class(ClassBytes::from_sorted(alloc, &ranges)?))
+        of_sorted(alloc, &ranges)
     }
 
     /// Returns the pattern of an ASCII white space byte, `[\t\n\v\f\r ]`.
@@ -165,7 +164,7 @@ impl Pattern {
             ClassBytesRange { start: 9, end: 13 },
             ClassBytesRange { start: 32, end: 32 },
         ];
-        Ok(Pattern::Class(ClassBytes::from_sorted(alloc, &ranges)?))
+        of_sorted(alloc, &ranges)
     }
 
     /// Returns the pattern of any byte but `\n`, as `.`.
@@ -179,7 +178,7 @@ impl Pattern {
                 end: 255,
             },
         ];
-        Ok(Pattern::Class(ClassBytes::from_sorted(alloc, &ranges)?))
+        of_sorted(alloc, &ranges)
     }
 
     /// Returns the pattern of any byte.
@@ -288,4 +287,14 @@ impl Pattern {
             sub,
         })
     }
+}
+
+/// Returns the pattern of a byte in one of the ranges, which are sorted and not empty, with a byte
+/// between any two.
+#[tactic(auto, using(crate::proofs::compiled::Patterns::meanings))]
+fn of_sorted(alloc: Global, ranges: &[ClassBytesRange]) -> Result<Pattern, AllocError>
+    requires { is_apart 0 (pairs ranges.now) ≡ true }
+    ensures { IfOk result (λ p. meaning p ≡ meanings.Byte (pairs ranges.now)) }
+{
+    Ok(Pattern::Class(ClassBytes::from_sorted(alloc, ranges)?))
 }
