@@ -2,7 +2,7 @@
 
 ghost use Rattle.std.specs.Prelude.{◌≡◌, ◌<◌, ◌+◌, IfErr, IfOk, OnErr, OnOk, [], ◌∷◌, length, replicate, slice_index, vec_len};
 ghost use Rattle.determinize_below.specs.Semantics as nodes;
-ghost use Rattle.determinize_nfa.specs.Builder.{closed, with_match, with_node};
+ghost use Rattle.determinize_nfa.specs.Builder.{closed, with_node};
 ghost use Rattle.determinize_pattern.specs.Classes.{pairs};
 ghost use Rattle.determinize_pattern.specs.Private.Compiling.{AddsEach, IsBranch, IsStart, Paid};
 ghost use Rattle.determinize_pattern.specs.Private.Entries as entries;
@@ -19,7 +19,7 @@ use std::alloc::Allocator;
 /// A builder of an NFA, and how many states and calls may still be made.
 #[derive(Drop)]
 pub struct Compiler<A: Allocator> {
-    alloc: A,
+    pub alloc: A,
     pub builder: Builder<A>,
     pub left: usize,
 }
@@ -38,13 +38,6 @@ impl<A: Allocator + Copy> Compiler<A> {
             builder,
             left: config.state_limit,
         }
-    }
-
-    /// Returns a list without ids.
-    pub fn no_ids(&self) -> Vec<StateID, A>
-        ensures { result.items ≡ [] }
-    {
-        Vec::new(self.alloc)
     }
 
     /// Returns a list of these ids.
@@ -111,30 +104,6 @@ impl<A: Allocator + Copy> Compiler<A> {
         Ok(self.builder.add_range(trans)?)
     }
 
-    /// Adds a state with these transitions, and returns its id.
-    pub fn sparse(&mut self, transitions: &[Transition]) -> Result<StateID, CompileError>
-        ensures id { IfOk result (λ id. id ≡ length self.old.builder.states) }
-        ensures added { OnOk result
-            (self.new.builder ≡ with_node self.old.builder (nodes.Sparse transitions.now)) }
-        ensures paid { OnOk result
-            (Paid self.old.builder self.old.left self.new.builder self.new.left) }
-    {
-        self.spend(1)?;
-        Ok(self.builder.add_sparse(transitions)?)
-    }
-
-    /// Adds a state with an assertion, and returns its id.
-    pub fn look(&mut self, look: Look, next: StateID) -> Result<StateID, CompileError>
-        ensures id { IfOk result (λ id. id ≡ length self.old.builder.states) }
-        ensures added { OnOk result
-            (self.new.builder ≡ with_node self.old.builder (nodes.Look look next)) }
-        ensures paid { OnOk result
-            (Paid self.old.builder self.old.left self.new.builder self.new.left) }
-    {
-        self.spend(1)?;
-        Ok(self.builder.add_look(next, look)?)
-    }
-
     /// Adds a union of these states, most preferred first, and returns its id.
     pub fn union(&mut self, alternates: &[StateID]) -> Result<StateID, CompileError>
         ensures id { IfOk result (λ id. id ≡ length self.old.builder.states) }
@@ -157,17 +126,6 @@ impl<A: Allocator + Copy> Compiler<A> {
     {
         self.spend(1)?;
         Ok(self.builder.add_fail()?)
-    }
-
-    /// Adds the match state of the next pattern, and returns its id.
-    pub fn match_state(&mut self) -> Result<StateID, CompileError>
-        ensures id { IfOk result (λ id. id ≡ length self.old.builder.states) }
-        ensures added { OnOk result (self.new.builder ≡ with_match self.old.builder) }
-        ensures paid { OnOk result
-            (Paid self.old.builder self.old.left self.new.builder self.new.left) }
-    {
-        self.spend(1)?;
-        Ok(self.builder.add_match()?)
     }
 
     /// Sets the alternates of the state of a loop, which was added without any.
@@ -211,7 +169,8 @@ impl<A: Allocator + Copy> Compiler<A> {
             (Paid self.old.builder self.old.left self.new.builder self.new.left) }
     {
         for k in 0..ids.len() {
-            ids[k] = self.look(look, ids[k])?;
+            self.spend(1)?;
+            ids[k] = self.builder.add_look(ids[k], look)?;
         }
         Ok(())
     }

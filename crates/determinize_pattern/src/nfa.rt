@@ -154,9 +154,10 @@ impl<A: Allocator + Copy> Compiler<A> {
         ensures paid { OnOk result
             (Paid self.old.builder self.old.left self.new.builder self.new.left) }
     {
-        let mut ids = self.no_ids();
+        let mut ids = Vec::new(self.alloc);
         for n in 0..count {
-            let id = self.match_state()?;
+            self.spend(1)?;
+            let id = self.builder.add_match()?;
             ids.push(id)?;
         }
         Ok(ids)
@@ -172,7 +173,7 @@ impl<A: Allocator + Copy> Compiler<A> {
         ensures paid { OnOk result
             (Paid self.old.builder self.old.left self.new.builder self.new.left) }
     {
-        let mut starts = self.no_ids();
+        let mut starts = Vec::new(self.alloc);
         for i in 0..patterns.len() {
             let mut ids = [matches[i]];
             self.part(&patterns[i], &mut ids)?;

@@ -77,18 +77,7 @@ impl<A: Allocator + Copy> Compiler<A> {
         if bytes.is_empty() {
             return Ok(());
         }
-        let entry = self.literal_to(bytes, ids[0])?;
-        set_each(ids, entry);
-        Ok(())
-    }
-
-    fn literal_to(&mut self, bytes: &[u8], next: StateID) -> Result<StateID, CompileError>
-        ensures begun { IfOk result
-            (λ s. IsBegun self.old.builder self.new.builder (patterns.literal bytes.now) next s) }
-        ensures paid { OnOk result
-            (Paid self.old.builder self.old.left self.new.builder self.new.left) }
-    {
-        let mut entry = next;
+        let mut entry = ids[0];
         for i in (0..bytes.len()).rev() {
             let byte = bytes[i];
             entry = self.range(Transition {
@@ -97,7 +86,8 @@ impl<A: Allocator + Copy> Compiler<A> {
                 next: entry,
             })?;
         }
-        Ok(entry)
+        set_each(ids, entry);
+        Ok(())
     }
 
     fn class(&mut self, class: &ClassBytes, ids: &mut [StateID]) -> Result<(), CompileError>
@@ -122,7 +112,10 @@ impl<A: Allocator + Copy> Compiler<A> {
         match transitions.len() {
             0 => self.fail(),
             1 => self.range(transitions[0]),
-            _ => self.sparse(&transitions),
+            _ => {
+                self.spend(1)?;
+                Ok(self.builder.add_sparse(&transitions)?)
+            }
         }
     }
 
@@ -192,7 +185,7 @@ impl<A: Allocator + Copy> Compiler<A> {
         ensures paid { OnOk result
             (Paid self.old.builder self.old.left self.new.builder self.new.left) }
     {
-        let mut starts = self.no_ids();
+        let mut starts = Vec::new(self.alloc);
         for i in 0..subs.len() {
             let mut ids = [next];
             self.part(&subs[i], &mut ids)?;

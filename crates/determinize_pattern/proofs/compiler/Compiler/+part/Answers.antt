@@ -80,7 +80,7 @@ alternation-returns-then-ids-eq1-clause-compiled g t c =
     only_compiled _ _ _ c.args.ids.now c.args.ids.now _ c.if-ids-eq1.true refl (rw first at c.in_ok-ids.ensures.begun)
 
 pub branches-loop-i-init : goal.branches-loop-i-init
-branches-loop-i-init g t c = (rw c.no_ids-starts.ensures (branches_none _ _), omega arith)
+branches-loop-i-init g t c = (rw c.new-starts.ensures.items (branches_none _ _), omega arith)
 
 pub branches-loop-i-preserved : goal.branches-loop-i-preserved
 branches-loop-i-preserved g t c =

@@ -1,5 +1,6 @@
-use Rattle.std.proofs.Common.{arith}
+use Rattle.std.proofs.Common.{ap, arith}
 use Rattle.determinize_pattern.proofs.compiled.Compiling.{class_none, class_one, ok_both, sparse_begun}
+use Rattle.determinize_pattern.proofs.compiled.Growing.{node_paid}
 use Rattle.determinize_pattern.proofs.compiler.Compiler.class_to.Goals as goal
 
 pub returns-in-0-clause-begun : goal.returns-in-0-clause-begun
@@ -13,6 +14,12 @@ returns-in-1-clause-begun g c = ok_both c.range.result c.range.ensures.id c.rang
     (rw c.ranges-2.ensures at c.in_ok-transitions.ensures) (omega arith) c.index.ensures e k)
 
 pub returns-clause-begun : goal.returns-clause-begun
-returns-clause-begun g c = ok_both c.sparse.result c.sparse.ensures.id c.sparse.ensures.added
-    (λ s e k. sparse_begun _ _ c.args.class.now c.args.next s e
-    (rw (c.deref.ensures.value, c.in_ok-transitions.ensures, c.ranges-2.ensures) at k))
+returns-clause-begun g c =
+    let kept = c.spend.ensures.kept in
+    sparse_begun _ _ c.args.class.now c.args.next _ (rw kept at c.in_ok-add_sparse-in_default.ensures.id)
+    (rw (kept, c.deref.ensures.value, c.in_ok-transitions.ensures, c.ranges-2.ensures)
+    at c.in_ok-add_sparse-in_default.ensures.added)
+
+pub returns-clause-paid : goal.returns-clause-paid
+returns-clause-paid g c = node_paid _ _ _ _ _ _ (ap (λ b. b.states) c.spend.ensures.kept)
+    c.in_ok-spend-in_default.ensures.spent (ap (λ b. b.states) c.in_ok-add_sparse-in_default.ensures.added)

@@ -9,7 +9,7 @@ use Rattle.determinize_pattern.proofs.compiled.Starting.{begins_all, begins_more
 use Rattle.determinize_pattern.proofs.compiler.Compiler.start.Goals as goal
 
 pub loop-i-init : goal.loop-i-init
-loop-i-init g c = (rw c.no_ids-starts.ensures (begins_none _ _), omega arith)
+loop-i-init g c = (rw c.new-starts.ensures.items (begins_none _ _), omega arith)
 
 pub loop-i-preserved : goal.loop-i-preserved
 loop-i-preserved g c =
