@@ -1,5 +1,5 @@
 -- Sets of bytes and ranges that have them.
--- Main statements: class_of, in_some, has_more, kind_class.
+-- Main statements: class_of, in_either, has_more, kind_class.
 -- Used by: the proofs of classes and of brackets.
 -- Idea: one more range adds its bytes.
 use Rattle.determinize_syntax.proofs.Common.{◌&&◌, ◌++◌, ◌+◌, ◌<◌, ◌==◌, ◌||◌, ◌∙◌, ◌∷◌, ◌≡◌, ◌≤◌, ◌⊎◌, Bool}
@@ -12,10 +12,20 @@ use Rattle.determinize_syntax.proofs.Common.{turned, within, ℕ}
 pub class_of : (s t : Set) (re : Re) → IsClass s re → ((b : ℕ) → b < 256 → s b ≡ t b) → IsClass t re
 class_of s t re h same = (h.0, h.1, λ b small. h.2 b small ∙ same b small)
 
-pub in_some : (ranges : List ClassBytesRange) (b : ℕ)
-    → list_any (λ (r : ClassBytesRange). within r.start r.end b) ranges ≡ has ranges b
-in_some [] b = refl
-in_some (r ∷ rs) b = ap (λ x. within r.start r.end b || x) (in_some rs b)
+-- whether a range has one of two bytes
+abbrev pub has_either : ℕ → ℕ → ClassBytesRange → Bool
+has_either a b r = within r.start r.end a || within r.start r.end b
+
+pub in_either : (ranges : List ClassBytesRange) (a b : ℕ)
+    → list_any (has_either a b) ranges ≡ (has ranges a || has ranges b)
+in_either [] a b = refl
+in_either (r ∷ rs) a b = ap (λ x. has_either a b r || x) (in_either rs a b)
+    ∙ swap (within r.start r.end a) (within r.start r.end b) (has rs a) (has rs b) where
+      swap : (w x y z : Bool) → ((w || x) || (y || z)) ≡ ((w || y) || (x || z))
+      swap true x y z = refl
+      swap false true true z = refl
+      swap false true false z = refl
+      swap false false y z = refl
 
 pub has_more : (ranges more : List ClassBytesRange) (b : ℕ) → has (ranges ++ more) b ≡ (has ranges b || has more b)
 has_more [] more b = refl

@@ -1,8 +1,6 @@
 //! Classes of bytes, with both cases of letters, and of characters.
 
 ghost use Rattle.std.specs.Prelude.{◌≡◌, IfOk, true};
-ghost use Rattle.std.specs.List.{list_any};
-ghost use Rattle.determinize_below.specs.Semantics.{within};
 ghost use Rattle.determinize_pattern.specs.Classes.{HasBytes, is_chosen, pairs};
 ghost use Rattle.determinize_pattern.specs.Meaning as meanings;
 ghost use Rattle.determinize_pattern.specs.Patterns.{meaning};
@@ -111,17 +109,15 @@ fn with_cases(alloc: Global, ranges: &[ClassBytesRange]) -> Result<Vec<ClassByte
     Ok(cases)
 }
 
-/// Returns whether one case of the byte is in the ranges.
+/// Returns whether one case of the byte is in one of the ranges.
 fn has_case(ranges: &[ClassBytesRange], byte: u8) -> bool
     ensures { result ≡ either_case (has ranges.now) byte }
 {
     let (lower, upper) = (byte.to_ascii_lowercase(), byte.to_ascii_uppercase());
-    is_in_some(ranges, lower) || is_in_some(ranges, upper)
-}
-
-/// Returns whether the byte is in one of the ranges.
-fn is_in_some(ranges: &[ClassBytesRange], byte: u8) -> bool
-    ensures { result ≡ list_any (λ r. within r.start r.end byte) ranges.now }
-{
-    ranges.iter().any(|range| range.contains(byte))
+    for range in ranges {
+        if range.contains(lower) || range.contains(upper) {
+            return true;
+        }
+    }
+    false
 }

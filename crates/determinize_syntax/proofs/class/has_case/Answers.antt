@@ -1,21 +1,26 @@
-use Rattle.determinize_syntax.proofs.Common.{◌||◌, ◌∙◌, ◌≡◌, ap, false, has, sym, to_ascii_lowercase}
-use Rattle.determinize_syntax.proofs.Common.{to_ascii_uppercase, true}
-use Rattle.determinize_syntax.proofs.Classes.{in_some}
+use Rattle.determinize_syntax.proofs.Common.{◌∙◌, ◌≡◌, arith, list_any, sym, true}
+use Rattle.std.proofs.lemmas.Grind.{common_steps}
+use Rattle.std.proofs.lemmas.List.{take_all}
+use Rattle.determinize_syntax.proofs.Classes.{has_either, in_either}
+use Rattle.determinize_syntax.proofs.class.has_case.Goals.{then-contains-via-else-contains+then-contains-2}
+use Rattle.determinize_syntax.proofs.class.has_case.Goals.{then-contains-via-then-contains}
 use Rattle.determinize_syntax.proofs.class.has_case.Goals as goal
 
-pub returns-then-is_in_some : goal.returns-then-is_in_some
-returns-then-is_in_some c =
-    let r = c.args.ranges.now in
-    let hit : has r (to_ascii_lowercase c.args.byte) ≡ true = ap (has r) (sym c.to_ascii_lowercase-lower.ensures.value)
-    ∙ sym (in_some r c.to_ascii_lowercase-lower.result) ∙ sym c.is_in_some.ensures ∙ c.if-is_in_some.true in
-    c.if-is_in_some.true ∙ sym (ap (λ x. x || has r (to_ascii_uppercase c.args.byte)) hit)
+pub returns-then-contains : goal.returns-then-contains
+returns-then-contains c =
+    let ranges = c.args.ranges.now in
+    let lower = c.to_ascii_lowercase-lower in
+    let upper = c.to_ascii_uppercase-upper in
+    let some : list_any (has_either lower.result upper.result) ranges ≡ true = elim c.then-contains.branch [
+      | then-contains-via-then-contains w ↦ grind (arith, common_steps, c.contains.ensures, w.if-contains.true)
+      | then-contains-via-else-contains+then-contains-2 w ↦
+          grind (arith, common_steps, w.contains-else-contains.ensures, w.if-contains-2.true)
+    ] in
+    rw (← lower.ensures.value, ← upper.ensures.value) (sym (sym (in_either ranges _ _) ∙ some))
 
-pub returns-else-is_in_some : goal.returns-else-is_in_some
-returns-else-is_in_some c =
-    let r = c.args.ranges.now in
-    let miss : has r (to_ascii_lowercase c.args.byte) ≡ false =
-    ap (has r) (sym c.to_ascii_lowercase-lower.ensures.value)
-    ∙ sym (in_some r c.to_ascii_lowercase-lower.result) ∙ sym c.is_in_some.ensures ∙ c.if-is_in_some.false in
-    c.is_in_some-else-is_in_some.ensures ∙ in_some r c.to_ascii_uppercase-upper.result
-    ∙ ap (has r) c.to_ascii_uppercase-upper.ensures.value
-    ∙ sym (ap (λ x. x || has r (to_ascii_uppercase c.args.byte)) miss)
+pub returns : goal.returns
+returns c =
+    let ranges = c.args.ranges.now in
+    let none = rw (take_all c.loop-range.range-index ranges (omega arith)) at c.loop-range.invariant in
+    rw (← c.to_ascii_lowercase-lower.ensures.value, ← c.to_ascii_uppercase-upper.ensures.value)
+    (sym (sym (in_either ranges _ _) ∙ none))
