@@ -1,6 +1,6 @@
 //! What follows a backslash.
 
-ghost use Rattle.std.specs.Prelude.{◌≡◌, ◌*◌, ◌+◌, ◌<◌, ◌≤◌, ◌++◌, ◌∷◌, [], ℕ, IfErr, IfNone, IfOk, IfSome, List, OnErr, OnOk, OnSome, Some, codes, false, length, slice_get, true};
+ghost use Rattle.std.specs.Prelude.{◌≡◌, ◌*◌, ◌+◌, ◌<◌, ◌≤◌, ◌++◌, ◌∷◌, ℕ, IfErr, IfNone, IfOk, IfSome, List, OnErr, OnOk, OnSome, Some, codes, false, length, slice_get, true};
 ghost use Rattle.std.specs.Char.{is_digit};
 ghost use Rattle.std.specs.List.{list_all};
 ghost use Rattle.determinize_syntax.specs.Private.Following.{IsPastBoundary, MayPrecede, Unlimited};
@@ -11,12 +11,12 @@ ghost use Rattle.determinize_syntax.specs.Private.Letters.{AtEscape, AtNumber};
 ghost use Rattle.determinize_syntax.specs.Private.Reading as reading;
 ghost use Rattle.determinize_syntax.specs.Private.Reading.{IsDigit, IsDigits, IsEscape, Part, Reads, is_available, rest};
 ghost use Rattle.determinize_syntax.specs.Words as words;
-ghost use Rattle.determinize_syntax.specs.Words.{◌∈◌, escaped_byte, number};
+ghost use Rattle.determinize_syntax.specs.Words.{number};
 
 use crate::cursor::Cursor;
 use crate::error::{ErrorKind, ParseError};
 use crate::flags::Flags;
-use crate::kind::{ClassKind, perl_kind};
+use crate::kind::ClassKind;
 use determinize_below::Look;
 
 /// What an escape denotes.
@@ -95,53 +95,31 @@ fn unrecognized(cursor: &Cursor<'_>, start: usize, next: u8) -> ParseError
     ParseError::new(kind, start, here.end)
 }
 
-/// Returns the byte that a backslash and this one denote.
-fn escaped(byte: u8) -> Option<u8>
-    ensures { result ≡ escaped_byte byte }
-{
-    match byte {
-        b'a' => Some(7),
-        b't' => Some(9),
-        b'n' => Some(10),
-        b'v' => Some(11),
-        b'f' => Some(12),
-        b'r' => Some(13),
-        b'<' | b'>' => None,
-        _ if byte.is_ascii() && !byte.is_ascii_alphanumeric() => Some(byte),
-        _ => None,
-    }
-}
-
-/// Returns the assertion of a backslash and the byte, but for `\b`.
-fn look_of(byte: u8) -> Option<Look>
-    ensures some { IfSome result (λ l. (words.assertion (byte ∷ []) ≡ Some l)
-        × (byte ∈ "AzB<>" ≡ true)) }
-    ensures none { IfNone result (byte ∈ "AzB<>" ≡ false) }
-{
-    match byte {
-        b'A' => Some(Look::Start),
-        b'z' => Some(Look::End),
-        b'B' => Some(Look::WordAsciiNegate),
-        b'<' => Some(Look::WordStartAscii),
-        b'>' => Some(Look::WordEndAscii),
-        _ => None,
-    }
-}
-
 /// Returns the escape of a backslash and one byte, which is not `x` or `b`.
 fn one_byte(byte: u8) -> Option<Escape>
     ensures { result ≡ reading.one_byte byte }
 {
-    if let Some(look) = look_of(byte) {
-        return Some(Escape::Look(look));
+    match byte {
+        b'A' => Some(Escape::Look(Look::Start)),
+        b'z' => Some(Escape::Look(Look::End)),
+        b'B' => Some(Escape::Look(Look::WordAsciiNegate)),
+        b'<' => Some(Escape::Look(Look::WordStartAscii)),
+        b'>' => Some(Escape::Look(Look::WordEndAscii)),
+        b'd' => Some(Escape::Class(ClassKind::Digit, false)),
+        b'D' => Some(Escape::Class(ClassKind::Digit, true)),
+        b's' => Some(Escape::Class(ClassKind::Space, false)),
+        b'S' => Some(Escape::Class(ClassKind::Space, true)),
+        b'w' => Some(Escape::Class(ClassKind::Word, false)),
+        b'W' => Some(Escape::Class(ClassKind::Word, true)),
+        b'a' => Some(Escape::Byte(7)),
+        b't' => Some(Escape::Byte(9)),
+        b'n' => Some(Escape::Byte(10)),
+        b'v' => Some(Escape::Byte(11)),
+        b'f' => Some(Escape::Byte(12)),
+        b'r' => Some(Escape::Byte(13)),
+        _ if byte.is_ascii() && !byte.is_ascii_alphanumeric() => Some(Escape::Byte(byte)),
+        _ => None,
     }
-    if let Some((kind, negated)) = perl_kind(byte) {
-        return Some(Escape::Class(kind, negated));
-    }
-    if let Some(escaped) = escaped(byte) {
-        return Some(Escape::Byte(escaped));
-    }
-    None
 }
 
 /// Reads the rest of a boundary after `\b`.

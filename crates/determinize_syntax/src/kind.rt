@@ -2,7 +2,7 @@
 
 ghost use Rattle.std.specs.Prelude.{◌≡◌, IfNone, IfOk, IfSome, None, Some, true};
 ghost use Rattle.determinize_pattern.specs.Classes.{HasBytes, pairs};
-ghost use Rattle.determinize_syntax.specs.Private.Sets.{name_of, perl_of, set_of, turned};
+ghost use Rattle.determinize_syntax.specs.Private.Sets.{name_of, set_of, turned};
 ghost use Rattle.determinize_syntax.specs.Words.{folded, is_text, named_class};
 
 use crate::class::class;
@@ -130,20 +130,5 @@ impl ClassKind {
     {
         let members = self.members(alloc)?;
         class(alloc, &members, flags, negated)
-    }
-}
-
-/// Returns the class of a backslash and the letter, as `\d`, and whether it has all other bytes.
-pub fn perl_kind(letter: u8) -> Option<(ClassKind, bool)>
-    ensures { result ≡ perl_of letter }
-{
-    match letter {
-        b'd' => Some((ClassKind::Digit, false)),
-        b'D' => Some((ClassKind::Digit, true)),
-        b's' => Some((ClassKind::Space, false)),
-        b'S' => Some((ClassKind::Space, true)),
-        b'w' => Some((ClassKind::Word, false)),
-        b'W' => Some((ClassKind::Word, true)),
-        _ => None,
     }
 }
