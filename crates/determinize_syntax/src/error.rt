@@ -234,7 +234,7 @@ impl fmt::Display for Marked<'_> {
 }
 
 /// Writes the line, and below it a line with carets under the characters from `start` to before
-/// `end`.
+/// `end`, at least one.
 fn write_marked<W: fmt::Write>(
     f: &mut fmt::Formatter<W>,
     line: &str,
@@ -243,27 +243,14 @@ fn write_marked<W: fmt::Write>(
 ) -> fmt::Result {
     f.write_str(line)?;
     f.write_str("\n")?;
-    write_carets(f, line, start, end)
-}
-
-/// Writes a line with carets under the characters from `start` to before `end`, at least one.
-fn write_carets<W: fmt::Write>(
-    f: &mut fmt::Formatter<W>,
-    line: &str,
-    start: usize,
-    end: usize,
-) -> fmt::Result {
     let last = end.max(start.saturating_add(1));
-    let mut at = 0_usize;
-    for character in line.chars() {
+    for (at, _) in line.char_indices() {
         if at >= last {
             break;
         }
-        let mark = if at < start { " " } else { "^" };
-        f.write_str(mark)?;
-        at = at.saturating_add(character.len_utf8());
+        f.write_str(if at < start { " " } else { "^" })?;
     }
-    if at <= start {
+    if line.len() <= start {
         f.write_str("^")?;
     }
     f.write_str("\n")
