@@ -6,7 +6,6 @@ ghost use Rattle.determinize_syntax.specs.Private.Following.{FromAtom, FromItem,
 ghost use Rattle.determinize_syntax.specs.declared.error.ErrorKind.TheVariants.{GroupNameDuplicate, NestLimitExceeded};
 ghost use Rattle.determinize_syntax.specs.declared.flags.Flags.{Flags};
 ghost use Rattle.determinize_syntax.specs.declared.parser.TheConstants.{NEST_LIMIT};
-ghost use Rattle.determinize_below.specs.declared.look.Look.TheVariants as looks;
 ghost use Rattle.determinize_pattern.specs.Meaning as meanings;
 ghost use Rattle.determinize_pattern.specs.Characters.{IsCharClass};
 ghost use Rattle.determinize_pattern.specs.Patterns.{IsClass, choice_of, literal, meaning, repeated};
@@ -310,9 +309,10 @@ fn sign(alloc: Global, byte: u8, flags: Flags) -> Result<Pattern, AllocError>
     ensures { IfOk result (λ p. Atom flags (meaning p) (byte ∷ [])) }
 {
     match byte {
-        b'^' => Ok(line_start(flags)),
-        b'$' => Ok(line_end(flags)),
-        _ => dot(alloc, flags),
+        b'^' => Ok(line(flags, Look::Start, Look::StartLF, Look::StartCRLF)),
+        b'$' => Ok(line(flags, Look::End, Look::EndLF, Look::EndCRLF)),
+        _ if flags.unicode => dot_of_characters(alloc, flags),
+        _ => dot_of_bytes(alloc, flags),
     }
 }
 
@@ -414,40 +414,16 @@ fn assertion(look: Look) -> Pattern
     Pattern::Look(look)
 }
 
-/// Returns the pattern of `^`.
-fn line_start(flags: Flags) -> Pattern
-    ensures { meaning result
-        ≡ meanings.Look (at_line flags looks.Start looks.StartLF looks.StartCRLF) }
+/// Returns the pattern of `^` or `$`, of which `whole` is the assertion without flags, and `lf` and
+/// `crlf` are those of lines.
+fn line(flags: Flags, whole: Look, lf: Look, crlf: Look) -> Pattern
+    ensures { meaning result ≡ meanings.Look (at_line flags whole lf crlf) }
 {
-    let look = match (flags.multi_line, flags.crlf) {
-        (false, _) => Look::Start,
-        (true, false) => Look::StartLF,
-        (true, true) => Look::StartCRLF,
-    };
-    Pattern::Look(look)
-}
-
-/// Returns the pattern of `$`.
-fn line_end(flags: Flags) -> Pattern
-    ensures { meaning result ≡ meanings.Look (at_line flags looks.End looks.EndLF looks.EndCRLF) }
-{
-    let look = match (flags.multi_line, flags.crlf) {
-        (false, _) => Look::End,
-        (true, false) => Look::EndLF,
-        (true, true) => Look::EndCRLF,
-    };
-    Pattern::Look(look)
-}
-
-/// Returns the pattern of `.`.
-fn dot(alloc: Global, flags: Flags) -> Result<Pattern, AllocError>
-    ensures { IfOk result (λ p. IsOneOf flags.unicode (dot_set flags) (meaning p)) }
-{
-    if flags.unicode {
-        dot_of_characters(alloc, flags)
-    } else {
-        dot_of_bytes(alloc, flags)
-    }
+    assertion(match (flags.multi_line, flags.crlf) {
+        (false, _) => whole,
+        (true, false) => lf,
+        (true, true) => crlf,
+    })
 }
 
 /// Returns the pattern of `.` where `u` holds.
@@ -517,20 +493,13 @@ fn byte(alloc: Global, byte: u8, flags: Flags) -> Result<Pattern, AllocError>
     ensures { IfOk result (λ p. IsClass (folded flags (only byte)) (meaning p)) }
 {
     if flags.case_insensitive && byte.is_ascii_alphabetic() {
-        return both_cases(alloc, byte, flags);
+        let range = ClassBytesRange {
+            start: byte,
+            end: byte,
+        };
+        return Ok(of_class(class(alloc, &[range], flags, false)?));
     }
     Pattern::range(alloc, byte, byte)
-}
-
-/// Returns the pattern of both cases of a letter.
-fn both_cases(alloc: Global, byte: u8, flags: Flags) -> Result<Pattern, AllocError>
-    ensures { IfOk result (λ p. IsClass (folded flags (only byte)) (meaning p)) }
-{
-    let range = ClassBytesRange {
-        start: byte,
-        end: byte,
-    };
-    Ok(of_class(class(alloc, &[range], flags, false)?))
 }
 
 /// Returns the pattern of the bytes of a character.

@@ -1,10 +1,10 @@
 use Rattle.determinize_syntax.proofs.Common.{[], false, only, ◌∷◌}
 use Rattle.determinize_syntax.proofs.Characters.{has_one}
 use Rattle.determinize_syntax.proofs.Classes.{kind_class}
-use Rattle.determinize_syntax.proofs.parser.both_cases.Goals as goal
+use Rattle.determinize_syntax.proofs.parser.byte.Goals as goal
 
-pub returns : goal.returns
-returns c =
+pub returns-then-is_ascii_alphabetic : goal.returns-then-is_ascii_alphabetic
+returns-then-is_ascii_alphabetic c =
     let b = c.args.byte in (
       c.in_ok-class.field-0,
       c.of_class.ensures,
