@@ -242,23 +242,22 @@ impl Items {
         let Some(next) = cursor.peek() else {
             return Err(self.unclosed());
         };
-        if !next.is_ascii() {
-            let character = wide(cursor, flags)?;
-            self.last = place;
-            self.add_escaped(character)?;
-            return Ok(());
-        }
-        if !stands(self.before, next) {
-            return Err(ParseError::new(
-                ErrorKind::ClassOperation,
-                self.last,
-                cursor.error_here(ErrorKind::ClassOperation).end,
-            ));
-        }
-        cursor.pass();
+        let ascii = next.is_ascii();
+        let character = if ascii {
+            if !stands(self.before, next) {
+                return Err(ParseError::new(
+                    ErrorKind::ClassOperation,
+                    self.last,
+                    cursor.error_here(ErrorKind::ClassOperation).end,
+                ));
+            }
+            cursor.pass();
+            char::from(next)
+        } else {
+            wide(cursor, flags)?
+        };
         self.last = place;
-        let character = char::from(next);
-        self.add(character, character, Before::AfterOne(false, character))?;
+        self.add(character, character, Before::AfterOne(!ascii, character))?;
         Ok(())
     }
 
