@@ -139,15 +139,6 @@ impl Items {
         Ok(())
     }
 
-    /// Adds a character that is escaped or beyond ASCII.
-    fn add_escaped(&mut self, character: char) -> Result<(), AllocError>
-        ensures ranges { OnOk result (char_pairs self.new.ranges.items
-            ≡ char_pairs self.old.ranges.items ++ (character, character) ∷ []) }
-        ensures before { OnOk result (self.new.before ≡ AfterOne true character) }
-    {
-        self.add(character, character, Before::AfterOne(true, character))
-    }
-
     /// Adds the characters of the class, under `i` in both cases, or all others if `negated` is
     /// set.
     fn add_class(
@@ -278,9 +269,9 @@ impl Items {
     {
         let escape = read_escape(cursor, place)?;
         self.last = place;
-        match escape {
-            Escape::Byte(byte) => self.add_escaped(char::from(byte))?,
-            Escape::Wide(character) if flags.unicode => self.add_escaped(character)?,
+        let character = match escape {
+            Escape::Byte(byte) => char::from(byte),
+            Escape::Wide(character) if flags.unicode => character,
             Escape::Wide(_) => {
                 return Err(cursor.error_since(place, ErrorKind::UnicodeNotAllowed));
             }
@@ -289,9 +280,11 @@ impl Items {
             }
             Escape::Class(kind, negated) => {
                 self.add_class(alloc, kind, Flags::new(), negated, Before::AfterClass)?;
+                return Ok(());
             }
             Escape::Look(_) => return Err(self.assertion_error(cursor, flags)),
-        }
+        };
+        self.add(character, character, Before::AfterOne(true, character))?;
         Ok(())
     }
 
