@@ -95,7 +95,7 @@ pub(crate) fn write_starts<N: Allocator, A: Allocator + Copy, W: fmt::Write>(
     write!(f, "  {name} [shape=plaintext];\n")?;
     let targets = starts(dfa, is_anchored);
     let first = targets[NO_BYTE];
-    if targets.iter().any(|target| *target != first) {
+    if targets != [first; UNITS] {
         return write_edges(f, &name, &targets, "after ", "nothing");
     }
     match first {
