@@ -38,7 +38,7 @@ pub(crate) fn write_edges<W: fmt::Write>(
         if !targets[..unit].contains(target) {
             write!(f, "  {from} -> {to} [label=\"{behind}")?;
             write_units(f, targets, to, no_byte)?;
-            write!(f, "\"];\n")?;
+            f.write_str("\"];\n")?;
         }
     }
     Ok(())
@@ -60,14 +60,15 @@ fn write_units<W: fmt::Write>(
         let start = first.unwrap_or(byte);
         first = Some(start);
         if byte == u8::MAX || targets[usize::from(byte) + 1] != Some(target) {
-            write!(f, "{separator}")?;
+            f.write_str(separator)?;
             write_range(f, start, byte)?;
             separator = ", ";
             first = None;
         }
     }
     if targets[NO_BYTE] == Some(target) {
-        write!(f, "{separator}{no_byte}")?;
+        f.write_str(separator)?;
+        f.write_str(no_byte)?;
     }
     Ok(())
 }
@@ -80,7 +81,7 @@ pub(crate) fn write_range<W: fmt::Write>(
 ) -> fmt::Result {
     write_byte(f, start)?;
     if start != end {
-        write!(f, "-")?;
+        f.write_str("-")?;
         write_byte(f, end)?;
     }
     Ok(())
@@ -89,9 +90,9 @@ pub(crate) fn write_range<W: fmt::Write>(
 /// Writes a byte as its sign in ASCII, or in hexadecimal, as `\x0a`. So are written the signs that
 /// a label uses, and those that Graphviz does not show as they are.
 fn write_byte<W: fmt::Write>(f: &mut fmt::Formatter<W>, byte: u8) -> fmt::Result {
-    match byte {
-        b'"' | b',' | b'-' | b'\\' => write!(f, "\\\\x{byte:02x}"),
-        b'!'..=b'~' => write!(f, "{}", char::from(byte)),
-        _ => write!(f, "\\\\x{byte:02x}"),
+    if byte.is_ascii_graphic() && !matches!(byte, b'"' | b',' | b'-' | b'\\') {
+        f.write_char(char::from(byte))
+    } else {
+        write!(f, "\\\\x{byte:02x}")
     }
 }
