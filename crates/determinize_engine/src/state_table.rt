@@ -27,10 +27,19 @@ const ENTRY: usize = 2 * size_of::<State>() + size_of::<usize>();
 pub const MAX_STATES: usize = u32::MAX as usize / 258;
 
 /// States of which no two are equal, with a map from a state to its index.
-#[derive(Drop)]
 pub struct StateTable<A: Allocator = Global> {
     states: Vec<State<A>, A>,
     indices: HashMap<State<A>, usize, BuildHasherDefault<FoldHasher>, A>,
+}
+
+// Derived code is proved again in each crate that drops a table.
+impl<A: Allocator> Drop for StateTable<A> {
+    fn drop(self) {
+        let StateTable {
+            states: _,
+            indices: _,
+        } = self;
+    }
 }
 
 impl<A: Allocator> Model for StateTable<A> {

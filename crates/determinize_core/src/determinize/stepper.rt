@@ -25,7 +25,6 @@ use std::mem::size_of;
 ///
 /// The first `start` or `next` allocates the sets. An error drops the builder's memory, and a state
 /// of `next_lent` takes it along. In contracts a stepper is its NFA and its match kind.
-#[derive(Drop)]
 pub struct Stepper<'n, N: Allocator = Global, A: Allocator = Global> {
     alloc: A,
     nfa: &'n NFA<N>,
@@ -33,6 +32,20 @@ pub struct Stepper<'n, N: Allocator = Global, A: Allocator = Global> {
     sparses: Option<SparseSets<A>>,
     stack: Vec<StateID, A>,
     empty_builder: StateBuilderEmpty<A>,
+}
+
+// Derived code is proved again in each crate that drops a stepper.
+impl<'n, N: Allocator, A: Allocator> Drop for Stepper<'n, N, A> {
+    fn drop(self) {
+        let Stepper {
+            alloc: _,
+            nfa: _,
+            match_kind: _,
+            sparses: _,
+            stack: _,
+            empty_builder: _,
+        } = self;
+    }
 }
 
 impl<'n, N: Allocator, A: Allocator> Model for Stepper<'n, N, A> {

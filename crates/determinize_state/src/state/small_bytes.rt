@@ -25,9 +25,15 @@ enum Form<A: Allocator> {
 }
 
 /// An immutable list of bytes.
-#[derive(Drop)]
 pub(crate) struct SmallBytes<A: Allocator> {
     form: Form<A>,
+}
+
+// Derived code is proved again in each crate that drops a state.
+impl<A: Allocator> Drop for SmallBytes<A> {
+    fn drop(self) {
+        let SmallBytes { form: _ } = self;
+    }
 }
 
 impl<A: Allocator> Model for SmallBytes<A> {
@@ -77,7 +83,8 @@ impl<A: Allocator> SmallBytes<A> {
     pub(crate) fn into_vec(self) -> Result<Vec<u8, A>, A>
         ensures { IfOk result (λ bytes. bytes.items ≡ self) }
     {
-        match self.form {
+        let SmallBytes { form } = self;
+        match form {
             Form::Short { alloc, .. } => Err(alloc),
             Form::Long(bytes) => Ok(bytes),
         }
