@@ -17,7 +17,7 @@ ghost use Rattle.std.specs.Option.{IfNone, IfSome};
 ghost use Rattle.determinize_lazy.specs.CachedSearches.{IsCutOffIn, after_input, after_is_match};
 
 use crate::lazy::Lazy;
-use crate::view::{CachedPosition, Reached, View};
+use crate::view::{CachedPosition, Reached, View, start_for};
 use determinize_below::{HalfMatch, Input, MatchKind, NFA, StateID};
 use determinize_core::determinize::Stepper;
 use determinize_engine::engine::Engine;
@@ -70,15 +70,6 @@ impl<N: Allocator, A: Allocator> Model for OwnedLazy<N, A> {
 }
 
 impl<A: Allocator + Copy> Kept<A> {
-    /// Returns a cache in which nothing is kept.
-    fn new(alloc: A) -> Kept<A> {
-        Kept {
-            table: TransitionTable::new(alloc),
-            computed: 0,
-            spans: None,
-        }
-    }
-
     /// Returns a lazy DFA that continues with this cache.
     fn lent<'n, N: Allocator>(
         self,
@@ -277,31 +268,16 @@ impl<N: Allocator, A: Allocator + Copy> OwnedLazy<N, A> {
         requires reached { IsShort earliest self.old start text.now reached }
         ensures { IsOverText earliest (cache self.old) start text.now result (cache self.new) }
     {
-        let kept = mem::replace(&mut self.kept, Kept::new(self.alloc));
+        let empty = Kept {
+            table: TransitionTable::new(self.alloc),
+            computed: 0,
+            spans: None,
+        };
+        let kept = mem::replace(&mut self.kept, empty);
         let mut lazy = kept.lent(self.alloc, &self.nfa, self.match_kind, self.limit);
         let found = lazy.search_rest(reached, start, text, earliest);
         self.kept = lazy.into_kept();
         found
-    }
-
-    /// Continues a search as `search_rest` does.
-    ///
-    /// Lends `search_rest` a copy of the text, so that a search that only reads the cache keeps its
-    /// text in registers.
-    #[inline(always)]
-    fn search_on(
-        &mut self,
-        reached: Option<CachedPosition>,
-        start: StateID,
-        text: &Text<'_>,
-        earliest: bool,
-    ) -> Result<Option<HalfMatch>, AllocError>
-        requires start { start < length self.old.nfa.states }
-        requires reached { IsShort earliest self.old start text.now reached }
-        ensures { IsOverText earliest (cache self.old) start text.now result (cache self.new) }
-    {
-        let text = text.copied();
-        self.search_rest(reached, start, &text, earliest)
     }
 
     /// Searches a text, as `Lazy` does. If the cache is only read, it is not moved.
@@ -319,7 +295,8 @@ impl<N: Allocator, A: Allocator + Copy> OwnedLazy<N, A> {
     {
         match self.view().search_text(start, text, earliest) {
             Reached::End(found) => Ok(found),
-            Reached::Short(reached) => self.search_on(reached, start, text, earliest),
+            // A copy, so that a search that only reads the cache keeps its text in registers.
+            Reached::Short(reached) => self.search_rest(reached, start, &text.copied(), earliest),
         }
     }
 
@@ -337,7 +314,7 @@ impl<N: Allocator, A: Allocator + Copy> OwnedLazy<N, A> {
             result (cache self.new) }
         ensures sound { IsSound (cache self.old) }
     {
-        let start = self.view().start_for(input.get_anchored());
+        let start = start_for(&self.nfa, input.get_anchored());
         // In each of the two the direction of the text is a constant.
         if self.nfa.is_reverse() {
             self.search_text(start, &Text::of_input(input, true), earliest)

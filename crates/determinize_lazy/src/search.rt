@@ -30,7 +30,7 @@ ghost use Rattle.determinize_engine.specs.Searches.{HasMatch, IsSearch, IsSearch
 ghost use Rattle.determinize_lazy.specs.CachedSearches.{IsCutOffIn, IsPlenty, IsPlentyIn, after_input, after_is_match, after_search, units_searched};
 
 use crate::lazy::Lazy;
-use crate::view::{CachedPosition, Reached};
+use crate::view::{CachedPosition, Reached, start_for};
 use determinize_below::{HalfMatch, Input, StateID};
 use determinize_engine::text::{Text, in_haystack};
 use determinize_table::{Cursor, LastMatch};
@@ -207,26 +207,6 @@ impl<'n, N: Allocator, A: Allocator + Copy> Lazy<'n, N, A> {
         }
     }
 
-    /// Continues a search as `search_rest` does.
-    ///
-    /// Lends `search_rest` a copy of the text, so that a search that only reads the cache keeps its
-    /// text in registers.
-    #[inline(always)]
-    fn search_on(
-        &mut self,
-        reached: Option<CachedPosition>,
-        start: StateID,
-        text: &Text<'_>,
-        earliest: bool,
-    ) -> Result<Option<HalfMatch>, AllocError>
-        requires start { start < length self.old.nfa.states }
-        requires reached { IsShort earliest self.old start text.now reached }
-        ensures { IsOverText earliest (cache self.old) start text.now result (cache self.new) }
-    {
-        let text = text.copied();
-        self.search_rest(reached, start, &text, earliest)
-    }
-
     /// Searches a text from the start state of a walk over it. If the id of that state is kept and
     /// all transitions are cached, the cache is only read.
     #[inline(always)]
@@ -243,7 +223,8 @@ impl<'n, N: Allocator, A: Allocator + Copy> Lazy<'n, N, A> {
     {
         match self.view().search_text(start, text, earliest) {
             Reached::End(found) => Ok(found),
-            Reached::Short(reached) => self.search_on(reached, start, text, earliest),
+            // A copy, so that a search that only reads the cache keeps its text in registers.
+            Reached::Short(reached) => self.search_rest(reached, start, &text.copied(), earliest),
         }
     }
 
@@ -262,10 +243,11 @@ impl<'n, N: Allocator, A: Allocator + Copy> Lazy<'n, N, A> {
             result (cache self.new) }
         ensures sound { IsSound (cache self.old) }
     {
-        let start = self.view().start_for(input.get_anchored());
+        let nfa = self.nfa();
+        let start = start_for(nfa, input.get_anchored());
         // Each has the direction of the text as a constant. With one call for both a search of four
         // bytes takes 7 % more instructions.
-        if self.nfa().is_reverse() {
+        if nfa.is_reverse() {
             self.search_text(start, &Text::of_input(input, true), earliest)
         } else {
             self.search_text(start, &Text::of_input(input, false), earliest)

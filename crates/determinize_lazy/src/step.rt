@@ -28,7 +28,12 @@ fn resolves<N: Allocator, A: Allocator>(nfa: &NFA<N>, state: &State<A>) -> bool
     ensures { Decides result (AllResolve nfa.now state.now.states) }
 {
     let count = nfa.len();
-    state.iter_nfa_state_ids().all(|id| id.as_usize() < count)
+    for id in state.iter_nfa_state_ids() {
+        if id.as_usize() >= count {
+            return false;
+        }
+    }
+    true
 }
 
 /// Returns the classes of bytes over which a step from a state is the same: none, if the state

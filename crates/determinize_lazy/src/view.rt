@@ -70,6 +70,19 @@ pub(crate) enum Reached {
     Short(Option<CachedPosition>),
 }
 
+/// Returns the start state of an NFA for an anchored mode.
+pub(crate) fn start_for<N: Allocator>(nfa: &NFA<N>, anchored: Anchored) -> StateID
+    requires { has_start anchored ≡ true }
+    ensures value { result ≡ start_for nfa.now anchored }
+    ensures resolve { result < length nfa.now.states }
+{
+    match anchored {
+        Anchored::No => nfa.start_unanchored(),
+        Anchored::Yes => nfa.start_anchored(),
+        Anchored::Pattern(_) => unreachable!(),
+    }
+}
+
 /// Returns the number of the slot in which the id of a start state is kept. `None` for any other
 /// NFA state than the two start states: its start is not kept.
 #[inline(always)]
@@ -95,19 +108,6 @@ pub(crate) fn start_number<N: Allocator>(
 }
 
 impl<'v, N: Allocator, A: Allocator + Copy> View<'v, N, A> {
-    /// Returns the start state for an anchored mode.
-    pub(crate) fn start_for(&self, anchored: Anchored) -> StateID
-        requires { has_start anchored ≡ true }
-        ensures value { result ≡ start_for self.now.nfa anchored }
-        ensures resolve { result < length self.now.nfa.states }
-    {
-        match anchored {
-            Anchored::No => self.nfa.start_unanchored(),
-            Anchored::Yes => self.nfa.start_anchored(),
-            Anchored::Pattern(_) => unreachable!(),
-        }
-    }
-
     /// Returns the id of a start state, if it is kept.
     #[inline(always)]
     pub(crate) fn kept_start(&self, start: StateID, look_behind: Option<u8>) -> Option<LazyStateId>

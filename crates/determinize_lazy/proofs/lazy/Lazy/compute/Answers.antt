@@ -40,3 +40,6 @@ returns g c =
     rw (c.in_ok-following.ensures.unchanged, ← c.self.view_is, counted)
     (stepped _ c.args.unit c.self.invariant.sound.accepted c.self.invariant.sound.small absent refl
     (rw (following, shared) at c.keep.ensures))
+
+pub invariant_of-self : goal.invariant_of-self
+invariant_of-self g c = rw c.in_err-following.ensures.unchanged c.self.invariant

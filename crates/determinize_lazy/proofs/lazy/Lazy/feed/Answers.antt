@@ -34,3 +34,9 @@ returns-clause-fed g c start behind bytes is =
     (c.or_later-scan-inside.ensures
     ∙ ap (λ (s : Scanned). option_or (option_map (later_by s.read) c.rest.inside.last) s.last) c.scan.view_is)
     (sum ∙ ap (λ (s : Scanned). s.read + length c.args.piece.now) c.scan.view_is)
+
+pub read_piece-requires-clause-resolve : goal.read_piece-requires-clause-resolve
+read_piece-requires-clause-resolve g c = rw c.in_ok-start.ensures.at.value c.in_ok-start.ensures.resolve
+
+pub returns-clause-resolve : goal.returns-clause-resolve
+returns-clause-resolve g c = λ _. rw (← c.rest.view_is) at c.in_ok-rest.ensures.resolve

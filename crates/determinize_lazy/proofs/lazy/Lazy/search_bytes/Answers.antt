@@ -1,4 +1,4 @@
-use Rattle.determinize_lazy.proofs.Common.{cache, cursor_value, Fails, false, is_last, place, ◌≡◌}
+use Rattle.determinize_lazy.proofs.Common.{cache, cursor_value, Fails, false, inr, is_last, place, ◌≡◌}
 use Rattle.determinize_lazy.proofs.finding.Searching.{fails-next, goes-next, goes_twice, tag-last}
 use Rattle.determinize_lazy.proofs.steps.Rule.{of_err}
 use Rattle.determinize_lazy.proofs.lazy.Lazy.search_bytes.Given.{Over}
@@ -21,3 +21,8 @@ pub loop-at-preserved : goal.loop-at-preserved
 loop-at-preserved g c =
     goes_twice (goes-next c.loop-at.invariant c.byte-byte.ensures
     (more g (goal.at.loop-at-preserved g c).After-byte-byte) c.in_ok-next.ensures.next) c.run-at.ensures
+
+pub returns-then-is_last-clause-stopped : goal.returns-then-is_last-clause-stopped
+returns-then-is_last-clause-stopped g c =
+    inr (tag-last c.args.earliest c.tag_at.result.bits (cursor_value c.loop-at.self.states c.loop-at.at.cursor)
+    c.tag_at.ensures c.is_last.ensures c.if-is_last.true)

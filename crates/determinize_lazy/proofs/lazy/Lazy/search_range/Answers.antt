@@ -5,7 +5,7 @@ use Rattle.determinize_lazy.proofs.lazy.Lazy.search_range.Goals as goal
 pub returns-then-is_reverse-clause-over : goal.returns-then-is_reverse-clause-over
 returns-then-is_reverse-clause-over g c =
     let direction : c.is_reverse.result ≡ c.args.self.now.nfa.reverse = search rules in
-    over-text ((rw c.view.ensures at c.start_for-start.ensures.value)
+    over-text ((rw c.nfa-nfa.ensures.value at c.start_for-start.ensures.value)
     ∙ ap (λ a. start_for c.args.self.now.nfa a) c.get_anchored.ensures)
     (c.of_input.ensures ∙ ap (λ b. text_of b c.args.input.now) (sym c.if-is_reverse.true ∙ direction))
     c.search_text.ensures.over
@@ -13,7 +13,7 @@ returns-then-is_reverse-clause-over g c =
 pub returns-else-is_reverse-clause-over : goal.returns-else-is_reverse-clause-over
 returns-else-is_reverse-clause-over g c =
     let direction : c.is_reverse.result ≡ c.args.self.now.nfa.reverse = search rules in
-    over-text ((rw c.view.ensures at c.start_for-start.ensures.value)
+    over-text ((rw c.nfa-nfa.ensures.value at c.start_for-start.ensures.value)
     ∙ ap (λ a. start_for c.args.self.now.nfa a) c.get_anchored.ensures)
     (c.of_input-else-is_reverse.ensures ∙ ap (λ b. text_of b c.args.input.now) (sym c.if-is_reverse.false ∙ direction))
     c.search_text-else-is_reverse.ensures.over

@@ -40,3 +40,6 @@ returns g c =
     (ap (λ (x : LazyValue). x.nfa) c.self.view_is) (ap (λ (x : LazyValue). x.kind) c.self.view_is)
     (ap (λ (x : LazyValue). x.limit) c.self.view_is) c.into_kept.ensures.states c.into_kept.ensures.rows
     c.into_kept.ensures.computed c.into_kept.ensures.classes
+
+pub lent-lazy-requires : goal.lent-lazy-requires
+lent-lazy-requires g c = rw c.replace-kept.ensures.value c.self.invariant.lazy

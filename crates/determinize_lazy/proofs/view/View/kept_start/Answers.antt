@@ -18,3 +18,9 @@ returns-clause-at g c = subst (λ (x : LazyValue). IfSome c.start.result (λ id.
     slice_get x.states id ≡ Some (start_value x.nfa c.args.start c.args.look_behind))) c.self.view_is
     (start-kept _ c.self.inside.table.now _ _ _ c.start.result c.self.invariant.starts
     (sym c.in_ok-number.was ∙ c.start_number.ensures.value) c.start.ensures)
+
+pub returns-in_err-number-clause-sound : goal.returns-in_err-number-clause-sound
+returns-in_err-number-clause-sound g c = lazy-sound c.self.invariant c.self.view_is
+
+pub returns-clause-sound : goal.returns-clause-sound
+returns-clause-sound g c = lazy-sound c.self.invariant c.self.view_is
