@@ -5,18 +5,18 @@
 //! anchored. [`Plain`] takes any engine. The functions borrow a [`Lazy`], and say what is unchanged
 //! of it.
 
-ghost use Rattle.std.specs.Prelude.{◌≡◌, ◌≤◌, cond, false, true, None, option_map, IfOk};
+ghost use Rattle.std.specs.Prelude.{◌≡◌, ◌≤◌, cond, false, true, None, IfOk};
 ghost use Rattle.std.specs.Option.{IfSome};
 ghost use Rattle.determinize_below.specs.declared.search.MatchKind.TheVariants as kinds;
 ghost use Rattle.determinize_engine.specs.Searches.{has_start};
 ghost use Rattle.determinize_find.specs.LeftmostIn as inputs;
 ghost use Rattle.determinize_find.specs.LeftmostIn.{IsLeftmostIn};
 ghost use Rattle.determinize_find.specs.Matches.{AreMatches, IsNext};
-ghost use Rattle.determinize_find.specs.Private.BestAt.{IsBestIn, from_index};
+ghost use Rattle.determinize_find.specs.Private.BestAt.{IsBestIn};
 
 use crate::finder::Finder;
 use crate::iter::further;
-use determinize_below::{Anchored, HalfMatch, Input, Match, NFA};
+use determinize_below::{Anchored, Input, Match, NFA};
 use determinize_lazy::{Engine, Lazy};
 use std::alloc::{AllocError, Allocator, Global};
 use std::marker::Model;
@@ -65,38 +65,15 @@ impl<'n, E: Engine, N: Allocator> Finder for Plain<'n, E, N> {
     }
 }
 
-/// Returns whether a match may begin only where the search starts.
-fn begins_at_start_only<N: Allocator>(nfa: &NFA<N>, anchored: Anchored) -> bool
-    ensures { result ≡ inputs.is_anchored nfa.now anchored }
-{
-    match anchored {
-        Anchored::No => nfa.start_unanchored() == nfa.start_anchored(),
-        Anchored::Yes | Anchored::Pattern(_) => true,
-    }
-}
-
 /// Returns the last index of the range at which a match may begin.
 fn latest_start<N: Allocator>(nfa: &NFA<N>, input: &Input<'_>) -> usize
     ensures { result ≡ cond (inputs.is_anchored nfa.now input.now.anchored)
         input.now.start input.now.end }
 {
-    if begins_at_start_only(nfa, input.get_anchored()) {
-        input.start()
-    } else {
-        input.end()
+    match input.get_anchored() {
+        Anchored::No if nfa.start_unanchored() != nfa.start_anchored() => input.end(),
+        _ => input.start(),
     }
-}
-
-/// Returns the match that begins at this index and has this pattern and end.
-fn from_index(start: usize, found: Option<HalfMatch>) -> Option<Match>
-    ensures { result ≡ option_map (from_index start) found }
-{
-    let HalfMatch { pattern, offset } = found?;
-    Some(Match {
-        pattern,
-        start,
-        end: offset,
-    })
 }
 
 /// Returns the most preferred match that begins at this index of the range, if any.
@@ -118,8 +95,14 @@ fn find_at<E: Engine>(
     let from = Input::new(input.haystack())
         .range(at..input.end())
         .anchored(Anchored::Yes);
-    let found = engine.search_input(&from)?;
-    Ok(from_index(at, found))
+    let Some(found) = engine.search_input(&from)? else {
+        return Ok(None);
+    };
+    Ok(Some(Match {
+        pattern: found.pattern,
+        start: at,
+        end: found.offset,
+    }))
 }
 
 /// Returns the leftmost match of an input, if any, by a search from one index after another.

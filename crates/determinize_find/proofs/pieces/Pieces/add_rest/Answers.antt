@@ -60,3 +60,11 @@ returns-clause-finished g c =
 
 pub returns-clause-begins : goal.returns-clause-begins
 returns-clause-begins g c = rw c.loop-next.invariant.found.1 (take_at c.args.found.now.items _ _ refl)
+
+pub returns-in_err-next-clause-begins : goal.returns-in_err-next-clause-begins
+returns-in_err-next-clause-begins g c = rw c.loop-next.invariant.found.1 (take_at c.args.found.now.items _ _ refl)
+
+pub returns-in_err-push-clause-begins : goal.returns-in_err-push-clause-begins
+returns-in_err-push-clause-begins g c =
+    let items : c.push.new.self.items ≡ c.loop-next.found.items = search rules in
+    rw (items, c.loop-next.invariant.found.1) (take_at c.args.found.now.items _ _ refl)

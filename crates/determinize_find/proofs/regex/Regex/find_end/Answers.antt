@@ -8,3 +8,6 @@ returns-clause-end g c =
     rw (← c.self.view_is) (IfOk-weaker c.search_input.result _ _ (leftmost_end c.self.invariant asked c.requires.start
     c.requires.in_haystack c.input_of-input.ensures.bytes)
     (rw (c.input_of-input.ensures.value, c.self.invariant.kind) at c.search_input.ensures.search))
+
+pub invariant_of-self : goal.invariant_of-self
+invariant_of-self g c = rw c.search_input.ensures.same c.self.invariant

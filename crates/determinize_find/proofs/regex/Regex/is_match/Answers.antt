@@ -14,3 +14,6 @@ pub returns-clause-accepts : goal.returns-clause-accepts
 returns-clause-accepts g c more =
     let own : c.input_of-whole.result ≡ c.args.input.now = search rules in
     rw (← c.self.view_is) ((rw own at c.is_match.ensures.accepts) more)
+
+pub invariant_of-self : goal.invariant_of-self
+invariant_of-self g c = rw c.is_match.ensures.same c.self.invariant
