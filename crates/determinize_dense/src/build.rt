@@ -11,13 +11,13 @@
 //!   base is the unanchored start, to which a search returns at each position, or else the dead
 //!   state, which has no NFA states.
 
-ghost use Rattle.std.specs.Prelude.{◌≡◌, ◌<◌, ◌+◌, ◌++◌, ◌*◌, [], Err, Some, IfOk, IfSome, IsTrue, OnOk, length, map, min, not, slice_get};
+ghost use Rattle.std.specs.Prelude.{◌≡◌, ◌<◌, ◌+◌, ◌*◌, [], Err, Some, IfOk, IfSome, IsTrue, OnOk, length, map, min, not, slice_get};
 ghost use Rattle.determinize_below.specs.Unit.{byte_of};
 ghost use Rattle.determinize_start.specs.declared.start.TheConstants.StartSlot.{COUNT};
 ghost use Rattle.determinize_below.specs.Nfa.{AllResolve};
 ghost use Rattle.determinize_core.specs.Private.Reading.{gives_nothing};
 ghost use Rattle.determinize_core.specs.Value.{Value as StateValue};
-ghost use Rattle.determinize_dense.specs.Dfa.{HasMoreStates, IsReachedValue, start_in};
+ghost use Rattle.determinize_dense.specs.Dfa.{HasMoreStates, IsReachedValue};
 ghost use Rattle.determinize_dense.specs.Private.Building.{AreStarts, Building, HasChanges, HasIds, IsBase, IsBuilding, IsBuilt, IsStart, IsNextRow, Stays, building, columns_of, unit_at};
 ghost use Rattle.determinize_dense.specs.declared.error.DfaError.TheVariants.{TooManyStates};
 ghost use Rattle.ordered_reach.specs.Runs.{without};
@@ -57,18 +57,6 @@ impl<'n, N: Allocator, A: Allocator> Model for Builder<'n, N, A> {
         (building b.stepper b.classes b.limit b.states b.next.items) };
 }
 
-/// Returns the state of the NFA from which an anchored or an unanchored search starts.
-fn start_in<N: Allocator>(nfa: &NFA<N>, is_anchored: bool) -> StateID
-    ensures value { result ≡ start_in nfa.now is_anchored }
-    ensures resolve { result < length nfa.now.states }
-{
-    if is_anchored {
-        nfa.start_anchored()
-    } else {
-        nfa.start_unanchored()
-    }
-}
-
 /// Returns whether an NFA state matches, or has a target over a unit.
 fn gives<N: Allocator>(nfa: &NFA<N>, id: StateID, unit: Unit) -> bool
     requires { id < length nfa.now.states }
@@ -94,16 +82,6 @@ fn none_gives<N: Allocator>(nfa: &NFA<N>, ids: &[StateID], unit: Unit) -> bool
         }
     }
     true
-}
-
-/// Pushes the NFA states of a state.
-fn push_ids<A: Allocator>(state: &State<A>, ids: &mut Vec<StateID, A>) -> Result<(), AllocError>
-    ensures { OnOk result (ids.new.items ≡ ids.old.items ++ state.now.states) }
-{
-    for id in state.iter_nfa_state_ids() {
-        ids.push(id)?;
-    }
-    Ok(())
 }
 
 /// Returns a list with the list of patterns of each state. An empty list is not allocated.
@@ -201,7 +179,11 @@ impl<'n, N: Allocator, A: Allocator + Copy> Builder<'n, N, A> {
         if !slot.kind.occurs(terminator) {
             return Ok(0);
         }
-        let start = start_in(nfa, slot.is_anchored);
+        let start = if slot.is_anchored {
+            nfa.start_anchored()
+        } else {
+            nfa.start_unanchored()
+        };
         let state = self.stepper.start_of(start, slot.kind)?;
         self.place(&state, 0)
     }
@@ -289,7 +271,9 @@ impl<'n, N: Allocator, A: Allocator + Copy> Builder<'n, N, A> {
         if !state.look_need().is_empty() {
             return Ok(0);
         }
-        push_ids(state, ids)?;
+        for id in state.iter_nfa_state_ids() {
+            ids.push(id)?;
+        }
         Ok(row)
     }
 

@@ -1,5 +1,0 @@
-use Rattle.determinize_dense.proofs.Common.{◌++◌, ◌≡◌}
-use Rattle.determinize_dense.proofs.build.push_ids.Given as goal
-
-abbrev pub invariant-loop-id : goal.invariant-loop-id
-invariant-loop-id g l = l.ids.items ≡ l.initial.ids.items ++ l.yielded
