@@ -60,7 +60,7 @@ pub use Rattle.std.proofs.lemmas.Bool.{cases_eq, cases_lt}
 pub use Rattle.std.proofs.lemmas.Grind.{get_or-set_at, get_or_default_zero}
 pub use Rattle.std.proofs.lemmas.List.{drop_all, drop_more, get_or-drop, get_or-map, get_or_push, length-drop}
 pub use Rattle.std.proofs.lemmas.List.{length-replicate, length_push, map_more, map_push, take_rest}
-pub use Rattle.std.proofs.lemmas.List.Elements.{All-append, All-cons, All-drop, All-from_get_or, All-head, All-more}
+pub use Rattle.std.proofs.lemmas.List.Elements.{All-append, All-cons, All-drop, All-from_get_or, All-head}
 pub use Rattle.std.proofs.lemmas.List.Elements.{All-nil, All-push, All-tail, All-weaker, filter-append}
 pub use Rattle.std.proofs.lemmas.List.Elements.{same_from_all_zip}
 pub use Rattle.std.proofs.lemmas.List.FromFn.{length-map-range_with_len}

@@ -1,11 +1,11 @@
 -- Numbers that are written one after the other.
--- Main statements: write_more, list_more, ids_more, written, whole_of.
+-- Main statements: write_more, word_more, id_more, list_more, written, whole_of.
 -- Used by: `bytes`.
 -- Idea: what is written, and then the numbers that are left, are all numbers.
-use Rattle.determinize_dense.proofs.Common.{All-append, All-from_get_or, append-nil, append_assoc, AreClasses, arith}
+use Rattle.determinize_dense.proofs.Common.{All-from_get_or, All-push, append-nil, append_assoc, AreClasses, arith}
 use Rattle.determinize_dense.proofs.Common.{bytes_of_words, Classes, concat, DfaValue, drop, drop_more, flat_map-append}
 use Rattle.determinize_dense.proofs.Common.{get_or, IsDfa, length, List, MAX_ID, refl, slice_index, take, take_more, [], ℕ}
-use Rattle.determinize_dense.proofs.Common.{◌++◌, ◌+◌, ◌<◌, ◌^◌, ◌≡◌, ◌≤◌}
+use Rattle.determinize_dense.proofs.Common.{◌++◌, ◌+◌, ◌∷◌, ◌<◌, ◌^◌, ◌≡◌, ◌≤◌}
 use Rattle.std.specs.Prelude.{All}
 use Rattle.std.specs.Int.{to_le_bytes, w32}
 use Rattle.std.proofs.lemmas.List.Folds.{concat-append}
@@ -18,19 +18,22 @@ pub write_more : (before : List ℕ) {total : List ℕ} (xs : List ℕ) {i x : �
     → (before ++ to_le_bytes w32 x) ++ bytes_of_words (drop (i + 1) xs) ≡ total
 write_more before xs {i = i} h at so_far = rw (append_assoc, at) (rw (drop_more xs i 0 h) at so_far)
 
-module _ (ps : List (List ℕ)) {i : ℕ} (h : i < length ps) where
-  -- one list more
-  pub list_more : (before : List ℕ) {total list : List ℕ} → list ≡ get_or ps i []
-      → before ++ bytes_of_words (concat (drop i ps)) ≡ total
-      → (before ++ bytes_of_words list) ++ bytes_of_words (concat (drop (i + 1) ps)) ≡ total
-  list_more before at so_far =
-      rw (append_assoc, at, ← flat_map-append (to_le_bytes w32) (get_or ps i []) (concat (drop (i + 1) ps)))
-      (rw (drop_more ps i [] h) at so_far)
+module _ (done list : List ℕ) {i x : ℕ} (h : i < length list) (at : x ≡ slice_index list i) where
+  taken : done ++ take (i + 1) list ≡ (done ++ take i list) ++ x ∷ []
+  taken = rw (take_more list i 0 h, at, append_assoc) refl
 
-  pub ids_more : (P : ℕ → Type 0) → All P (concat (take i ps)) → All P (get_or ps i [])
-      → All P (concat (take (i + 1) ps))
-  ids_more P before here = rw (take_more ps i [] h, concat-append, append-nil)
-      (All-append P (concat (take i ps)) (get_or ps i []) before here)
+  -- one number more of a list, behind others
+  pub word_more : (before : List ℕ) {bytes : List ℕ} → bytes ≡ before ++ bytes_of_words (done ++ take i list)
+      → bytes ++ to_le_bytes w32 x ≡ before ++ bytes_of_words (done ++ take (i + 1) list)
+  word_more before so_far = rw (so_far, taken) (simp (flat_map-append, append_assoc, append-nil) refl)
+
+  pub id_more : (P : ℕ → Type 0) → All P (done ++ take i list) → P x → All P (done ++ take (i + 1) list)
+  id_more P so_far here = rw taken (All-push P (done ++ take i list) x so_far here)
+
+-- one list more
+pub list_more : (ps : List (List ℕ)) {k : ℕ} {list : List ℕ} → k < length ps → list ≡ get_or ps k []
+    → concat (take (k + 1) ps) ≡ concat (take k ps) ++ list
+list_more ps {k} h at = rw (take_more ps k [] h, concat-append, append-nil, at) refl
 
 -- six lists of numbers, one after the other
 pub written : (a b c d e f : List ℕ) {p q r s t u : List ℕ} → p ≡ bytes_of_words a → q ≡ p ++ bytes_of_words b

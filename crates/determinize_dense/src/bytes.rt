@@ -92,17 +92,6 @@ fn push_ends<A: Allocator>(
     Ok(())
 }
 
-/// Adds patterns.
-fn push_list<A: Allocator>(bytes: &mut Vec<u8, A>, list: &[PatternID]) -> Result<(), AllocError>
-    ensures list { OnOk result (bytes.new.items ≡ bytes.old.items ++ bytes_of_words list.now) }
-    ensures ids { OnOk result (All (λ id. id ≤ MAX_ID) list.now) }
-{
-    for pattern in list {
-        push_word(bytes, pattern.as_u32())?;
-    }
-    Ok(())
-}
-
 /// Adds the patterns of lists, one list after the other.
 fn push_lists<A: Allocator>(
     bytes: &mut Vec<u8, A>,
@@ -114,7 +103,9 @@ fn push_lists<A: Allocator>(
         (All (λ id. id ≤ MAX_ID) (concat (map (λ list. list.items) lists.now))) }
 {
     for list in lists {
-        push_list(bytes, list.as_slice())?;
+        for pattern in list.as_slice() {
+            push_word(bytes, pattern.as_u32())?;
+        }
     }
     Ok(())
 }
