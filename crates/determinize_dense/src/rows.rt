@@ -91,50 +91,37 @@ impl<'n, N: Allocator, A: Allocator + Copy> Rows<'n, N, A> {
         self.patterns[row].as_slice()
     }
 
-    /// Returns the number of bytes of each class.
-    fn class_sizes(&self) -> [u16; 256] {
-        let mut sizes = [0; 256];
-        for byte in 0..=u8::MAX {
-            sizes[usize::from(self.classes.get(byte))] += 1;
-        }
-        sizes
-    }
-
-    /// Returns whether a search scans out of a row: whether at least `STAYING` bytes do not leave
-    /// it. This is a guess at what is fast, and no match depends on it.
-    fn is_scanned(&self, row: usize, class_sizes: &[u16; 256]) -> bool
+    /// Returns the rank of a row in the order: 2 for one that a search scans out of.
+    ///
+    /// These are the rows that at least `STAYING` bytes do not leave. This is a guess at what is
+    /// fast, and no match depends on it.
+    fn rank(&self, row: usize, class_sizes: &[u16; 256]) -> usize
         requires { row < length self.now.table.patterns }
+        ensures { IsRank self.now.table row result }
     {
+        if row == 0 {
+            return 0;
+        }
+        if !self.patterns[row].is_empty() {
+            return 1;
+        }
         let mut staying = 0;
         for class in 0..self.classes.representatives().len() {
             if self.entry(row, class) == row {
                 staying += usize::from(class_sizes[class]);
             }
         }
-        staying >= STAYING
-    }
-
-    /// Returns the rank of a row in the order.
-    fn rank(&self, row: usize, class_sizes: &[u16; 256]) -> usize
-        requires { row < length self.now.table.patterns }
-        ensures { IsRank self.now.table row result }
-    {
-        if row == 0 {
-            0
-        } else if !self.patterns[row].is_empty() {
-            1
-        } else if self.is_scanned(row, class_sizes) {
-            2
-        } else {
-            3
-        }
+        if staying >= STAYING { 2 } else { 3 }
     }
 
     /// Returns the rank of each row.
     fn ranks(&self, alloc: A) -> Result<Vec<usize, A>, AllocError>
         ensures { IfOk result (λ ranks. AreRanks self.now.table ranks.items) }
     {
-        let class_sizes = self.class_sizes();
+        let mut class_sizes = [0; 256];
+        for byte in 0..=u8::MAX {
+            class_sizes[usize::from(self.classes.get(byte))] += 1;
+        }
         let mut ranks = Vec::with_capacity(alloc, self.len())?;
         for row in 0..self.len() {
             ranks.push(self.rank(row, &class_sizes))?;
