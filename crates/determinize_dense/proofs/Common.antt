@@ -43,7 +43,7 @@ pub use Rattle.determinize_dense.specs.Least.{AreApart, IsLeast, IsReachedRow}
 pub use Rattle.determinize_dense.specs.Private.Minimizing.{AreDistances, AreDistancesSoFar, AreFirstAlike, AreFirsts}
 pub use Rattle.determinize_dense.specs.Private.Minimizing.{AreMergedEntries, AreMergedLists, AreMergedRows}
 pub use Rattle.determinize_dense.specs.Private.Minimizing.{AreMergedStarts, AreTargets, entry, IsDistanceSoFar}
-pub use Rattle.determinize_dense.specs.Private.Minimizing.{IsFirstAlike, IsGrouping, IsMerged, IsPartition, IsRefined}
+pub use Rattle.determinize_dense.specs.Private.Minimizing.{IsFirstAlike, IsGrouping, IsMerged, IsPartition}
 pub use Rattle.determinize_dense.specs.Private.Minimizing.{IsSettled, IsShort, IsSplitBy, ListsAfter}
 pub use Rattle.determinize_dense.specs.Private.Order.{IsOrdered, IsRank, ListsNoneAbove}
 pub use Rattle.determinize_dense.specs.Private.Partition.{AreBlocks, AreEqual, AreTogether, Blocks, IsByRank}

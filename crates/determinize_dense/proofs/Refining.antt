@@ -1,10 +1,10 @@
 -- Partitions of the rows of a table, which are split until each column is settled.
--- Main statements: entry-below, partition-first, partition-apart, partition-split, refined-more, refined-fewer.
--- Used by: Distances, Offsets, `entry`, `first_blocks`, `split_by` and `refine`.
+-- Main statements: entry-below, partition-first, partition-apart, partition-split, settled-more.
+-- Used by: Distances, Offsets, `entry`, `first_blocks`, `split_by` and `partition`.
 -- Idea: rows that are split were apart, or have entries in a column that were apart.
 use Rattle.determinize_dense.proofs.Common.{All-cons, All-nil, AreApart, AreEqual, AreFirstAlike, AreTargets, arith}
 use Rattle.determinize_dense.proofs.Common.{Blocks, by_cases, cases_eq, entry, get_or-replicate, IsFilled, IsPartition}
-use Rattle.determinize_dense.proofs.Common.{IsRefined, IsSettled, IsSplit, IsSplitBy, IsUnit, length}
+use Rattle.determinize_dense.proofs.Common.{IsSettled, IsSplit, IsSplitBy, IsUnit, length}
 use Rattle.determinize_dense.proofs.Common.{length-replicate, List, patterns_at, refl, replicate, slice_index, Table}
 use Rattle.determinize_dense.proofs.Common.{[], ℕ, ◌+◌, ◌<◌, ◌∙◌, ◌∷◌, ◌≡◌, ◌≤◌}
 
@@ -71,29 +71,12 @@ partition-split d is p q c values inside part targets split = record {
 pub partition-settled : {d : Table} {p : Blocks} {c : ℕ} → IsPartition d p → IsSettled d p c → IsSplitBy d c p p
 partition-settled part settled = record { partition = part; more = omega arith; stays = λ same. (refl, settled) }
 
--- the first pass of a cycle
-pub refined-first : {d : Table} {p q : Blocks} → IsSplitBy d 0 p q → IsRefined d 1 p q
-refined-first s = record {
-  partition = s.partition;
-  more = s.more;
-  stays = λ same.
-      let k = s.stays same in (k.0, λ c l. let first : c ≡ 0 = omega arith in rw first k.1);
-}
-
--- and one more
-pub refined-more : {d : Table} {n : ℕ} {p q r : Blocks} → IsRefined d n p q → IsSplitBy d n q r
-    → IsRefined d (n + 1) p r
-refined-more {n = n} so_far pass = record {
-  partition = pass.partition;
-  more = omega arith;
-  stays = λ same.
-      let old = so_far.stays (omega arith) in
-      let new = pass.stays (omega arith) in (
-        new.0 ∙ old.0,
-        λ c l. by_cases (cases_eq c n) (λ last. rw last (rw old.0 at new.1)) (λ other. old.1 c (omega arith)),
-      );
-}
-
--- and of fewer columns
-pub refined-fewer : {d : Table} {m n : ℕ} {p q : Blocks} → m ≤ n → IsRefined d n p q → IsRefined d m p q
-refined-fewer {d} {m} {n} {p} {q} fewer is = grind arith
+-- one pass more of a cycle that splits no block
+pub settled-more : {d : Table} {n count : ℕ} {p q : Blocks} → count ≤ length p.members
+    → (length p.members ≡ count → (c : ℕ) → c < n → IsSettled d p c) → IsSplitBy d n p q
+    → length q.members ≡ count → (c : ℕ) → c < n + 1 → IsSettled d q c
+settled-more {n = n} more so_far pass same c h =
+    let new = pass.stays (omega (arith, more, pass.more, same)) in
+    rw new.0 (by_cases (cases_eq c n)
+    (λ last. rw last new.1)
+    (λ other. so_far (omega (arith, more, pass.more, same)) c (omega (arith, h, other))))

@@ -131,7 +131,8 @@ impl<'n, N: Allocator, A: Allocator + Copy> Dfa<'n, N, A> {
         let parts = rows.partition(alloc)?;
         let fewest = rows.merged(alloc, &parts)?;
         // These are not kept while the fewest rows are copied in order.
-        drop((rows, parts));
+        drop(rows);
+        drop(parts);
         fewest.arranged(alloc)
     }
 

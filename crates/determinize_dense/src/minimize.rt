@@ -7,7 +7,7 @@
 //! each block becomes one row.
 
 ghost use Rattle.std.specs.Prelude.{◌≡◌, ◌↔◌, ℕ, ◌<◌, ◌≤◌, ◌+◌, IfOk, IsTrue, false, length, slice_index, sum_by};
-ghost use Rattle.determinize_dense.specs.Private.Minimizing.{AreDistances, AreFirstAlike, AreMergedRows, AreDistancesSoFar, entry, IsGrouping, IsMerged, IsPartition, IsDistanceSoFar, IsRefined, IsSettled, IsShort, IsSplitBy, IsStable};
+ghost use Rattle.determinize_dense.specs.Private.Minimizing.{AreDistances, AreFirstAlike, AreMergedRows, AreDistancesSoFar, entry, IsGrouping, IsMerged, IsPartition, IsDistanceSoFar, IsSettled, IsShort, IsSplitBy, IsStable};
 
 use crate::partition::Partition;
 use crate::rows::Rows;
@@ -140,19 +140,6 @@ impl<'n, N: Allocator, A: Allocator + Copy> Rows<'n, N, A> {
         parts.split(alloc, targets.as_slice())
     }
 
-    /// Splits the blocks by their entries in each column.
-    fn refine(&self, alloc: A, parts: Partition<A>) -> Result<Partition<A>, AllocError>
-        requires { IsPartition self.now.table parts }
-        ensures { IfOk result
-            (λ p. IsRefined self.now.table (self.now.table.class_count + 1) parts p) }
-    {
-        let mut refined = self.split_by(alloc, parts, 0)?;
-        for column in 1..self.classes.alphabet_len() {
-            refined = self.split_by(alloc, refined, column)?;
-        }
-        Ok(refined)
-    }
-
     /// Returns the first blocks: rows that list the same patterns and have the same distance.
     fn first_blocks(&self, alloc: A) -> Result<Partition<A>, AllocError>
         ensures { IfOk result (λ p. IsPartition self.now.table p) }
@@ -172,7 +159,9 @@ impl<'n, N: Allocator, A: Allocator + Copy> Rows<'n, N, A> {
         let mut parts = self.first_blocks(alloc)?;
         loop {
             let count = parts.len();
-            parts = self.refine(alloc, parts)?;
+            for column in 0..self.classes.alphabet_len() {
+                parts = self.split_by(alloc, parts, column)?;
+            }
             if parts.len() == count {
                 return Ok(parts);
             }

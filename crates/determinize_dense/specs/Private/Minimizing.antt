@@ -87,13 +87,6 @@ pub record IsSplitBy (d : Table) (c : ℕ) (p q : Blocks) : Type 0 where
   pub more : length p.members ≤ length q.members
   pub stays : length q.members ≡ length p.members → (q ≡ p) × IsSettled d p c
 
--- blocks that were split by their entries in the first n columns
-pub record IsRefined (d : Table) (n : ℕ) (p q : Blocks) : Type 0 where
-  pub partition : IsPartition d q
-  pub more : length p.members ≤ length q.members
-  pub stays : length q.members ≡ length p.members
-      → (q ≡ p) × ((c : ℕ) → c < n → IsSettled d p c)
-
 -- the rows of one block list the same patterns, and their entries are in one block
 pub record IsGrouping (d : Table) (p : Blocks) : Type 0 where
   pub blocks : AreBlocks p
