@@ -3,16 +3,14 @@
 //! A [`RowId`] is the number of a row. Every call takes any id: one that is no row of the DFA, as
 //! one of a larger DFA may be, lists no patterns, and the dead row follows it.
 
-ghost use Rattle.std.specs.Prelude.{◌≡◌, ◌≤◌, ◌-◌, ℕ, List, None, Some, decimal, length, nat_eq, slice_get, true};
+ghost use Rattle.std.specs.Prelude.{◌≡◌, ◌-◌, ℕ, List, None, Some, decimal, length, nat_eq, slice_get, true};
 ghost use Rattle.std.specs.List.{range_with_len};
 ghost use Rattle.std.specs.Iterator.{YieldsFirst, item_count};
-ghost use Rattle.std.specs.Option.{IfSome};
 ghost use Rattle.determinize_below.specs.Nfa.{IsAccepted};
 ghost use Rattle.determinize_engine.specs.Searches.{has_start};
 ghost use Rattle.determinize_state.specs.Value.{is_nonempty};
 ghost use Rattle.determinize_start.specs.StartKinds.{byte_before};
 ghost use Rattle.determinize_dense.specs.Dfa.{IsDfaOf, is_anchored};
-ghost use Rattle.determinize_dense.specs.Private.Rows.{IsDfa, IsRowAt};
 ghost use Rattle.determinize_dense.specs.Reading.{IsDead};
 ghost use Rattle.determinize_dense.specs.Table.{patterns_at, row_over, start_row};
 
@@ -152,30 +150,17 @@ impl<'n, N: Allocator, A: Allocator + Copy> Dfa<'n, N, A> {
         self.start_state(&Config::from_input_forward(input))
     }
 
-    /// Returns the offset of a row, or `None` if there is no such row.
-    #[inline(always)]
-    fn offset(&self, row: RowId) -> Option<usize>
-        ensures some { IfSome result (λ offset. IsRowAt self.now.table offset row) }
-        ensures none { result ≡ None → length self.now.table.patterns ≤ row }
-        ensures sound { IsDfa self.now }
-    {
-        let columns = self.classes.alphabet_len();
-        if row.as_usize() < self.len() {
-            Some(row.as_usize() * columns)
-        } else {
-            None
-        }
-    }
-
     /// Returns the row after a row over a byte or, for `None`, over the end of input (EOI).
     #[inline(always)]
     pub(crate) fn next_row(&self, row: RowId, unit: Option<u8>) -> RowId
         ensures { result ≡ row_over self.now.table row unit }
     {
-        let Some(offset) = self.offset(row) else {
+        let columns = self.classes.alphabet_len();
+        let number = row.as_usize();
+        if number >= self.len() {
             return RowId::DEAD;
-        };
-        RowId(self.row_number(self.row_over(offset, unit)))
+        }
+        RowId(self.row_number(self.row_over(number * columns, unit)))
     }
 
     /// Returns the row after a row over a byte.
