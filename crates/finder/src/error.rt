@@ -1,15 +1,18 @@
 //! The errors that end the program.
 
-use crate::options::UsageError;
 use determinize_regex::{CompileError, ParseError};
-use std::alloc::AllocError;
+use std::alloc::{AllocError, AllocFailed};
 use std::{fmt, io};
 
 /// An error that ends the program.
 #[derive(Drop)]
 pub enum Error {
-    /// The arguments are not as the usage says.
-    Usage(UsageError),
+    /// There is no such option.
+    UnknownOption(String),
+    /// The last option needs a pattern.
+    MissingPattern,
+    /// There is no pattern.
+    NoPattern,
     /// The text of a pattern is rejected by `parse_with`.
     Parse { text: String, error: ParseError },
     /// The patterns were not compiled.
@@ -21,7 +24,11 @@ pub enum Error {
 impl fmt::Display for Error {
     fn fmt<W: fmt::Write>(&self, f: &mut fmt::Formatter<W>) -> fmt::Result {
         match self {
-            Error::Usage(error) => write!(f, "{error} (see finder --help)"),
+            Error::UnknownOption(option) => {
+                write!(f, "there is no option {option} (see finder --help)")
+            }
+            Error::MissingPattern => f.write_str("-e needs a pattern (see finder --help)"),
+            Error::NoPattern => f.write_str("there is no pattern (see finder --help)"),
             Error::Parse { text, error } => {
                 let marked = error.display(text.as_str());
                 write!(f, "\n{marked}")
@@ -32,14 +39,14 @@ impl fmt::Display for Error {
     }
 }
 
-impl From<UsageError> for Error {
-    fn from(error: UsageError) -> Error {
-        Error::Usage(error)
+impl From<AllocError> for Error {
+    fn from(error: AllocError) -> Error {
+        Error::Io(io::Error::from(error))
     }
 }
 
-impl From<AllocError> for Error {
-    fn from(error: AllocError) -> Error {
+impl<T: Drop> From<AllocFailed<T>> for Error {
+    fn from(error: AllocFailed<T>) -> Error {
         Error::Io(io::Error::from(error))
     }
 }

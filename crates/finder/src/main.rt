@@ -143,7 +143,7 @@ fn search(rt: &HostRuntime, options: &Options, regex: &Regex) -> io::Result<Exit
 fn read_options(rt: &HostRuntime) -> Result<Options, Error> {
     let mut args = env::args(rt)?;
     let _program = args.next();
-    Ok(Options::read(rt, args)?)
+    Options::read(rt, args)
 }
 
 /// Prints the usage, or searches as the options say, and returns the exit status.

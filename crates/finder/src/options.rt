@@ -2,9 +2,9 @@
 
 use crate::error::Error;
 use determinize_regex::{Error as RegexError, Regex, RegexConfig};
-use std::alloc::{AllocError, AllocFailed, Global};
+use std::alloc::{AllocError, Global};
 use std::env::Args;
-use std::{fmt, fs, io};
+use std::fs;
 
 /// The options and operands of the program.
 #[derive(Drop)]
@@ -42,48 +42,6 @@ pub enum Shows {
     Nothing,
 }
 
-/// An error in the arguments.
-#[derive(Drop)]
-pub enum UsageError {
-    /// There is no such option.
-    UnknownOption(String),
-    /// The last option needs a pattern.
-    MissingPattern,
-    /// There is no pattern.
-    NoPattern,
-    /// The arguments could not be read, or an allocation failed.
-    Io(io::Error),
-}
-
-impl fmt::Display for UsageError {
-    fn fmt<W: fmt::Write>(&self, f: &mut fmt::Formatter<W>) -> fmt::Result {
-        match self {
-            UsageError::UnknownOption(option) => write!(f, "there is no option {option}"),
-            UsageError::MissingPattern => f.write_str("-e needs a pattern"),
-            UsageError::NoPattern => f.write_str("there is no pattern"),
-            UsageError::Io(error) => fmt::Display::fmt(error, f),
-        }
-    }
-}
-
-impl From<AllocError> for UsageError {
-    fn from(error: AllocError) -> UsageError {
-        UsageError::Io(io::Error::from(error))
-    }
-}
-
-impl<T: Drop> From<AllocFailed<T>> for UsageError {
-    fn from(error: AllocFailed<T>) -> UsageError {
-        UsageError::Io(io::Error::from(error))
-    }
-}
-
-impl From<io::Error> for UsageError {
-    fn from(error: io::Error) -> UsageError {
-        UsageError::Io(error)
-    }
-}
-
 /// What the next argument is taken for.
 #[derive(Clone, Copy, PartialEq, Eq)]
 enum Next {
@@ -113,7 +71,7 @@ impl Options {
     /// Returns the options of the arguments, without the name of the program. The first operand is
     /// a pattern, unless `-e` gives one. Any other one is a pattern too if it has one of the signs
     /// ``[(*+?|^${\`` and there is no file of this name, and a file otherwise.
-    pub fn read(rt: &HostRuntime, args: Args) -> Result<Options, UsageError> {
+    pub fn read(rt: &HostRuntime, args: Args) -> Result<Options, Error> {
         let mut options = Options::new(rt.alloc());
         match options.take_all(rt, args) {
             Ok(()) => Ok(options),
@@ -122,14 +80,14 @@ impl Options {
     }
 
     /// Takes all arguments.
-    fn take_all(&mut self, rt: &HostRuntime, args: Args) -> Result<(), UsageError> {
+    fn take_all(&mut self, rt: &HostRuntime, args: Args) -> Result<(), Error> {
         let mut operands = Vec::new(rt.alloc());
         let mut next = Next::Any;
         for arg in args {
             next = self.take(rt.alloc(), arg, next, &mut operands)?;
         }
         if next == Next::Pattern {
-            return Err(UsageError::MissingPattern);
+            return Err(Error::MissingPattern);
         }
         self.take_operands(rt, operands)
     }
@@ -178,7 +136,7 @@ impl Options {
         arg: String,
         next: Next,
         operands: &mut Vec<String>,
-    ) -> Result<Next, UsageError> {
+    ) -> Result<Next, Error> {
         match next {
             Next::Pattern => {
                 self.patterns.push(arg)?;
@@ -186,7 +144,7 @@ impl Options {
             }
             Next::Any if !is_operand(arg.as_str()) => match self.take_option(alloc, arg.as_str()) {
                 Ok(Some(next)) => Ok(next),
-                Ok(None) => Err(UsageError::UnknownOption(arg)),
+                Ok(None) => Err(Error::UnknownOption(arg)),
                 Err(error) => Err(error),
             },
             Next::Any | Next::Operand => {
@@ -198,7 +156,7 @@ impl Options {
 
     /// Takes an option: `--help`, `--`, which ends the options, or letters after a hyphen. Returns
     /// what the next argument is, or `None` if there is no such option.
-    fn take_option(&mut self, alloc: Global, option: &str) -> Result<Option<Next>, UsageError> {
+    fn take_option(&mut self, alloc: Global, option: &str) -> Result<Option<Next>, Error> {
         match option {
             "--" => Ok(Some(Next::Operand)),
             "--help" => {
@@ -212,9 +170,10 @@ impl Options {
     /// Takes the letters of an option, and returns what the next argument is, or `None` if there is
     /// no option of one of the letters. What follows `e` is a pattern; if it is empty, the next
     /// argument is.
-    fn take_letters(&mut self, alloc: Global, option: &str) -> Result<Option<Next>, UsageError> {
-        let Some((letters, pattern)) = option.split_once('e') else {
-            return Ok(self.set_all(option, Next::Any));
+    fn take_letters(&mut self, alloc: Global, option: &str) -> Result<Option<Next>, Error> {
+        let letters = option.strip_prefix('-').unwrap_or(option);
+        let Some((letters, pattern)) = letters.split_once('e') else {
+            return Ok(self.set_all(letters, Next::Any));
         };
         if pattern.is_empty() {
             return Ok(self.set_all(letters, Next::Pattern));
@@ -223,10 +182,10 @@ impl Options {
         Ok(self.set_all(letters, Next::Any))
     }
 
-    /// Sets the options of the letters after a hyphen, and returns what the next argument is, or
-    /// `None` if there is no option of one of the letters.
+    /// Sets the options of the letters, and returns what the next argument is, or `None` if there
+    /// is no option of one of them.
     fn set_all(&mut self, letters: &str, next: Next) -> Option<Next> {
-        for letter in letters.as_bytes().iter().skip(1) {
+        for letter in letters.as_bytes() {
             if !self.set(*letter) {
                 return None;
             }
@@ -251,7 +210,7 @@ impl Options {
     }
 
     /// Takes the operands, once all options are known.
-    fn take_operands(&mut self, rt: &HostRuntime, operands: Vec<String>) -> Result<(), UsageError> {
+    fn take_operands(&mut self, rt: &HostRuntime, operands: Vec<String>) -> Result<(), Error> {
         for operand in operands {
             if self.patterns.is_empty() || is_pattern(rt, operand.as_str()) {
                 self.patterns.push(operand)?;
@@ -260,7 +219,7 @@ impl Options {
             }
         }
         if self.patterns.is_empty() && !self.helps {
-            return Err(UsageError::NoPattern);
+            return Err(Error::NoPattern);
         }
         Ok(())
     }
@@ -273,13 +232,15 @@ fn is_operand(arg: &str) -> bool {
 
 /// Returns whether an operand behind the first pattern is one more pattern, and no file.
 fn is_pattern(rt: &HostRuntime, operand: &str) -> bool {
-    operand.bytes().any(is_sign) && matches!(fs::exists(rt, operand), Ok(false))
+    has_sign(operand) && matches!(fs::exists(rt, operand), Ok(false))
 }
 
-/// Returns whether the byte is a sign that patterns have, and names of files seldom.
-fn is_sign(byte: u8) -> bool {
-    matches!(
-        byte,
-        b'[' | b'(' | b'*' | b'+' | b'?' | b'|' | b'^' | b'$' | b'{' | b'\\'
-    )
+/// Returns whether a text has one of the signs that patterns have, and names of files seldom.
+fn has_sign(text: &str) -> bool {
+    for byte in text.as_bytes() {
+        if let b'[' | b'(' | b'*' | b'+' | b'?' | b'|' | b'^' | b'$' | b'{' | b'\\' = byte {
+            return true;
+        }
+    }
+    false
 }
