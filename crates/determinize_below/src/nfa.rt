@@ -115,7 +115,6 @@ fn write_fault<W: fmt::Write>(f: &mut fmt::Formatter<W>, index: usize, fault: &s
 impl Error for BuildError {}
 
 /// A valid Thompson NFA.
-#[derive(Drop)]
 pub struct NFA<A: Allocator = Global> {
     states: Vec<State<A>, A>,
     start_anchored: StateID,
@@ -123,6 +122,20 @@ pub struct NFA<A: Allocator = Global> {
     reverse: bool,
     look_matcher: LookMatcher,
     look_set_any: LookSet,
+}
+
+// Derived code is proved again in each crate that drops an NFA.
+impl<A: Allocator> Drop for NFA<A> {
+    fn drop(self) {
+        let NFA {
+            states: _,
+            start_anchored: _,
+            start_unanchored: _,
+            reverse: _,
+            look_matcher: _,
+            look_set_any: _,
+        } = self;
+    }
 }
 
 impl<A: Allocator> Model for NFA<A> {

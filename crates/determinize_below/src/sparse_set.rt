@@ -20,12 +20,22 @@ use std::alloc::{AllocError, Allocator, Global};
 use std::marker::Model;
 
 /// A set of state ids below a capacity, in insertion order.
-#[derive(Drop)]
 #[derive_where(Debug)]
 pub struct SparseSet<A: Allocator = Global> {
     ids: Vec<StateID, A>,
     bits: Vec<u64, A>,
     capacity: usize,
+}
+
+// Derived code is proved again in each crate that drops a set.
+impl<A: Allocator> Drop for SparseSet<A> {
+    fn drop(self) {
+        let SparseSet {
+            ids: _,
+            bits: _,
+            capacity: _,
+        } = self;
+    }
 }
 
 impl<A: Allocator> Model for SparseSet<A> {

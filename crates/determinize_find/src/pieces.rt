@@ -42,13 +42,25 @@ const BLOCK: usize = 4096;
 /// last one. So the bytes since the last such end or the last match are kept, whichever is later.
 /// Where each search reads to the end of the text, as for `[^z]*z|a` over bytes `a`, all bytes are
 /// kept, and the time is quadratic.
-#[derive(Drop)]
 pub struct Pieces<A: Allocator = Global> {
     kept: Vec<u8, A>,
     dropped: usize,
     start: usize,
     is_after_match: bool,
     scan: Option<Scan<A>>,
+}
+
+// Derived code is proved again at each exit of a function that owns one.
+impl<A: Allocator> Drop for Pieces<A> {
+    fn drop(self) {
+        let Pieces {
+            kept: _,
+            dropped: _,
+            start: _,
+            is_after_match: _,
+            scan: _,
+        } = self;
+    }
 }
 
 impl<A: Allocator> Model for Pieces<A> {

@@ -38,7 +38,7 @@ mod varint;
 
 ghost use Rattle.std.specs.Prelude.{◌≡◌, ◌+◌, ◌*◌, ◌<◌, ◌≤◌, [], length, slice_index, option_map, IfOk, IsOk, Ok, None};
 ghost use Rattle.determinize_state.specs.Value.{IsValue, dead, is_nonempty, listed};
-ghost use Rattle.determinize_state.specs.Spelling.{spell};
+ghost use Rattle.determinize_state.specs.Spelling.{IsSpelled, spell};
 
 pub use builders::{StateBuilderEmpty, StateBuilderMatches, StateBuilderNFA};
 use determinize_below::{LookSet, PatternID};
@@ -52,9 +52,15 @@ use std::marker::Model;
 /// Up to 30 bytes are stored inline, and more in memory of the allocator. A state that `into_state`
 /// of a builder made keeps the builder's memory, however short it is; its clone is stored like any
 /// other. No clause says so.
-#[derive(Drop)]
 pub struct State<A: Allocator = Global> {
     bytes: SmallBytes<A>,
+}
+
+// Derived code is proved again in each crate that drops a state.
+impl<A: Allocator> Drop for State<A> {
+    fn drop(self) {
+        let State { bytes: _ } = self;
+    }
 }
 
 impl<A: Allocator> Model for State<A> {
@@ -176,6 +182,14 @@ impl<A: Allocator> State<A> {
         ensures valid { IsValue self.now }
     {
         self.bytes.as_slice()
+    }
+
+    /// Returns the memory of the bytes, or the allocator if they are inline.
+    fn into_vec(self) -> Result<Vec<u8, A>, A>
+        ensures { IfOk result (λ bytes. IsSpelled bytes.items) }
+    {
+        let State { bytes } = self;
+        bytes.into_vec()
     }
 }
 

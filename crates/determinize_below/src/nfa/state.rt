@@ -19,6 +19,7 @@ use crate::primitives::{PatternID, StateID};
 use std::alloc::{Allocator, Global};
 
 /// A state of a Thompson NFA.
+#[derive(Drop)]
 pub enum State<A: Allocator = Global> {
     /// Has a transition on one range of bytes.
     ByteRange { trans: Transition },
@@ -38,22 +39,6 @@ pub enum State<A: Allocator = Global> {
     Fail,
     /// Accepts the pattern and has no transition.
     Match { pattern_id: PatternID },
-}
-
-impl<A: Allocator> Drop for State<A> {
-    fn drop(self) {
-        match self {
-            State::Sparse(_transitions) => {}
-            State::Dense(_transitions) => {}
-            State::Union { alternates: _ } => {}
-            State::ByteRange { trans: _ } => {}
-            State::Look { look: _, next: _ } => {}
-            State::BinaryUnion { alt1: _, alt2: _ } => {}
-            State::Capture { next: _ } => {}
-            State::Fail => {}
-            State::Match { pattern_id: _ } => {}
-        }
-    }
 }
 
 impl<A: Allocator> State<A> {

@@ -45,16 +45,11 @@ impl Transition {
 }
 
 /// Transitions on ranges of bytes. In an NFA the ranges are sorted and do not overlap.
+#[derive(Drop)]
 #[derive_where(Debug)]
 pub struct SparseTransitions<A: Allocator = Global> {
     /// The transitions, sorted by range.
     pub transitions: Vec<Transition, A>,
-}
-
-impl<A: Allocator> Drop for SparseTransitions<A> {
-    fn drop(self) {
-        let SparseTransitions { transitions: _ } = self;
-    }
 }
 
 impl<A: Allocator> Model for SparseTransitions<A> {
@@ -107,16 +102,11 @@ fn target_in(transitions: &[Transition], byte: u8) -> Option<StateID>
 
 /// A table of targets, one per byte. The target 0 means that there is no transition, so no dense
 /// state can have a transition to state 0. In an NFA the table has 256 entries.
+#[derive(Drop)]
 #[derive_where(Debug)]
 pub struct DenseTransitions<A: Allocator = Global> {
     /// The targets, indexed by byte.
     pub transitions: Vec<StateID, A>,
-}
-
-impl<A: Allocator> Drop for DenseTransitions<A> {
-    fn drop(self) {
-        let DenseTransitions { transitions: _ } = self;
-    }
 }
 
 impl<A: Allocator> Model for DenseTransitions<A> {

@@ -26,9 +26,15 @@ use std::alloc::{AllocError, Allocator, Global};
 use std::marker::Model;
 
 /// A builder of a state with nothing set yet. It may have memory left from an earlier state.
-#[derive(Drop)]
 pub struct StateBuilderEmpty<A: Allocator = Global> {
     bytes: Vec<u8, A>,
+}
+
+// Derived code is proved again in each crate that drops a builder.
+impl<A: Allocator> Drop for StateBuilderEmpty<A> {
+    fn drop(self) {
+        let StateBuilderEmpty { bytes: _ } = self;
+    }
 }
 
 impl<A: Allocator> Model for StateBuilderEmpty<A> {
@@ -55,7 +61,7 @@ impl<A: Allocator> StateBuilderEmpty<A> {
     pub fn from_state(state: State<A>) -> StateBuilderEmpty<A>
         ensures { result ≡ dead }
     {
-        match state.bytes.into_vec() {
+        match state.into_vec() {
             Ok(mut bytes) => {
                 bytes::clear(&mut bytes);
                 StateBuilderEmpty { bytes }
@@ -69,7 +75,7 @@ impl<A: Allocator> StateBuilderEmpty<A> {
     pub fn into_matches(self) -> Result<StateBuilderMatches<A>, AllocError>
         ensures { IfOk result (λ builder. builder ≡ dead) }
     {
-        let bytes = self.bytes;
+        let StateBuilderEmpty { bytes } = self;
         let bytes = if bytes.is_empty() {
             first_bytes(bytes)?
         } else {
@@ -182,10 +188,16 @@ impl<A: Allocator> StateBuilderMatches<A> {
 
 /// A builder that takes the NFA states of a state and its sets of assertions, its flags, and before
 /// the first NFA state its patterns.
-#[derive(Drop)]
 pub struct StateBuilderNFA<A: Allocator = Global> {
     pub(crate) bytes: Vec<u8, A>,
     last: StateID,
+}
+
+// See the drop of `StateBuilderEmpty`.
+impl<A: Allocator> Drop for StateBuilderNFA<A> {
+    fn drop(self) {
+        let StateBuilderNFA { bytes: _, last: _ } = self;
+    }
 }
 
 impl<A: Allocator> Model for StateBuilderNFA<A> {
@@ -345,7 +357,8 @@ impl<A: Allocator> StateBuilderNFA<A> {
     pub fn into_state(self) -> State<A>
         ensures { result ≡ self }
     {
-        let bytes = SmallBytes::from_vec(self.bytes);
+        let StateBuilderNFA { bytes, last: _ } = self;
+        let bytes = SmallBytes::from_vec(bytes);
         State { bytes }
     }
 
@@ -353,7 +366,7 @@ impl<A: Allocator> StateBuilderNFA<A> {
     pub fn clear(self) -> StateBuilderEmpty<A>
         ensures { result ≡ dead }
     {
-        let mut bytes = self.bytes;
+        let StateBuilderNFA { mut bytes, last: _ } = self;
         bytes::clear(&mut bytes);
         StateBuilderEmpty { bytes }
     }
