@@ -231,7 +231,7 @@ impl LookSet {
 }
 
 /// The configuration of line assertions: the line terminator of `StartLF` and `EndLF`.
-#[derive(Clone, Debug, Drop)]
+#[derive(Clone, Copy, Debug)]
 pub struct LookMatcher {
     line_terminator: u8,
 }
@@ -240,6 +240,8 @@ impl Model for LookMatcher {
     ghost Value = { ℕ };
 
     ghost view = { λ m. m.line_terminator };
+
+    ghost inverse = { λ n. record { line_terminator = n } };
 }
 
 impl LookMatcher {

@@ -14,7 +14,7 @@ use std::fmt;
 /// `EOI`. The edges from `anchored` and `unanchored` go to the rows where searches start; if that
 /// depends on the byte behind the start, their labels have the bytes. The dead row and the edges to
 /// it are left out.
-#[derive(Drop)]
+#[derive(Clone, Copy)]
 pub struct DfaGraph<'d, 'n, N: Allocator = Global, A: Allocator = Global> {
     dfa: &'d Dfa<'n, N, A>,
 }

@@ -12,7 +12,7 @@ use std::fmt;
 /// numbers as labels, and 0 is preferred. The edge of an assertion has its name. A state that
 /// matches has a double border and names its pattern. Edges from `anchored` and `unanchored` go
 /// to the two start states.
-#[derive(Drop)]
+#[derive(Clone, Copy)]
 pub struct NfaGraph<'a, A: Allocator = Global> {
     nfa: &'a NFA<A>,
 }

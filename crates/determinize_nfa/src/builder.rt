@@ -25,12 +25,23 @@ use std::marker::Model;
 ///
 /// If a call returns an error, the builder is as before. An id that is that of no state, or a
 /// sparse state that is not sorted, is an error when the NFA is built.
-#[derive(Drop)]
 pub struct Builder<A: Allocator> {
     alloc: A,
     states: Vec<State<A>, A>,
     patterns: usize,
     look_matcher: LookMatcher,
+}
+
+// Derived code is proved again at each exit of a function that owns one.
+impl<A: Allocator> Drop for Builder<A> {
+    fn drop(self) {
+        let Builder {
+            alloc: _,
+            states: _,
+            patterns: _,
+            look_matcher: _,
+        } = self;
+    }
 }
 
 impl<A: Allocator> Model for Builder<A> {
@@ -231,7 +242,7 @@ impl<A: Allocator + Copy> Builder<A> {
     {
         let states = copies(self.alloc, self.states.as_slice())?;
         let (anchored, unanchored) = (start_anchored, start_unanchored);
-        let matcher = copy_of(&self.look_matcher);
+        let matcher = self.look_matcher;
         NFA::from_parts(self.alloc, states, anchored, unanchored, false, matcher)
     }
 
@@ -259,7 +270,7 @@ impl<A: Allocator + Copy> Builder<A> {
         }
         let mut states = copies(self.alloc, self.states.as_slice())?;
         push_prefix(&mut states, start_anchored, union, skip)?;
-        let matcher = copy_of(&self.look_matcher);
+        let matcher = self.look_matcher;
         NFA::from_parts(self.alloc, states, start_anchored, union, false, matcher)
     }
 }
@@ -297,15 +308,6 @@ fn push_prefix<A: Allocator>(
     let (start, end, next) = (0, 255, union);
     let trans = Transition { start, end, next };
     push_state(states, State::ByteRange { trans })
-}
-
-/// Returns a copy of the matcher: its `clone` cannot fail, but has an error.
-pub(crate) fn copy_of(look_matcher: &LookMatcher) -> LookMatcher
-    ensures { result ≡ look_matcher.now }
-{
-    let mut made = LookMatcher::new();
-    made.set_line_terminator(look_matcher.get_line_terminator());
-    made
 }
 
 /// Returns whether the state is a union without alternates.

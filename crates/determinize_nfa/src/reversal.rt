@@ -17,7 +17,7 @@ ghost use Rattle.determinize_nfa.specs.Private.Turning as turning;
 ghost use Rattle.determinize_nfa.specs.Reversal.{IsReverseOf, IsTooLarge, most_states};
 
 use crate::arcs::{Arc, arc_from};
-use crate::builder::{copy_of, push_state};
+use crate::builder::push_state;
 use crate::reached::reached;
 use determinize_below::nfa::{BuildError, State, Transition};
 use determinize_below::{ID_LIMIT, NFA, PatternID, StateID};
@@ -257,6 +257,6 @@ pub fn reversed<N: Allocator, A: Allocator + Copy>(
     let begin = StateID::must(count);
     let turned = Turned::over(alloc, nfa, begin)?;
     let states = turned.into_states(alloc)?;
-    let matcher = copy_of(nfa.look_matcher());
+    let matcher = *nfa.look_matcher();
     NFA::from_parts(alloc, states, start, start, !nfa.is_reverse(), matcher)
 }

@@ -18,7 +18,7 @@ use std::fmt;
 use std::marker::Model;
 
 /// The start configuration of a search: the byte behind its start, if any, and the anchored mode.
-#[derive(Clone, Debug, Drop)]
+#[derive(Clone, Copy, Debug)]
 pub struct Config {
     look_behind: Option<u8>,
     anchored: Anchored,
@@ -30,6 +30,8 @@ impl Model for Config {
     ghost Value = { Setup };
 
     ghost view = { λ c. record { look_behind = c.look_behind; anchored = c.anchored } };
+
+    ghost inverse = { λ s. record { look_behind = s.look_behind; anchored = s.anchored } };
 }
 
 impl Config {

@@ -26,18 +26,16 @@ returns g c =
     let few = most c.args.nfa.now turned over in
     let start : c.in_ok-start.start ≡ suc (length c.args.nfa.now.states)
     = omega (arith, c.in_ok-start.ensures.ok.1, c.len-count.ensures.count) in
-    let matcher : c.copy_of-matcher.result ≡ c.args.nfa.now.terminator
-    = c.copy_of-matcher.ensures ∙ c.look_matcher.ensures.value in
     let made : (b : Nfa) → b ≡ record {
       states = map node_of c.in_ok-states.states.items;
       start_anchored = c.in_ok-start.start;
       start_unanchored = c.in_ok-start.start;
       reverse = not c.is_reverse.result;
-      terminator = c.copy_of-matcher.result;
+      terminator = c.look_matcher-matcher.result.now;
       look_set_any = looks_of (map node_of c.in_ok-states.states.items);
     } → IsMadeOf c.args.nfa.now b turned = λ b p. rw p (record {
       direction = ap not c.is_reverse.ensures;
-      terminator = matcher;
+      terminator = c.look_matcher-matcher.ensures.value;
       start = start;
       states = c.in_ok-states.ensures;
     }) in

@@ -6,11 +6,11 @@ copied : (g : _) (c : goal.After-from_parts g) → ◌≡◌ {A = BuilderValue}
     record {
       states = map node_of c.in_ok-states.states.items;
       patterns = c.self.inside.patterns;
-      terminator = c.copy_of-matcher.result;
+      terminator = c.self.inside.look_matcher;
     }
     c.args.self.now
 copied g c =
-    rw (c.in_ok-states.ensures, c.as_slice.ensures.value, c.copy_of-matcher.ensures) c.self.view_is
+    rw (c.in_ok-states.ensures, c.as_slice.ensures.value) c.self.view_is
 
 pub returns-clause-ok : goal.returns-clause-ok
 returns-clause-ok g c = IfOk-weaker c.from_parts.result _ _

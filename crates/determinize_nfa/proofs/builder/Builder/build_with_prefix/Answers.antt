@@ -37,7 +37,7 @@ abbrev made : (g : _) → goal.After-from_parts g → BuilderValue
 made g c = record {
   states = map node_of c.push_prefix.new.states.items;
   patterns = c.self.inside.patterns;
-  terminator = c.copy_of-matcher.result;
+  terminator = c.self.inside.look_matcher;
 }
 
 made_is : (g : _) (c : goal.After-from_parts g) → made g c ≡ prefixed c.args.self.now c.args.start_anchored
@@ -49,7 +49,6 @@ made_is g c =
       append_assoc,
       (ids g c).0,
       (ids g c).1,
-      c.copy_of-matcher.ensures,
       ← c.self.view_is,
     ) refl
 
