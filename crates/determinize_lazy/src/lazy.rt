@@ -19,7 +19,6 @@ ghost use Rattle.determinize_table.specs.Cursors.{IsCursor, cursor_value};
 ghost use Rattle.determinize_table.specs.CacheBytes.{cache_bytes};
 ghost use Rattle.determinize_table.specs.Table.{IsTable, empty};
 
-use crate::view::View;
 use determinize_below::{MatchKind, NFA, StateID};
 use determinize_core::determinize::Stepper;
 use determinize_core::state::State;
@@ -208,21 +207,6 @@ impl<'n, N: Allocator, A: Allocator + Copy> Lazy<'n, N, A> {
         ensures grows { Grows (cache self.old) (cache self.new) }
     {
         self.table.clear();
-    }
-
-    /// Returns the cache, to be read only.
-    #[inline(always)]
-    pub(crate) fn view(&self) -> View<'_, N, A>
-        ensures { result ≡ self.now }
-    {
-        View {
-            nfa: self.stepper.nfa(),
-            match_kind: self.stepper.match_kind(),
-            limit: self.limit,
-            computed: self.computed,
-            table: &self.table,
-            spans: &self.spans,
-        }
     }
 
     /// Follows cached transitions over the bytes of a text from an index on, and adds a clone of

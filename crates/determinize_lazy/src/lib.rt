@@ -4,9 +4,10 @@
 //! the states that `determinize_core::determinize::walk` returns. A search returns the last match
 //! of such a walk, also in a range of a haystack and in either direction.
 //!
-//! - `lazy`: the type, and walks. `search`: searches. `view`: what they do as long as they only
-//!   read the cache. `step`: one step of either. `scan`: searches of texts in pieces. `walker`:
-//!   walks by steps. `engine`: a lazy DFA as an `Engine`. `owned`: one that owns its NFA.
+//! - `lazy`: the type, and walks. `search`: searches. `cached`: where they begin. `view`: what they
+//!   do as long as they only read the cache. `step`: one step of either. `scan`: searches of texts
+//!   in pieces. `walker`: walks by steps. `engine`: a lazy DFA as an `Engine`. `owned`: one that
+//!   owns its NFA.
 //! - The transition table and the rule of what is cached are in the crate `determinize_table`,
 //!   which also says what a row is.
 //!
@@ -15,6 +16,7 @@
 //! a walker of another NFA, if that has an id which is not one of a state of this NFA.
 #![tactic(auto)]
 
+mod cached;
 mod debug;
 mod engine;
 pub mod laws;

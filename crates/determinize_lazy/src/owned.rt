@@ -5,23 +5,21 @@ ghost use Rattle.std.specs.Prelude.{◌≡◌, ◌<◌, ◌≤◌, ◌*◌, fals
 ghost use Rattle.determinize_below.specs.ByteClasses.{AreClassesOf, Classes};
 ghost use Rattle.determinize_below.specs.Nfa.{IsAccepted};
 ghost use Rattle.determinize_below.specs.Search.{is_done};
-ghost use Rattle.determinize_engine.specs.Searches.{has_start, start_for, text_of, HasMatch, IsSearchResult};
+ghost use Rattle.determinize_engine.specs.Searches.{has_start, HasMatch, IsSearchResult};
 ghost use Rattle.determinize_lazy.specs.Cache.{Grows, cache};
 ghost use Rattle.determinize_lazy.specs.MostBytes.{most_bytes};
 ghost use Rattle.determinize_lazy.specs.Private.Invariant.{IsLazy};
-ghost use Rattle.determinize_lazy.specs.Private.Searched.{IsOverText, IsShort};
-ghost use Rattle.determinize_lazy.specs.Private.Steps.{IsSound};
 ghost use Rattle.determinize_table.specs.CacheBytes.{cache_bytes};
 ghost use Rattle.determinize_table.specs.Table.{empty};
-ghost use Rattle.std.specs.Option.{IfNone, IfSome};
 ghost use Rattle.determinize_lazy.specs.CachedSearches.{IsCutOffIn, after_input, after_is_match};
 
+use crate::cached::{Cached, is_match, search_input};
 use crate::lazy::Lazy;
-use crate::view::{CachedPosition, Reached, View, start_for};
+use crate::view::{CachedPosition, View};
 use determinize_below::{HalfMatch, Input, MatchKind, NFA, StateID};
 use determinize_core::determinize::Stepper;
 use determinize_engine::engine::Engine;
-use determinize_engine::text::{Text, in_haystack};
+use determinize_engine::text::Text;
 use determinize_table::{ClassSpans, TransitionTable};
 use std::alloc::{AllocError, Allocator, Global};
 use std::marker::Model;
@@ -31,13 +29,25 @@ use std::mem;
 ///
 /// The cache is kept from one search to the next, with at most `limit` states. The working memory
 /// of steps is not: a search that computes a state allocates it anew, and moves the cache twice.
-#[derive(Drop)]
 pub struct OwnedLazy<N: Allocator = Global, A: Allocator = Global> {
     alloc: A,
     nfa: NFA<N>,
     match_kind: MatchKind,
     limit: usize,
     kept: Kept<A>,
+}
+
+// Derived code is proved again at each exit of a function that owns one.
+impl<N: Allocator, A: Allocator> Drop for OwnedLazy<N, A> {
+    fn drop(self) {
+        let OwnedLazy {
+            alloc: _,
+            nfa: _,
+            match_kind: _,
+            limit: _,
+            kept: _,
+        } = self;
+    }
 }
 
 /// The cached states and transitions, how many steps were computed, and the classes of a cache by
@@ -237,12 +247,17 @@ impl<N: Allocator, A: Allocator + Copy> OwnedLazy<N, A> {
     {
         self.kept.table.clear();
     }
+}
 
-    /// Returns the cache, to be read only.
+impl<N: Allocator, A: Allocator + Copy> Cached for OwnedLazy<N, A> {
+    type N = N;
+
+    type A = A;
+
+    ghost value = { λ c. c };
+
     #[inline(always)]
-    fn view(&self) -> View<'_, N, A>
-        ensures { result ≡ self.now }
-    {
+    fn view(&self) -> View<'_, N, A> {
         View {
             nfa: &self.nfa,
             match_kind: self.match_kind,
@@ -253,8 +268,7 @@ impl<N: Allocator, A: Allocator + Copy> OwnedLazy<N, A> {
         }
     }
 
-    /// Continues a search that came so far as it only read the cache (`Lazy::search_rest`), with
-    /// the cache lent to a [`Lazy`].
+    /// Lends the cache to a [`Lazy`].
     #[cold]
     #[inline(never)]
     fn search_rest(
@@ -263,11 +277,7 @@ impl<N: Allocator, A: Allocator + Copy> OwnedLazy<N, A> {
         start: StateID,
         text: &Text<'_>,
         earliest: bool,
-    ) -> Result<Option<HalfMatch>, AllocError>
-        requires start { start < length self.old.nfa.states }
-        requires reached { IsShort earliest self.old start text.now reached }
-        ensures { IsOverText earliest (cache self.old) start text.now result (cache self.new) }
-    {
+    ) -> Result<Option<HalfMatch>, AllocError> {
         let empty = Kept {
             table: TransitionTable::new(self.alloc),
             computed: 0,
@@ -279,49 +289,6 @@ impl<N: Allocator, A: Allocator + Copy> OwnedLazy<N, A> {
         self.kept = lazy.into_kept();
         found
     }
-
-    /// Searches a text, as `Lazy` does. If the cache is only read, it is not moved.
-    #[inline(always)]
-    fn search_text(
-        &mut self,
-        start: StateID,
-        text: &Text<'_>,
-        earliest: bool,
-    ) -> Result<Option<HalfMatch>, AllocError>
-        requires { start < length self.old.nfa.states }
-        ensures over { IsOverText earliest (cache self.old) start text.now result
-            (cache self.new) }
-        ensures sound { IsSound (cache self.old) }
-    {
-        match self.view().search_text(start, text, earliest) {
-            Reached::End(found) => Ok(found),
-            // A copy, so that a search that only reads the cache keeps its text in registers.
-            Reached::Short(reached) => self.search_rest(reached, start, &text.copied(), earliest),
-        }
-    }
-
-    /// Searches the text of an input, as `Lazy` does.
-    #[inline(always)]
-    fn search_range(
-        &mut self,
-        input: &Input<'_>,
-        earliest: bool,
-    ) -> Result<Option<HalfMatch>, AllocError>
-        requires start { has_start input.now.anchored ≡ true }
-        requires more { is_done input.now ≡ false }
-        ensures over { IsOverText earliest (cache self.old)
-            (start_for self.old.nfa input.now.anchored) (text_of self.old.nfa.reverse input.now)
-            result (cache self.new) }
-        ensures sound { IsSound (cache self.old) }
-    {
-        let start = start_for(&self.nfa, input.get_anchored());
-        // In each of the two the direction of the text is a constant.
-        if self.nfa.is_reverse() {
-            self.search_text(start, &Text::of_input(input, true), earliest)
-        } else {
-            self.search_text(start, &Text::of_input(input, false), earliest)
-        }
-    }
 }
 
 impl<N: Allocator, A: Allocator + Copy> Engine for OwnedLazy<N, A> {
@@ -329,7 +296,6 @@ impl<N: Allocator, A: Allocator + Copy> Engine for OwnedLazy<N, A> {
 
     ghost engine = { λ v. record { nfa = v.nfa; kind = v.kind; limit = v.limit } };
 
-    #[tactic(auto, unfolding(crate::specs::CachedSearches::after_input))]
     fn search_input(&mut self, input: &Input<'_>) -> Result<Option<HalfMatch>, AllocError>
         requires { has_start input.now.anchored ≡ true }
         ensures search { IfOk result
@@ -340,14 +306,9 @@ impl<N: Allocator, A: Allocator + Copy> Engine for OwnedLazy<N, A> {
             (IsCutOffIn false (cache self.old) input.now (cache self.new)) }
         ensures grows { Grows (cache self.old) (cache self.new) }
     {
-        if input.is_done() {
-            return Ok(None);
-        }
-        let found = self.search_range(input, false)?;
-        Ok(in_haystack(input, self.nfa.is_reverse(), found))
+        search_input(self, input)
     }
 
-    #[tactic(auto, unfolding(crate::specs::CachedSearches::after_is_match))]
     fn is_match(&mut self, input: &Input<'_>) -> Result<bool, AllocError>
         requires { has_start input.now.anchored ≡ true }
         ensures accepts { is_done input.now ≡ false → IfOk result
@@ -358,9 +319,6 @@ impl<N: Allocator, A: Allocator + Copy> Engine for OwnedLazy<N, A> {
             (IsCutOffIn true (cache self.old) input.now (cache self.new)) }
         ensures grows { Grows (cache self.old) (cache self.new) }
     {
-        if input.is_done() {
-            return Ok(false);
-        }
-        Ok(self.search_range(input, true)?.is_some())
+        is_match(self, input)
     }
 }

@@ -1,9 +1,9 @@
 //! Searches over the cache: the last match of a walk, without a list of its states.
 //!
-//! If the id of its start state is kept (`step`), a search begins at that id and follows cached
-//! transitions from row to row (`view`). For each byte `follow` reads two numbers in the row of the
-//! current state: the entry of the byte, which is the offset of the next row, and the tag. It
-//! neither allocates nor hashes, and computes no state. From the first transition that is not
+//! If the id of its start state is kept (`step`), a search begins at that id (`cached`) and follows
+//! cached transitions from row to row (`view`). For each byte `follow` reads two numbers in the row
+//! of the current state: the entry of the byte, which is the offset of the next row, and the tag.
+//! It neither allocates nor hashes, and computes no state. From the first transition that is not
 //! cached, `search_from` continues (its loop is `search_bytes`): it computes that step and follows
 //! cached transitions again. If the id of the start state is not kept, `search_rest` computes that
 //! state and looks it up first.
@@ -14,25 +14,25 @@
 //! Matches are delayed by one unit: a state lists the patterns that match before the unit that led
 //! to it. So a search also reads the unit ahead of its text, and a start state is no match state.
 
-ghost use Rattle.std.specs.Prelude.{Decides, ◌≡◌, ◌<◌, ◌≤◌, ℕ, false, true, Option, drop, length, IfOk, OnErr, OnOk, Ok, None, Some};
-ghost use Rattle.std.specs.Option.{IfNone, IfSome};
+ghost use Rattle.std.specs.Prelude.{Decides, ◌≡◌, ◌<◌, ◌≤◌, false, true, Option, drop, length, IfOk, OnErr, OnOk, Ok, None, Some};
 ghost use Rattle.determinize_below.specs.Nfa.{AllResolve};
 ghost use Rattle.determinize_below.specs.Semantics.{between};
 ghost use Rattle.determinize_below.specs.Search.{is_done};
 ghost use Rattle.determinize_core.specs.Chain.{units};
 ghost use Rattle.determinize_core.specs.Step.{start_value};
 ghost use Rattle.determinize_core.specs.Value.{Value};
-ghost use Rattle.determinize_lazy.specs.Cache.{Cache, Grows, IsCutOff, LazyValue, cache};
+ghost use Rattle.determinize_lazy.specs.Cache.{Grows, IsCutOff, LazyValue, cache};
 ghost use Rattle.determinize_table.specs.Cursors.{IsCursor, cursor_value};
-ghost use Rattle.determinize_lazy.specs.Private.Searched.{Fails, GoesTo, HasStopped, IsNext, IsOver, IsOverText, IsPosition, IsShort, first_place, place, with_cursor};
-ghost use Rattle.determinize_lazy.specs.Private.Steps.{IsFailedStep, IsSound};
-ghost use Rattle.determinize_engine.specs.Searches.{HasMatch, IsSearch, IsSearchResult, has_start, start_for, text_of};
+ghost use Rattle.determinize_lazy.specs.Private.Searched.{Fails, GoesTo, HasStopped, IsNext, IsOver, IsPosition, first_place, place, with_cursor};
+ghost use Rattle.determinize_lazy.specs.Private.Steps.{IsFailedStep};
+ghost use Rattle.determinize_engine.specs.Searches.{HasMatch, IsSearch, IsSearchResult, has_start};
 ghost use Rattle.determinize_lazy.specs.CachedSearches.{IsCutOffIn, IsPlenty, IsPlentyIn, after_input, after_is_match, after_search, units_searched};
 
+use crate::cached::{Cached, is_match, search_input, search_text};
 use crate::lazy::Lazy;
-use crate::view::{CachedPosition, Reached, start_for};
+use crate::view::{CachedPosition, View};
 use determinize_below::{HalfMatch, Input, StateID};
-use determinize_engine::text::{Text, in_haystack};
+use determinize_engine::text::Text;
 use determinize_table::{Cursor, LastMatch};
 use std::alloc::{AllocError, Allocator};
 
@@ -183,77 +183,6 @@ impl<'n, N: Allocator, A: Allocator + Copy> Lazy<'n, N, A> {
         Ok(self.found(&at))
     }
 
-    /// Continues a search that came so far as it only read the cache: to a position, or to none,
-    /// since the id of its start state is not kept.
-    #[cold]
-    #[inline(never)]
-    pub(crate) fn search_rest(
-        &mut self,
-        reached: Option<CachedPosition>,
-        start: StateID,
-        text: &Text<'_>,
-        earliest: bool,
-    ) -> Result<Option<HalfMatch>, AllocError>
-        requires start { start < length self.old.nfa.states }
-        requires reached { IsShort earliest self.old start text.now reached }
-        ensures { IsOverText earliest (cache self.old) start text.now result (cache self.new) }
-    {
-        match reached {
-            Some(at) => self.search_from(at.with_cursor(), text, earliest),
-            None => {
-                let cursor = self.find_start(start, text.behind())?;
-                self.search_from(Position::start(cursor), text, earliest)
-            }
-        }
-    }
-
-    /// Searches a text from the start state of a walk over it. If the id of that state is kept and
-    /// all transitions are cached, the cache is only read.
-    #[inline(always)]
-    fn search_text(
-        &mut self,
-        start: StateID,
-        text: &Text<'_>,
-        earliest: bool,
-    ) -> Result<Option<HalfMatch>, AllocError>
-        requires { start < length self.old.nfa.states }
-        ensures over { IsOverText earliest (cache self.old) start text.now result
-            (cache self.new) }
-        ensures sound { IsSound (cache self.old) }
-    {
-        match self.view().search_text(start, text, earliest) {
-            Reached::End(found) => Ok(found),
-            // A copy, so that a search that only reads the cache keeps its text in registers.
-            Reached::Short(reached) => self.search_rest(reached, start, &text.copied(), earliest),
-        }
-    }
-
-    /// Searches the text of an input. The offset of the match counts from the start of the text in
-    /// reading order.
-    #[inline(always)]
-    fn search_range(
-        &mut self,
-        input: &Input<'_>,
-        earliest: bool,
-    ) -> Result<Option<HalfMatch>, AllocError>
-        requires start { has_start input.now.anchored ≡ true }
-        requires more { is_done input.now ≡ false }
-        ensures over { IsOverText earliest (cache self.old)
-            (start_for self.old.nfa input.now.anchored) (text_of self.old.nfa.reverse input.now)
-            result (cache self.new) }
-        ensures sound { IsSound (cache self.old) }
-    {
-        let nfa = self.nfa();
-        let start = start_for(nfa, input.get_anchored());
-        // Each has the direction of the text as a constant. With one call for both a search of four
-        // bytes takes 7 % more instructions.
-        if nfa.is_reverse() {
-            self.search_text(start, &Text::of_input(input, true), earliest)
-        } else {
-            self.search_text(start, &Text::of_input(input, false), earliest)
-        }
-    }
-
     /// Returns the last match of the walk that `walk_between` makes over the same text, or `None`
     /// if it has no match. The offset of a match is the number of bytes before its end.
     ///
@@ -288,7 +217,7 @@ impl<'n, N: Allocator, A: Allocator + Copy> Lazy<'n, N, A> {
         ensures grows { Grows (cache self.old) (cache self.new) }
     {
         let text = Text::new(look_behind, text, look_ahead);
-        self.search_text(start, &text, false)
+        search_text(self, start, &text, false)
     }
 
     /// Returns the last match of a search of an input, or `None` if no run accepts.
@@ -306,7 +235,6 @@ impl<'n, N: Allocator, A: Allocator + Copy> Lazy<'n, N, A> {
     /// No match includes the bytes next to the range. The byte behind decides the start state only;
     /// the byte ahead is read as the last unit, and its transition may be computed and cached. If
     /// the range starts past its end, nothing is read and the result is `Ok(None)`.
-    #[tactic(auto, unfolding(crate::specs::CachedSearches::after_input))]
     pub fn search_input(&mut self, input: &Input<'_>) -> Result<Option<HalfMatch>, AllocError>
         requires { has_start input.now.anchored ≡ true }
         ensures search { IfOk result
@@ -319,11 +247,7 @@ impl<'n, N: Allocator, A: Allocator + Copy> Lazy<'n, N, A> {
             (IsCutOffIn false (cache self.old) input.now (cache self.new)) }
         ensures grows { Grows (cache self.old) (cache self.new) }
     {
-        if input.is_done() {
-            return Ok(None);
-        }
-        let found = self.search_range(input, false)?;
-        Ok(in_haystack(input, self.nfa().is_reverse(), found))
+        search_input(self, input)
     }
 
     /// Returns whether an input has a match, under both match kinds: whether some run over what
@@ -332,7 +256,6 @@ impl<'n, N: Allocator, A: Allocator + Copy> Lazy<'n, N, A> {
     /// Stops at the first match state, and at a state that records no NFA states. Over cached
     /// transitions the cache is only read. If the range starts past its end, nothing is read and
     /// the result is `Ok(false)`. `Anchored::Pattern` is not accepted.
-    #[tactic(auto, unfolding(crate::specs::CachedSearches::after_is_match))]
     pub fn is_match(&mut self, input: &Input<'_>) -> Result<bool, AllocError>
         requires { has_start input.now.anchored ≡ true }
         ensures accepts { is_done input.now ≡ false → IfOk result
@@ -344,9 +267,44 @@ impl<'n, N: Allocator, A: Allocator + Copy> Lazy<'n, N, A> {
             (IsCutOffIn true (cache self.old) input.now (cache self.new)) }
         ensures grows { Grows (cache self.old) (cache self.new) }
     {
-        if input.is_done() {
-            return Ok(false);
+        is_match(self, input)
+    }
+}
+
+impl<'n, N: Allocator, A: Allocator + Copy> Cached for Lazy<'n, N, A> {
+    type N = N;
+
+    type A = A;
+
+    ghost value = { λ c. c };
+
+    #[inline(always)]
+    fn view(&self) -> View<'_, N, A> {
+        View {
+            nfa: self.stepper.nfa(),
+            match_kind: self.stepper.match_kind(),
+            limit: self.limit,
+            computed: self.computed,
+            table: &self.table,
+            spans: &self.spans,
         }
-        Ok(self.search_range(input, true)?.is_some())
+    }
+
+    #[cold]
+    #[inline(never)]
+    fn search_rest(
+        &mut self,
+        reached: Option<CachedPosition>,
+        start: StateID,
+        text: &Text<'_>,
+        earliest: bool,
+    ) -> Result<Option<HalfMatch>, AllocError> {
+        match reached {
+            Some(at) => self.search_from(at.with_cursor(), text, earliest),
+            None => {
+                let cursor = self.find_start(start, text.behind())?;
+                self.search_from(Position::start(cursor), text, earliest)
+            }
+        }
     }
 }

@@ -16,6 +16,7 @@ ghost use Rattle.determinize_table.specs.Tags.{tag_in, tag_of};
 ghost use Rattle.determinize_table.specs.Table.{is_cached};
 ghost use Rattle.determinize_table.specs.declared.table.Cursor.TheVariants as cursors;
 
+use crate::cached::Cached;
 use crate::lazy::Lazy;
 use crate::view::start_number;
 use determinize_below::{NFA, StateID, Unit};

@@ -4,9 +4,9 @@ use Rattle.determinize_lazy.proofs.steps.Rule.{of_err}
 use Rattle.determinize_lazy.proofs.walking.CachedWalks.{cut_off-none}
 use Rattle.determinize_lazy.specs.Private.Searched.{IsShort}
 use Rattle.std.proofs.lemmas.Result.{IfOk-from_err}
-use Rattle.determinize_lazy.proofs.lazy.Lazy.search_rest.Given.{Over}
-use Rattle.determinize_lazy.proofs.lazy.Lazy.search_rest.Goals.{In-Some}
-use Rattle.determinize_lazy.proofs.lazy.Lazy.search_rest.Goals as goal
+use Rattle.determinize_lazy.proofs.search.LazyCached.search_rest.Given.{Over}
+use Rattle.determinize_lazy.proofs.search.LazyCached.search_rest.Goals.{In-Some}
+use Rattle.determinize_lazy.proofs.search.LazyCached.search_rest.Goals as goal
 
 -- how far it came
 come : (g : Over) (c : In-Some g)

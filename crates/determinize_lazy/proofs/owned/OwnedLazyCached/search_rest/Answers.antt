@@ -5,9 +5,9 @@ use Rattle.determinize_core.proofs.step.Resolving.{start_resolves}
 use Rattle.determinize_lazy.proofs.finding.Searching.{over-kept}
 use Rattle.determinize_lazy.proofs.steps.FewStates.{small-over, small-start}
 use Rattle.determinize_lazy.specs.Private.Invariant.{IsSmall}
-use Rattle.determinize_lazy.proofs.owned.OwnedLazy.search_rest.Given.{Over}
-use Rattle.determinize_lazy.proofs.owned.OwnedLazy.search_rest.Goals.{After-into_kept}
-use Rattle.determinize_lazy.proofs.owned.OwnedLazy.search_rest.Goals as goal
+use Rattle.determinize_lazy.proofs.owned.OwnedLazyCached.search_rest.Given.{Over}
+use Rattle.determinize_lazy.proofs.owned.OwnedLazyCached.search_rest.Goals.{After-into_kept}
+use Rattle.determinize_lazy.proofs.owned.OwnedLazyCached.search_rest.Goals as goal
 
 -- the cache is lent as it is
 over : (g : Over) (c : After-into_kept g)

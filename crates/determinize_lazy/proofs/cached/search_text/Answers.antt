@@ -1,6 +1,6 @@
 use Rattle.determinize_lazy.proofs.Common.{refl}
 use Rattle.determinize_lazy.proofs.finding.Searching.{over-any, over-text}
-use Rattle.determinize_lazy.proofs.owned.OwnedLazy.search_text.Goals as goal
+use Rattle.determinize_lazy.proofs.cached.search_text.Goals as goal
 
 pub returns-in-End-clause-over : goal.returns-in-End-clause-over
 returns-in-End-clause-over g c = over-any (rw c.view.ensures at c.in-End.ensures.reached)
