@@ -173,11 +173,11 @@ impl<A: Allocator> NFA<A> {
     ///
     /// The checks run in this order: the number of states; the two start ids; then the states by
     /// index, and within a state its ids, the ranges of a sparse state, the length of a dense
-    /// state, and whether the pattern of a `Match` state repeats. Returns `OutOfMemory` only if an
-    /// allocation for the set of patterns fails, even if a later check would fail, too. The number
-    /// of states and the start ids are checked before anything is allocated, so those errors do not
-    /// depend on memory. The set of patterns is allocated in `alloc` and dropped before the call
-    /// returns.
+    /// state, and whether the pattern of a `Match` state repeats. Returns `OutOfMemory` if an
+    /// allocation for the set of patterns fails, even where a later check would have failed. The
+    /// number of states and the start ids are checked before anything is allocated, so those errors
+    /// do not depend on memory. The set of patterns is allocated in `alloc` and dropped before the
+    /// call returns.
     pub fn from_parts<B: Allocator + Clone>(
         alloc: B,
         states: Vec<State<A>, A>,

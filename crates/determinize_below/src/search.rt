@@ -213,7 +213,7 @@ pub struct Match {
 }
 
 impl Match {
-    /// Returns whether the match is empty.
+    /// Returns whether the match is empty: its start is not below its end, as for a `Range`.
     pub fn is_empty(&self) -> bool
         ensures { result ≡ nat_le self.now.end self.now.start }
     {

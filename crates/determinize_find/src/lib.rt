@@ -1,7 +1,8 @@
 //! The leftmost match, with both of its ends, and all matches of a haystack.
 //!
 //! A search returns an error if an allocation fails or a cache would need more than 16647160
-//! states. The caches stay usable: later results are the same.
+//! states. The caches stay usable: later results are the same. The input of a search must not be
+//! `Anchored::Pattern`.
 #![tactic(auto)]
 
 pub mod certain;

@@ -530,7 +530,8 @@ impl<A: Allocator + Copy> Pieces<A> {
     /// Adds the matches that are left if the text ends after the pieces so far. The search is
     /// unchanged, so it may be fed further, as if `finish` had not been called.
     ///
-    /// Returns `AllocError` as `feed` does. Then nothing is added, and it may be called again.
+    /// Returns `AllocError` if an allocation fails or a cache would need more than 16647160 states.
+    /// Then nothing is added, and it may be called again.
     pub fn finish<N: Allocator, B: Engine<Error = AllocError>, C: Allocator>(
         &self,
         regex: &mut Regex<Lazy<'_, N, A>, B>,

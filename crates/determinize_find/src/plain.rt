@@ -160,7 +160,8 @@ pub fn find<N: Allocator, A: Allocator + Copy>(
 /// starts. If `before` is `None`, returns the first match.
 ///
 /// It is the leftmost match of the range. But an empty match where the one before ended is skipped,
-/// and the next match is then the leftmost one from one byte further on.
+/// and the next match is then the leftmost one from one byte further on. The cache must be for
+/// `MatchKind::LeftmostFirst`, and its NFA must read forward.
 pub fn next_match<N: Allocator, A: Allocator + Copy>(
     lazy: &mut Lazy<'_, N, A>,
     input: &Input<'_>,
@@ -182,7 +183,7 @@ pub fn next_match<N: Allocator, A: Allocator + Copy>(
 }
 
 /// Returns all matches of an input, in their order: each is the [`next_match`] after the one before
-/// it.
+/// it. The cache must be for `MatchKind::LeftmostFirst`, and its NFA must read forward.
 pub fn find_all<N: Allocator, A: Allocator + Copy, B: Allocator>(
     alloc: B,
     lazy: &mut Lazy<'_, N, A>,

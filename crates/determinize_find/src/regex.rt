@@ -83,6 +83,7 @@ impl<F: Engine, B: Engine<Error = F::Error>> Regex<F, B> {
     /// Returns a search by two DFAs: `forward` finds the ends of matches, and `backward` their
     /// starts. Does not allocate, and no search does if neither DFA does.
     ///
+    /// `forward` must be under `MatchKind::LeftmostFirst`, and `backward` under `MatchKind::All`.
     /// The NFA of `forward` must read forward and have the usual prefix (`has_prefix`), and that of
     /// `backward` must be its reverse, as `reversed` returns it.
     pub fn from_engines(forward: F, backward: B) -> Regex<F, B>
@@ -211,6 +212,7 @@ impl<F: Engine, B: Engine<Error = F::Error>> Regex<F, B> {
     {
         match self.search_start(haystack, start, end)? {
             Some(begin) => Ok(begin),
+            // A match has this end, so the search backward finds where it begins.
             None => unreachable!(),
         }
     }
@@ -348,8 +350,9 @@ impl<'n, N: Allocator, A: Allocator + Copy, B: Engine<Error = AllocError>> Regex
     }
 
     /// Returns the leftmost match of a haystack from an index on, if it is certain by `scan`, the
-    /// search of those bytes: then nothing that follows the haystack can change it. It begins
-    /// before the end. If no match that ends there does, the scan is one of another NFA.
+    /// search of those bytes: then nothing that follows the haystack can change it. Such a match
+    /// begins before the end of the haystack. Where the search backward finds none that does,
+    /// `scan` is one of another NFA, and the result is `None`.
     #[inline(always)]
     pub(crate) fn certain(
         &mut self,

@@ -1,5 +1,5 @@
 //! A lazy DFA that owns its NFA. A search that only reads the cache is that of a [`Lazy`]; one that
-//! computes a state lends NFA and cache to a `Lazy`, and takes the cache back.
+//! computes a state moves the cache into a `Lazy` that borrows the NFA, and then moves it back.
 
 ghost use Rattle.std.specs.Prelude.{◌≡◌, ◌<◌, ◌≤◌, ◌*◌, false, length, min, true, Decides, None, Ok, IfOk, OnErr, OnOk, Some};
 ghost use Rattle.determinize_below.specs.ByteClasses.{AreClassesOf, Classes};

@@ -65,8 +65,9 @@ impl<A: Allocator> Scan<A> {
     }
 
     /// Returns the last match that the states so far have reported, or `None`. Matches are delayed
-    /// by one unit, so one that ends where the last piece ends is not among them: it is the match
-    /// that a search finds of the bytes before the last one, which it sees ahead of them.
+    /// by one unit, so one that ends where the last piece ends is not reported yet: the result is
+    /// that of a search of all bytes but the last, which that search sees as the byte after its
+    /// range.
     pub fn last(&self) -> Option<HalfMatch>
         ensures value { result ≡ self.now.last }
         ensures within { EndsBefore result self.now.read }
@@ -133,7 +134,8 @@ impl<'n, N: Allocator, A: Allocator + Copy> Lazy<'n, N, A> {
     }
 
     /// Returns a search that has read the first piece of its text, as `scan` and then `feed` would.
-    /// If the id of its start state is kept, as for `search`, nothing is computed to begin it.
+    /// `start` must be below the number of states, and `look_behind` is as for `scan`. If the id of
+    /// its start state is kept, as for `search`, nothing is computed to begin it.
     pub fn scan_text(
         &mut self,
         start: StateID,

@@ -23,8 +23,10 @@ use std::marker::Model;
 
 /// A builder of an NFA that reads forward.
 ///
-/// If a call returns an error, the builder is as before. An id that is that of no state, or a
-/// sparse state that is not sorted, is an error when the NFA is built.
+/// A call that adds a state returns `TooManyStates` if there are already 2147483647, and
+/// `OutOfMemory` if an allocation fails. If a call returns an error, the builder is as before. An
+/// id that is that of no state, or a sparse state that is not sorted, is an error when the NFA is
+/// built.
 pub struct Builder<A: Allocator> {
     alloc: A,
     states: Vec<State<A>, A>,
@@ -190,8 +192,9 @@ impl<A: Allocator + Copy> Builder<A> {
 
     /// Sets the target of a state that has one target, or adds a last alternate to a union.
     ///
-    /// Returns `NotPatchable` for a sparse state, a match state and one without transitions. To
-    /// patch a sparse state, give it an empty state as its target and patch that.
+    /// `from` must be below `len()`, and `to` may be any id. Returns `NotPatchable` for a sparse
+    /// state, a match state and a fail state. To patch a sparse state, give it an empty state as
+    /// its target and patch that.
     pub fn patch(&mut self, from: StateID, to: StateID) -> Result<(), BuildError>
         requires { from < length self.old.states }
         ensures patched { OnOk result (self.new ≡ patched self.old from to) }
@@ -207,7 +210,7 @@ impl<A: Allocator + Copy> Builder<A> {
     }
 
     /// Gives a union without alternates, as `add_union(&[])` adds it, these alternates, in order of
-    /// preference. Returns `NotPatchable` for any other state.
+    /// preference. `union` must be below `len()`. Returns `NotPatchable` for any other state.
     pub fn close(&mut self, union: StateID, alternates: &[StateID]) -> Result<(), BuildError>
         requires { union < length self.old.states }
         ensures closed { OnOk result (self.new ≡ closed self.old union alternates.now) }
@@ -247,8 +250,11 @@ impl<A: Allocator + Copy> Builder<A> {
     }
 
     /// Returns the NFA of the states that were added and of the usual prefix, `(?s-u:.)*?`, which
-    /// is its unanchored start. The prefix has two states, to which no state that was added may
-    /// have a transition.
+    /// is its unanchored start. The two states of the prefix have the ids `len()` and `len() + 1`.
+    ///
+    /// Returns `UnresolvedStart` if `start_anchored` is not below `len()`, `UnresolvedId` for a
+    /// state with a transition to one of these two, `TooManyStates` if there are not two more ids,
+    /// and otherwise the errors of `build`.
     #[tactic(auto, using(crate::proofs::building::Building::unfit_memory))]
     pub fn build_with_prefix(&self, start_anchored: StateID) -> Result<NFA<A>, BuildError>
         ensures prefix { IfOk result (λ nfa. HasPrefix nfa) }

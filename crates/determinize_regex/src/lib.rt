@@ -6,6 +6,10 @@
 //! `compile` of `determinize_pattern` makes the NFA, and `determinize_find` searches it. The
 //! [`laws`] join their contracts: the leftmost match that a search finds is that of the patterns,
 //! and so are all matches.
+//!
+//! A search returns `AllocError` if an allocation fails or a cache would need more than 16647160
+//! states. The caches stay usable: later results are the same. The input of a search must not be
+//! `Anchored::Pattern`.
 #![tactic(auto)]
 
 pub mod error;

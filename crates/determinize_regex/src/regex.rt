@@ -197,7 +197,7 @@ impl Regex {
     /// begin at the same index it is the preferred one. Its ends are indices into the haystack.
     ///
     /// The bytes next to the range are seen by assertions. If the range starts past its end, the
-    /// result is `Ok(None)`. Returns an error if an allocation fails; the caches stay usable.
+    /// result is `Ok(None)`.
     pub fn find(&mut self, input: &Input<'_>) -> Result<Option<Match>, AllocError>
         requires start { has_start input.now.anchored ≡ true }
         ensures leftmost { IfOk result (λ found. IsFirst self.old input.now found) }

@@ -153,7 +153,8 @@ impl<'r, A: Allocator + Copy> Stream<'r, A> {
     /// Adds the matches that are left, if the text ends after the pieces so far. The text may still
     /// be fed further, as if `finish` had not been called.
     ///
-    /// Returns `AllocError` as `feed` does. Then nothing is added, and it may be called again.
+    /// Returns `AllocError` if an allocation fails or a cache would need more than 16647160 states.
+    /// Then nothing is added, and it may be called again.
     pub fn finish<C: Allocator>(&mut self, found: &mut Vec<Match, C>) -> Result<(), AllocError>
         ensures finished { OnOk result
             (IsFinishedOf self.old found.old.items found.new.items) }
