@@ -5,7 +5,7 @@
 use Rattle.std.proofs.Common.{◌≡◌, ◌+◌, ◌++◌, ◌∙◌, ◌∷◌, ◌<◌, ℕ, List, [], length, map, sym, take, true}
 use Rattle.std.proofs.Math.ListN.{get_or}
 use Rattle.std.proofs.lemmas.Bool.{true≢false}
-use Rattle.std.proofs.lemmas.List.{map-append, take_more}
+use Rattle.std.proofs.lemmas.List.{map-append, take-map, take_more}
 use Rattle.std.proofs.lemmas.Option.{slice_get-get_or, slice_get-map}
 use Rattle.determinize_pattern.specs.Meaning.{Re}
 use Rattle.determinize_pattern.specs.Patterns.{meaning}
@@ -30,10 +30,13 @@ module _ {T : Type 0} (bytes : T → List ℕ) (flags : Flags) where
   )
       (one_more _ _ _ _ so_far next)
 
-  -- the error of the text at an index
-  pub rejects_at : (texts : List T) (i : ℕ) (d : T) (e : ParseError) → i < length texts
+  -- the error of the first text that is rejected
+  pub rejects_at : (patterns : List Pattern) (texts : List T) (i : ℕ) (d : T) (e : ParseError) → i < length texts
+      → AreSpelled flags (map meaning patterns) (map bytes (take i texts))
       → ((re : Re) → SpellsUnder flags re (bytes (get_or texts i d)) → is_limit e.kind ≡ true)
       → IsRejected flags (map bytes texts) (Parse i e)
-  rejects_at texts i d e inside limited =
-      rw (slice_get-map bytes texts i, slice_get-get_or texts i d inside)
-      (λ fault re denotes. true≢false (sym (limited re denotes) ∙ fault))
+  rejects_at patterns texts i d e inside so_far limited = record {
+    before = (map meaning patterns, rw (take-map bytes i texts) so_far);
+    text = rw (slice_get-map bytes texts i, slice_get-get_or texts i d inside)
+        (λ fault re denotes. true≢false (sym (limited re denotes) ∙ fault));
+  }

@@ -1,10 +1,11 @@
 -- Texts of patterns.
-use Rattle.std.specs.Prelude.{◌≡◌, ◌++◌, ◌∷◌, ℕ, List, [], false, slice_get, ⊤}
+use Rattle.std.specs.Prelude.{◌≡◌, ◌++◌, ◌∷◌, ℕ, List, [], false, slice_get, take, ⊤}
 use Rattle.std.specs.Option.{IsSomeAnd}
 use Rattle.determinize_pattern.specs.Meaning.{Re}
 use Rattle.determinize_regex.specs.declared.error.Error.{Error}
 use Rattle.determinize_regex.specs.declared.error.Error.TheVariants.{Compile, Parse}
 use Rattle.determinize_syntax.specs.Spells.{SpellsUnder, is_limit}
+use Rattle.determinize_syntax.specs.declared.error.ErrorKind.{ErrorKind}
 use Rattle.determinize_syntax.specs.declared.flags.Flags.{Flags}
 
 -- the texts denote these patterns, in this order
@@ -14,13 +15,14 @@ pub data AreSpelled (flags : Flags) : List Re → List (List ℕ) → Type 0 whe
       → AreSpelled flags res texts → SpellsUnder flags re text
       → AreSpelled flags (res ++ re ∷ []) (texts ++ text ∷ [])
 
--- the error is not one of the texts
-abbrev pub IsOfCompile : Error → Type 0
-IsOfCompile (Compile e) = ⊤
-IsOfCompile (Parse index e) = ⊥
+-- the texts before an index denote patterns; the text there denotes none, unless a limit was met
+pub record IsFirstRejected (flags : Flags) (texts : List (List ℕ)) (index : ℕ) (kind : ErrorKind)
+    : Type 0 where
+  pub before : (res : List Re) × AreSpelled flags res (take index texts)
+  pub text : IsSomeAnd (slice_get texts index)
+      (λ text. is_limit kind ≡ false → (re : Re) → SpellsUnder flags re text → ⊥)
 
--- if the error is that of a text, this denotes no pattern, unless a limit was met
+-- if the error is that of a text, this is the first that is rejected
 abbrev pub IsRejected : Flags → List (List ℕ) → Error → Type 0
 IsRejected flags texts (Compile e) = ⊤
-IsRejected flags texts (Parse index e) = IsSomeAnd (slice_get texts index)
-    (λ text. is_limit e.kind ≡ false → (re : Re) → SpellsUnder flags re text → ⊥)
+IsRejected flags texts (Parse index e) = IsFirstRejected flags texts index e.kind

@@ -1,6 +1,9 @@
 //! Errors of `Regex::new`.
 
-ghost use Rattle.determinize_regex.specs.Spelled.{IsOfCompile};
+ghost use Rattle.std.specs.Prelude.{◌≡◌};
+ghost use Rattle.determinize_below.specs.declared.nfa.BuildError.TheVariants.{OutOfMemory};
+ghost use Rattle.determinize_pattern.specs.declared.nfa.CompileError.TheVariants.{Build};
+ghost use Rattle.determinize_regex.specs.declared.error.Error.TheVariants.{Compile};
 
 use determinize_below::BuildError;
 use determinize_pattern::CompileError;
@@ -29,7 +32,7 @@ impl fmt::Display for Error {
 impl error::Error for Error {}
 
 impl From<CompileError> for Error {
-    ghost from_gives = { λ _ e. IsOfCompile e };
+    ghost from_gives = { λ error e. e ≡ Compile error };
 
     fn from(error: CompileError) -> Error {
         Error::Compile(error)
@@ -37,7 +40,7 @@ impl From<CompileError> for Error {
 }
 
 impl From<AllocError> for Error {
-    ghost from_gives = { λ _ e. IsOfCompile e };
+    ghost from_gives = { λ _ e. e ≡ Compile (Build OutOfMemory) };
 
     fn from(error: AllocError) -> Error {
         Error::Compile(CompileError::from(error))
@@ -45,7 +48,7 @@ impl From<AllocError> for Error {
 }
 
 impl<T: Drop> From<AllocFailed<T>> for Error {
-    ghost from_gives = { λ _ e. IsOfCompile e };
+    ghost from_gives = { λ _ e. e ≡ Compile (Build OutOfMemory) };
 
     fn from(error: AllocFailed<T>) -> Error {
         Error::Compile(CompileError::from(error))

@@ -1,12 +1,14 @@
 //! Patterns that are compiled once, and searched for.
 
-ghost use Rattle.std.specs.Prelude.{◌≡◌, ◌+◌, ◌≤◌, ◌∷◌, [], IfErr, IfOk, length, map, false, true};
+ghost use Rattle.std.specs.Prelude.{◌≡◌, ◌+◌, ◌<◌, ◌≤◌, ◌∷◌, [], Err, IfErr, IfOk, length, map, false, true};
 ghost use Rattle.std.specs.Bool.{Decides};
 ghost use Rattle.std.specs.Option.{IfSome};
 ghost use Rattle.determinize_engine.specs.Searches.{has_start};
 ghost use Rattle.determinize_nfa.specs.Prefix.{HasPrefix, HasPrefixApart};
 ghost use Rattle.determinize_pattern.specs.Compiled.{IsNfaOf};
+ghost use Rattle.determinize_pattern.specs.Nesting.{deepest};
 ghost use Rattle.determinize_pattern.specs.Patterns.{meaning};
+ghost use Rattle.determinize_pattern.specs.declared.nfa.CompileError.TheVariants.{NestLimitExceeded};
 ghost use Rattle.determinize_regex.specs.Parts.{AreParts, AreUtf8Parts, IsReplaced, IsReplacedUtf8};
 ghost use Rattle.determinize_regex.specs.RegexBytes.{regex_bytes};
 ghost use Rattle.determinize_regex.specs.Regexes.{AreAll, HasFirst, IsFirst};
@@ -144,6 +146,8 @@ impl Regex {
         ensures limit { IfOk result (λ regex. regex.limit ≡ config.cache_limit) }
         ensures few { IfOk result
             (λ regex. length regex.nfa.states ≤ config.compile.state_limit + 2) }
+        ensures nested { config.compile.nest_limit < deepest patterns.items
+            → result ≡ Err (NestLimitExceeded config.compile.nest_limit) }
     {
         let nfa = compile(alloc, &patterns, config.compile)?;
         let search = OwnedRegex::from_nfa(alloc, nfa, config.cache_limit)?;

@@ -102,7 +102,9 @@ pub struct ParseError {
 impl ParseError {
     /// Returns the error of this kind at this place.
     pub fn new(kind: ErrorKind, start: usize, end: usize) -> ParseError
-        ensures { result.kind ≡ kind }
+        ensures kind { result.kind ≡ kind }
+        ensures start { result.start ≡ start }
+        ensures end { result.end ≡ end }
     {
         ParseError { kind, start, end }
     }

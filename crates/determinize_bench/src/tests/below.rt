@@ -1,8 +1,9 @@
-//! Ids and units: texts.
+//! Ids and units: texts. Dense states with too few targets, and too many.
 
 use crate::tests::texts::expect_text;
-use crate::tests::{joined, same};
-use determinize_below::{PatternID, StateID, Unit};
+use crate::tests::{joined, same, same_at};
+use determinize_below::nfa::{DenseTransitions, State};
+use determinize_below::{BuildError, LookMatcher, NFA, PatternID, StateID, Unit};
 
 /// The debug texts of a state id, a pattern id, a byte and the end of input.
 const VALUES: &str = "\
@@ -26,4 +27,20 @@ fn texts_of_numbers_that_are_no_ids(rt: HostRuntime) {
     let state = StateID::new(2_147_483_647);
     let pattern = PatternID::new(3_000_000_000);
     expect_text(&rt, &(state, pattern), ERRORS);
+}
+
+#[test]
+fn rejects_a_short_table(rt: HostRuntime) {
+    let start = StateID::ZERO;
+    for (count, error) in [
+        (255, Some(BuildError::BadDense(0))),
+        (256, None),
+        (257, Some(BuildError::BadDense(0))),
+    ] {
+        let transitions = vec![in rt.alloc(); start; count].expect(&rt, "memory");
+        let dense = State::Dense(DenseTransitions { transitions });
+        let states = vec![in rt.alloc(); dense].expect(&rt, "memory");
+        let made = NFA::from_parts(rt.alloc(), states, start, start, false, LookMatcher::new());
+        same_at(&rt, count, made.err(), error);
+    }
 }

@@ -12,5 +12,5 @@ loop-i-preserved c = spells_one_more (λ t. t.now) c.args.flags c.loop-i.pattern
     c.args.texts.now c.loop-i.i _ c.loop-i-test.true (search rules) c.loop-i.invariant c.in-Ok.ensures.spells
 
 pub returns-in-Err-clause-rejected : goal.returns-in-Err-clause-rejected
-returns-in-Err-clause-rejected c = rejects_at (λ t. t.now) c.args.flags c.args.texts.now c.loop-i.i _ c.in-Err.error
-    c.loop-i-test.true c.in-Err.ensures.complete
+returns-in-Err-clause-rejected c = rejects_at (λ t. t.now) c.args.flags c.loop-i.patterns.items c.args.texts.now
+    c.loop-i.i _ c.in-Err.error c.loop-i-test.true c.loop-i.invariant c.in-Err.ensures.complete
