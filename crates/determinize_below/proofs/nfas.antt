@@ -1,8 +1,11 @@
 pub mod Boundaries
 pub mod Edges
 pub mod Failures
+pub mod Partitions
 pub mod SortedBytes
 pub mod SortedRanges
 pub mod SoundNfa
 pub mod StateChecks
+pub mod TargetSplits
+pub mod TestSplits
 pub mod TestedLooks

@@ -10,6 +10,7 @@
 #![tactic(auto)]
 
 pub mod alphabet;
+pub mod as_nfa;
 pub mod laws;
 pub mod look;
 pub mod look_laws;
@@ -19,6 +20,7 @@ pub mod search;
 pub mod sparse_set;
 
 pub use alphabet::{ByteClasses, Unit};
+pub use as_nfa::AsNfa;
 pub use look::{Look, LookMatcher, LookSet};
 pub use nfa::{BuildError, DenseTransitions, NFA, SparseTransitions, Transition};
 pub use primitives::{ID_LIMIT, MAX_ID, PatternID, PatternIDError, StateID, StateIDError};

@@ -24,6 +24,7 @@ use std::fmt;
 use std::marker::Model;
 
 mod byte_classes;
+mod changes;
 mod checks;
 mod debug;
 pub mod state;

@@ -1,6 +1,8 @@
 //! The configuration of a search: its haystack and range, its anchored mode and its match kind.
 
-ghost use Rattle.std.specs.Prelude.{◌≡◌, ℕ, ◌+◌, ◌≤◌, false, length, nat_le};
+ghost use Rattle.std.specs.Prelude.{◌≡◌, ℕ, ◌+◌, ◌≤◌, ◌↔◌, false, length, nat_le, IsSome};
+ghost use Rattle.std.specs.List.{slice_range};
+ghost use Rattle.std.specs.Option.{IfSome};
 ghost use Rattle.determinize_below.specs.Search as search_specs;
 
 use crate::primitives::PatternID;
@@ -38,6 +40,18 @@ pub enum Anchored {
     Yes,
     /// A match must begin where the search begins and be of this pattern.
     Pattern(PatternID),
+}
+
+impl Anchored {
+    /// Returns whether a match must begin where the search begins: false only for `No`.
+    pub fn is_anchored(&self) -> bool
+        ensures { result ≡ search_specs.is_anchored self.now }
+    {
+        match *self {
+            Anchored::No => false,
+            Anchored::Yes | Anchored::Pattern(_) => true,
+        }
+    }
 }
 
 /// A haystack, the range of it to search, and the anchored mode.
@@ -111,6 +125,19 @@ impl<'h> Input<'h> {
             start: self.start,
             end: self.end,
             anchored,
+        }
+    }
+
+    /// Returns this input with another start of its range, which must be at most one past its end.
+    pub fn from_index(&self, start: usize) -> Input<'h>
+        requires near { start ≤ self.now.end + 1 }
+        ensures { result ≡ record self.now { start = start } }
+    {
+        Input {
+            haystack: self.haystack,
+            start,
+            end: self.end,
+            anchored: self.anchored,
         }
     }
 
@@ -226,5 +253,15 @@ impl Match {
         ensures end { result.end ≡ self.now.end }
     {
         self.start..self.end
+    }
+
+    /// Returns the bytes of the match in its haystack, or `None` if they are not all in this one.
+    pub fn bytes<'h>(&self, haystack: &'h [u8]) -> Option<&'h [u8]>
+        ensures some { IsSome result
+            ↔ ((self.now.start ≤ self.now.end) × (self.now.end ≤ length haystack.now)) }
+        ensures bytes { IfSome result (λ bytes.
+            bytes.now ≡ slice_range haystack.now self.now.start self.now.end) }
+    {
+        haystack.get(self.range())
     }
 }

@@ -120,9 +120,17 @@ pub fn look_ahead_forward(input: &Input<'_>) -> Option<u8>
 pub fn look_ahead_reverse(input: &Input<'_>) -> Option<u8>
     ensures { result ≡ kinds.byte_before input.now.haystack input.now.start }
 {
-    match input.start() {
+    byte_before(input.haystack(), input.start())
+}
+
+/// Returns the byte before an index of a haystack, or `None` at the start of the haystack and where
+/// the index is more than one past its end.
+pub fn byte_before(haystack: &[u8], index: usize) -> Option<u8>
+    ensures { result ≡ kinds.byte_before haystack.now index }
+{
+    match index {
         0 => None,
-        start => input.haystack().get(start - 1).copied(),
+        index => haystack.get(index - 1).copied(),
     }
 }
 

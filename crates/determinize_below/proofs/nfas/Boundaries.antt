@@ -1,34 +1,13 @@
--- Marks at the bytes where something changes, and states with the same target on two bytes.
--- Main statements: marks_like, marks_both, ranges_more, read_at, read_from, all_states.
--- Used by: the functions of `byte_classes`, WordBytes.
+-- Marks at the bytes where a target changes, and states with the same target on two bytes.
+-- Main statements: sparse_target-push, ranges_more, read_at, all_states.
+-- Used by: `mark_ranges`, `NFA::mark_changes`, SortedRanges, Partitions.
 -- Idea: the first range that contains a byte is among the ranges so far, or it is the next one.
-use Rattle.determinize_below.proofs.Common.{arith, [], Bool, by_cases, cases_lt, Fail, get_or, length, List, nat_eq, nat_tests, Nfa, Node, None, refl, slice_get, Some, state_at, take, target_of, Transition, ℕ, ◌++◌, ◌+◌, ◌<◌, ◌∷◌, ◌≡◌, cond, option_or, take_more, get_or_from_slice_get, MarksChanges, matches, sparse_target}
+use Rattle.determinize_below.proofs.Common.{arith, [], Bool, by_cases, cases_lt, Fail, get_or, length, List, Nfa, Node, None, refl, slice_get, Some, state_at, take, target_of, Transition, ℕ, ◌++◌, ◌+◌, ◌<◌, ◌∷◌, ◌≡◌, cond, option_or, take_more, get_or_from_slice_get, MarksChanges, matches, sparse_target}
 use Rattle.determinize_below.proofs.nfas.Edges.{state_past}
 use Rattle.determinize_below.specs.Semantics.{within}
 
--- marks of the changes of a function are marks for each function that changes only where it does
-pub marks_like : {A B : Type 0} (f : ℕ → A) (g : ℕ → B) (old new : List Bool)
-    → ((b c : ℕ) → f b ≡ f c → g b ≡ g c) → MarksChanges f old new → MarksChanges g old new
-marks_like f g old new like m = record {
-  was = m.was;
-  same = λ b low h. like b (b + 1) (m.same b low h);
-}
-
--- marks of the changes of two functions are marks for each function that changes only where one of them does
-pub marks_both : {A B C : Type 0} (f : ℕ → A) (g : ℕ → B) (both : ℕ → C) (old mid new : List Bool)
-    → ((b c : ℕ) → f b ≡ f c → g b ≡ g c → both b ≡ both c)
-    → MarksChanges f old mid → MarksChanges g mid new → MarksChanges both old new
-marks_both f g both old mid new like first next = record {
-  was = λ b h. first.was b (next.was b h);
-  same = λ b low h. like b (b + 1) (first.same b low (next.was (b + 1) h)) (next.same b low h);
-}
-
--- the range of one byte contains only it
-pub within_one : (t b : ℕ) → within t t b ≡ nat_eq b t
-within_one t b = grind (arith, nat_tests)
-
 -- the target of some ranges and one more
-sparse_target-push : (ts : List Transition) (t : Transition) (b : ℕ)
+pub sparse_target-push : (ts : List Transition) (t : Transition) (b : ℕ)
     → sparse_target (ts ++ t ∷ []) b ≡ option_or (sparse_target ts b) (cond (matches t b) (Some t.next) None)
 sparse_target-push [] t b = grind arith
 sparse_target-push (x ∷ ts) t b = grind (arith, sparse_target-push ts t b)
@@ -53,12 +32,6 @@ pub read_at : (nfa : Nfa) (i j : ℕ) (n : Node) (b c : ℕ) → j ≡ i → sli
     → target_of (Some b) n ≡ target_of (Some c) n
     → target_of (Some b) (state_at nfa i) ≡ target_of (Some c) (state_at nfa i)
 read_at nfa i j n b c index there same = grind (arith, get_or_from_slice_get nfa.states j n Fail there)
-
--- and from the NFA to the state
-pub read_from : (nfa : Nfa) (j : ℕ) (n : Node) (b c : ℕ) → slice_get nfa.states j ≡ Some n
-    → target_of (Some b) (state_at nfa j) ≡ target_of (Some c) (state_at nfa j)
-    → target_of (Some b) n ≡ target_of (Some c) n
-read_from nfa j n b c there same = grind (arith, get_or_from_slice_get nfa.states j n Fail there)
 
 -- all states of the NFA, and ids out of range
 pub all_states : (nfa : Nfa) (b c : ℕ) → ((s : ℕ) → s < length nfa.states

@@ -4,14 +4,8 @@
 -- Idea: a byte joins the class of an earlier byte that is alike, or begins a class.
 use Rattle.std.specs.Prelude.{◌↔◌}
 use Rattle.determinize_below.specs.ByteClasses.{AreClasses}
-use Rattle.determinize_below.proofs.Common.{◌≡◌, ℕ, ◌+◌, ◌<◌, ◌≤◌, ◌≢◌, List, length, get_or, take, refl, sym, ◌∙◌, arith, get_or-set_other, get_or-set_same, get_or-take, length-set, length-take-le, below_more, AreAlike, Nfa, AreSorted, set}
-
--- each element of a list, after a write behind those so far
-set_more : (P : ℕ → ℕ → Type 0) (xs : List ℕ) (n k : ℕ) → n < length xs
-    → ((b : ℕ) → b < n → P b (get_or xs b 0)) → P n k → (b : ℕ) → b < n + 1 → P b (get_or (set xs n k) b 0)
-set_more P xs n k within h here = below_more (λ b. P b (get_or (set xs n k) b 0)) n
-    (λ b l. let ne : b ≢ n = omega arith in rw (get_or-set_other xs n b k 0 ne) (h b l))
-    (rw (get_or-set_same xs n k 0 within) here)
+use Rattle.determinize_below.proofs.Written.{set_more}
+use Rattle.determinize_below.proofs.Common.{◌≡◌, ℕ, ◌+◌, ◌<◌, ◌≤◌, ◌≢◌, List, length, get_or, take, refl, sym, ◌∙◌, arith, get_or-set_other, get_or-set_same, get_or-take, length-set, length-take-le, AreAlike, Nfa, AreSorted, set}
 
 module _ (nfa : Nfa) where
   alike-self : (b : ℕ) → AreAlike nfa b b
@@ -37,9 +31,9 @@ module _ (nfa : Nfa) where
     same_more : (k : ℕ) → ((b : ℕ) → b < n → (get_or B b 0 ≡ k) ↔ AreAlike nfa b n) → (b : ℕ) → b < n + 1
         → (c : ℕ) → c < n + 1 → (get_or (set B n k) b 0 ≡ get_or (set B n k) c 0) ↔ AreAlike nfa b c
     same_more k h = set_more
-        (λ b j. (c : ℕ) → c < n + 1 → (j ≡ get_or (set B n k) c 0) ↔ AreAlike nfa b c) B n k in_bytes
-        (λ b l. set_more (λ c i. (get_or B b 0 ≡ i) ↔ AreAlike nfa b c) B n k in_bytes (s.same b l) (h b l))
-        (set_more (λ c i. (k ≡ i) ↔ AreAlike nfa n c) B n k in_bytes
+        (λ b j. (c : ℕ) → c < n + 1 → (j ≡ get_or (set B n k) c 0) ↔ AreAlike nfa b c) 0 B n k in_bytes
+        (λ b l. set_more (λ c i. (get_or B b 0 ≡ i) ↔ AreAlike nfa b c) 0 B n k in_bytes (s.same b l) (h b l))
+        (set_more (λ c i. (k ≡ i) ↔ AreAlike nfa n c) 0 B n k in_bytes
         (λ c l. (λ e. alike-swap c n ((h c l).0 (sym e)), λ a. sym ((h c l).1 (alike-swap n c a))))
         (λ e. alike-self n, λ a. refl))
 
@@ -50,11 +44,11 @@ module _ (nfa : Nfa) where
       few = omega (arith, s.few);
       count = length-set B n k ∙ s.count;
       room = s.room;
-      within = set_more (λ b j. j < len) B n k in_bytes s.within (rw own at (s.within m l));
+      within = set_more (λ b j. j < len) 0 B n k in_bytes s.within (rw own at (s.within m l));
       bytes = λ j h. omega (arith, s.bytes j h);
       own = λ j h. let ne : get_or F j 0 ≢ n = omega (arith, s.bytes j h) in
           get_or-set_other B n (get_or F j 0) k 0 ne ∙ s.own j h;
-      least = set_more (λ b j. get_or F j 0 ≤ b) B n k in_bytes s.least
+      least = set_more (λ b j. get_or F j 0 ≤ b) 0 B n k in_bytes s.least
           (omega (arith, rw own at (s.least m l)));
       ascend = s.ascend;
       same = same_more k (λ b h. (
@@ -63,40 +57,28 @@ module _ (nfa : Nfa) where
       ));
     }
 
-    -- that of the first of these bytes that is alike
-    pub sorted_first : (k : ℕ) → k ≤ length (take len F)
-        → (k < length (take len F) → AreAlike nfa (get_or (take len F) k 0) n) → (k ≡ len → ⊥)
-        → AreSorted nfa (n + 1) len (set B n k) F
-    sorted_first k within alike other =
-        let size = length-take-le len F (omega (arith, s.few, s.room)) in
-        let l : k < len = omega (arith, size) in
-        sorted_held k (get_or F k 0) (s.bytes k l) (s.own k l)
-        (rw (get_or-take len F k 0 l) at (alike (omega (arith, size))))
-
     -- the byte is the first of a new class
-    pub sorted_new : ((k : ℕ) → k < len → AreAlike nfa (get_or (take len F) k 0) n → ⊥)
+    pub sorted_new : ((c : ℕ) → c < n → AreAlike nfa c n → ⊥)
         → AreSorted nfa (n + 1) (len + 1) (set B n len) (set F len n)
     sorted_new apart = record {
       few = omega (arith, s.few);
       count = length-set B n len ∙ s.count;
       room = length-set F len n ∙ s.room;
-      within = set_more (λ b j. j < len + 1) B n len in_bytes (λ b h. omega (arith, s.within b h)) (omega arith);
-      bytes = set_more (λ k f. f < n + 1) F len n in_firsts (λ k h. omega (arith, s.bytes k h)) (omega arith);
-      own = set_more (λ k f. get_or (set B n len) f 0 ≡ k) F len n in_firsts
+      within = set_more (λ b j. j < len + 1) 0 B n len in_bytes (λ b h. omega (arith, s.within b h)) (omega arith);
+      bytes = set_more (λ k f. f < n + 1) 0 F len n in_firsts (λ k h. omega (arith, s.bytes k h)) (omega arith);
+      own = set_more (λ k f. get_or (set B n len) f 0 ≡ k) 0 F len n in_firsts
           (λ k h. let ne : get_or F k 0 ≢ n = omega (arith, s.bytes k h) in
           get_or-set_other B n (get_or F k 0) len 0 ne ∙ s.own k h)
           (get_or-set_same B n len 0 in_bytes);
-      least = set_more (λ b j. get_or (set F len n) j 0 ≤ b) B n len in_bytes
+      least = set_more (λ b j. get_or (set F len n) j 0 ≤ b) 0 B n len in_bytes
           (λ b h. rw (other_first (get_or B b 0) (s.within b h)) (s.least b h))
           (rw (get_or-set_same F len n 0 in_firsts) (omega arith));
-      ascend = λ j k l h. set_more (λ k f. (j : ℕ) → j < k → get_or (set F len n) j 0 < f) F len n in_firsts
+      ascend = λ j k l h. set_more (λ k f. (j : ℕ) → j < k → get_or (set F len n) j 0 < f) 0 F len n in_firsts
           (λ k h j l. rw (other_first j (omega arith)) (s.ascend j k l h))
           (λ j l. rw (other_first j l) (s.bytes j l)) k h j l;
       same = same_more len (λ b h. (
         λ e. absurd (omega (arith, s.within b h)),
-        λ e. absurd (apart (get_or B b 0) (s.within b h) (rw (get_or-take len F (get_or B b 0) 0 (s.within b h))
-            (alike-chain (get_or F (get_or B b 0) 0) b n
-            ((s.same (get_or F (get_or B b 0) 0) (s.bytes _ (s.within b h)) b h).0 (s.own _ (s.within b h))) e))),
+        λ e. absurd (apart b h e),
       ));
     }
 

@@ -1,52 +1,33 @@
 //! The classes of bytes that an NFA does not distinguish.
 //!
 //! Two bytes are alike if every state has the same target on both, and if no assertion of the NFA
-//! distinguishes them. First, each byte is marked that may differ from the byte before it: those
-//! that an assertion distinguishes and, in one pass over the states, the first byte of a range,
-//! the byte after its last one, and a byte with another target in a dense state. A byte without a
-//! mark is in the class of the byte before it. A marked byte is compared with the least byte of
-//! each class so far, since it may be alike to an earlier byte. So a mark too many costs only time.
+//! distinguishes them. A partition begins with the classes of bytes that no assertion
+//! distinguishes. Then each state splits the classes on whose bytes it has several targets. A class
+//! is known by its least byte.
+//!
+//! To see whether a class is to be split, a state with one range looks at the bytes of the range, a
+//! sparse state at those from its first range to its last, and a dense state at all. Only where a
+//! class is split are all bytes put into their classes again: at most 255 times in all, since there
+//! is a class more each time.
 
-ghost use Rattle.std.specs.Prelude.{◌≡◌, ℕ, ◌+◌, ◌<◌, ◌≤◌, ◌&&◌, Some, false, length, nat_eq, slice_index, true};
+ghost use Rattle.std.specs.Prelude.{◌≡◌, ◌≢◌, ℕ, ◌<◌, ◌≤◌, None, Some, false, length, true};
+ghost use Rattle.std.specs.Prelude.{if◌then◌else◌, slice_index, slice_index_or};
 ghost use Rattle.std.specs.Bool.{Decides};
 ghost use Rattle.determinize_below.specs.ByteClasses.{AreAlike, AreClassesOf, AreTestedAlike};
-ghost use Rattle.determinize_below.specs.ByteClasses.{MarksChanges};
-ghost use Rattle.determinize_below.specs.Look.{has_crlf, has_line, has_word};
-ghost use Rattle.determinize_below.specs.Semantics.{state_at, target_of, within};
-ghost use Rattle.determinize_below.specs.Semantics as semantics;
+ghost use Rattle.determinize_below.specs.ByteClasses.{is_marked};
 ghost use Rattle.determinize_below.specs.Nfa.{IsAccepted, is_dense_sound, is_sparse_sound};
 ghost use Rattle.determinize_below.specs.Node.{node_of};
-ghost use Rattle.determinize_below.specs.Private.Boundaries.{AreBoundaries};
-ghost use Rattle.determinize_below.specs.Transition.{dense_target, sparse_target};
+ghost use Rattle.determinize_below.specs.Private.Partition.{AreLeast, ArePartition, AreSplit};
+ghost use Rattle.determinize_below.specs.Private.Partition.{IsBound};
+ghost use Rattle.determinize_below.specs.Semantics.{target_of, within};
+ghost use Rattle.determinize_below.specs.Transition.{dense_target, is_ascending, matches};
+ghost use Rattle.determinize_below.specs.Transition.{sparse_target};
 
 use crate::alphabet::{ByteClasses, is_word_byte};
+use crate::nfa::transitions::DenseTransitions;
 use crate::nfa::{NFA, State, Transition};
 use crate::primitives::StateID;
 use std::alloc::Allocator;
-
-/// Returns the target of the state on the byte.
-fn target<A: Allocator>(state: &State<A>, byte: u8) -> Option<StateID>
-    requires ascends { is_sparse_sound (node_of state.now) ≡ true }
-    requires whole { is_dense_sound (node_of state.now) ≡ true }
-    ensures { result ≡ target_of (Some byte) (node_of state.now) }
-{
-    match state {
-        State::ByteRange { trans } => trans.matches_byte(byte).then_some(trans.next),
-        State::Sparse(sparse) => sparse.matches_byte(byte),
-        State::Dense(dense) => dense.matches_byte(byte),
-        _ => None,
-    }
-}
-
-/// Returns whether the state has the same target on both bytes.
-fn leads_alike<A: Allocator>(state: &State<A>, b: u8, c: u8) -> bool
-    requires ascends { is_sparse_sound (node_of state.now) ≡ true }
-    requires whole { is_dense_sound (node_of state.now) ≡ true }
-    ensures { Decides result
-        (target_of (Some b) (node_of state.now) ≡ target_of (Some c) (node_of state.now)) }
-{
-    target(state, b) == target(state, c)
-}
 
 /// Returns whether no assertion of the NFA distinguishes the bytes.
 fn are_tested_alike<A: Allocator>(nfa: &NFA<A>, b: u8, c: u8) -> bool
@@ -65,182 +46,264 @@ fn are_tested_alike<A: Allocator>(nfa: &NFA<A>, b: u8, c: u8) -> bool
     !looks.contains_word() || is_word_byte(b) == is_word_byte(c)
 }
 
-/// Returns whether nothing in the NFA distinguishes the bytes.
-fn are_alike<A: Allocator>(nfa: &NFA<A>, b: u8, c: u8) -> bool
-    ensures { Decides result (AreAlike nfa.now b c) }
+/// Returns the least byte that no assertion of the NFA distinguishes from this one.
+fn least_tested_alike<A: Allocator>(nfa: &NFA<A>, byte: u8) -> u8
+    ensures alike { AreTestedAlike nfa.now result byte }
+    ensures first { (c : ℕ) → c ≤ byte → AreTestedAlike nfa.now c byte → result ≤ c }
 {
-    if !are_tested_alike(nfa, b, c) {
-        return false;
-    }
-    for index in 0..nfa.len() {
-        let state = nfa.state(StateID::must(index));
-        if !leads_alike(state, b, c) {
-            return false;
+    for earlier in 0..byte {
+        if are_tested_alike(nfa, earlier, byte) {
+            return earlier;
         }
     }
-    true
+    byte
 }
 
-/// Marks `start`, and the byte after `end` if there is one.
-fn mark_between(start: u8, end: u8, marks: &mut [bool; 256])
-    ensures { MarksChanges (within start end) marks.old marks.new }
+/// Returns marks at the bytes from `start` to `end`, both included.
+fn bytes_within(start: u8, end: u8) -> [bool; 256]
+    ensures { (b : ℕ) → b < 256 → is_marked result b ≡ within start end b }
 {
-    marks[usize::from(start)] = true;
-    if end < u8::MAX {
-        marks[usize::from(end) + 1] = true;
+    let mut inside = [false; 256];
+    for byte in usize::from(start)..usize::from(end) + 1 {
+        inside[byte] = true;
+    }
+    inside
+}
+
+/// Returns marks at the bytes with this target.
+fn bytes_to(targets: &[Option<StateID>; 256], target: Option<StateID>) -> [bool; 256]
+    ensures { (b : ℕ) → b < 256
+        → Decides (is_marked result b) (slice_index_or targets.now b None ≡ target) }
+{
+    let mut inside = [false; 256];
+    for byte in 0..256 {
+        inside[byte] = targets[byte] == target;
+    }
+    inside
+}
+
+/// Writes the target of a range to each of its bytes.
+fn write_range(trans: &Transition, targets: &mut [Option<StateID>; 256])
+    ensures { (b : ℕ) → b < 256 → slice_index_or targets.new b None
+        ≡ (if matches trans.now b then Some trans.now.next else slice_index_or targets.old b None) }
+{
+    for byte in usize::from(trans.start)..usize::from(trans.end) + 1 {
+        targets[byte] = Some(trans.next);
     }
 }
 
-/// Marks the first byte of each range, and the byte after its last.
-fn mark_ranges(transitions: &[Transition], marks: &mut [bool; 256])
-    ensures { MarksChanges (sparse_target transitions.now) marks.old marks.new }
+/// Returns the targets of these sorted ranges on each byte.
+fn sparse_targets(transitions: &[Transition]) -> [Option<StateID>; 256]
+    requires { is_ascending transitions.now ≡ true }
+    ensures { (b : ℕ) → b < 256
+        → slice_index_or result b None ≡ sparse_target transitions.now b }
 {
+    let mut targets = [None; 256];
     for trans in transitions {
-        mark_between(trans.start, trans.end, marks);
+        write_range(trans, &mut targets);
     }
+    targets
 }
 
-/// Marks the bytes whose target is not that of the byte before.
-fn mark_targets(targets: &[StateID], marks: &mut [bool; 256])
-    requires { length targets.now ≡ 256 }
-    ensures { MarksChanges (dense_target targets.now) marks.old marks.new }
+/// Returns the targets of this table on each byte.
+fn dense_targets<A: Allocator>(dense: &DenseTransitions<A>) -> [Option<StateID>; 256]
+    requires { length dense.now ≡ 256 }
+    ensures { (b : ℕ) → b < 256 → slice_index_or result b None ≡ dense_target dense.now b }
 {
-    for byte in 1..256 {
-        if targets[byte] != targets[byte - 1] {
-            marks[byte] = true;
+    let mut targets = [None; 256];
+    for byte in 0..256 {
+        targets[byte] = dense.matches_byte(byte as u8);
+    }
+    targets
+}
+
+/// Splits each class that has bytes with a mark and without, given the least byte of the class of
+/// each byte.
+fn split_classes(inside: &[bool; 256], least: &mut [u8; 256])
+    requires { ArePartition least.old }
+    ensures { AreSplit (is_marked inside.now) least.old least.new }
+{
+    // For each class the first byte that is parted from the least one.
+    let mut others = [None; 256];
+    for byte in 0..256 {
+        let first = usize::from(least[byte]);
+        if inside[byte] != inside[first] {
+            let other = others[first].unwrap_or(byte as u8);
+            others[first] = Some(other);
+            least[byte] = other;
         }
     }
 }
 
-/// Marks the bytes on which the state may have another target than on the byte before.
-fn mark_state<A: Allocator>(state: &State<A>, marks: &mut [bool; 256])
-    requires { is_dense_sound (node_of state.now) ≡ true }
-    ensures { MarksChanges (λ b. target_of (Some b) (node_of state.now)) marks.old marks.new }
+/// Returns the greatest byte of each class at the index of its least one, given the least byte of
+/// the class of each byte.
+fn greatest_bytes(least: &[u8; 256]) -> [u8; 256]
+    ensures { IsBound least.now result }
 {
-    match state {
-        State::ByteRange { trans } => mark_between(trans.start, trans.end, marks),
-        State::Sparse(sparse) => mark_ranges(sparse.transitions.as_slice(), marks),
-        State::Dense(dense) => mark_targets(dense.transitions.as_slice(), marks),
-        _ => {}
+    let mut greatest = [0; 256];
+    for byte in 0..256 {
+        greatest[usize::from(least[byte])] = byte as u8;
+    }
+    greatest
+}
+
+/// Classes of bytes, each of which is known by its least byte.
+#[derive(Drop)]
+struct Partition {
+    /// The least byte of the class of each byte.
+    least: [u8; 256],
+    /// The greatest byte of each class, at the index of its least one.
+    greatest: [u8; 256],
+    ghost classes: { ArePartition least },
+    ghost bound: { IsBound least greatest },
+}
+
+impl Partition {
+    /// Returns the classes of bytes that no assertion of the NFA distinguishes.
+    fn new<A: Allocator>(nfa: &NFA<A>) -> Partition
+        ensures { AreLeast (AreTestedAlike nfa.now) result.least }
+    {
+        let mut least = [0; 256];
+        for byte in 1..256 {
+            // Bytes next to each other are mostly alike, and then have the same least byte.
+            least[byte] = if are_tested_alike(nfa, (byte - 1) as u8, byte as u8) {
+                least[byte - 1]
+            } else {
+                least_tested_alike(nfa, byte as u8)
+            };
+        }
+        let greatest = greatest_bytes(&least);
+        Partition { least, greatest }
+    }
+
+    /// Returns whether a class may have bytes in the range and out of it.
+    fn is_cut(&self, start: u8, end: u8) -> bool
+        ensures { result ≡ false → AreSplit (within start end) self.now.least self.now.least }
+    {
+        for byte in usize::from(start)..usize::from(end) + 1 {
+            let first = self.least[byte];
+            if first < start || self.greatest[usize::from(first)] > end {
+                return true;
+            }
+        }
+        false
+    }
+
+    /// Splits each class that has bytes with a mark and without.
+    fn split(&mut self, inside: &[bool; 256])
+        ensures { AreSplit (is_marked inside.now) self.old.least self.new.least }
+    {
+        split_classes(inside, &mut self.least);
+        self.greatest = greatest_bytes(&self.least);
+    }
+
+    /// Splits each class that has bytes in the range and out of it.
+    fn split_range(&mut self, start: u8, end: u8)
+        ensures { AreSplit (within start end) self.old.least self.new.least }
+    {
+        if self.is_cut(start, end) {
+            self.split(&bytes_within(start, end));
+        }
+    }
+
+    /// Returns whether the class of the byte has another target on its least byte, or, if the byte
+    /// has a target, whether the class has a byte above `high`.
+    fn is_mixed(&self, targets: &[Option<StateID>; 256], byte: usize, high: u8) -> bool
+        requires { byte < 256 }
+        ensures least { result ≡ false
+            → slice_index_or targets.now (slice_index self.now.least byte) None
+            ≡ slice_index_or targets.now byte None }
+        ensures above { result ≡ false → slice_index_or targets.now byte None ≢ None
+            → (c : ℕ) → high < c → c < 256
+            → slice_index self.now.least c ≢ slice_index self.now.least byte }
+    {
+        let first = usize::from(self.least[byte]);
+        if targets[first] != targets[byte] {
+            return true;
+        }
+        targets[byte].is_some() && self.greatest[first] > high
+    }
+
+    /// Splits each class whose bytes have several targets. No byte below `low` or above `high` may
+    /// have a target.
+    fn split_targets(&mut self, targets: &[Option<StateID>; 256], low: u8, high: u8)
+        requires { (b : ℕ) → b < 256 → within low high b ≡ false
+            → slice_index_or targets.now b None ≡ None }
+        ensures { AreSplit (λ b. slice_index_or targets.now b None) self.old.least self.new.least }
+    {
+        for byte in usize::from(low)..usize::from(high) + 1 {
+            if self.is_mixed(targets, byte, high) {
+                self.split(&bytes_to(targets, targets[byte]));
+            }
+        }
+    }
+
+    /// Splits each class whose bytes have several targets in these sorted ranges.
+    fn split_ranges(&mut self, transitions: &[Transition])
+        requires { is_ascending transitions.now ≡ true }
+        ensures { AreSplit (sparse_target transitions.now) self.old.least self.new.least }
+    {
+        if let Some(last) = transitions.last() {
+            let low = transitions[0].start;
+            self.split_targets(&sparse_targets(transitions), low, last.end);
+        }
+    }
+
+    /// Splits each class on whose bytes the state has several targets.
+    fn split_state<A: Allocator>(&mut self, state: &State<A>)
+        requires ascends { is_sparse_sound (node_of state.now) ≡ true }
+        requires whole { is_dense_sound (node_of state.now) ≡ true }
+        ensures { AreSplit (λ b. target_of (Some b) (node_of state.now))
+            self.old.least self.new.least }
+    {
+        match state {
+            State::ByteRange { trans } => self.split_range(trans.start, trans.end),
+            State::Sparse(sparse) => self.split_ranges(sparse.transitions.as_slice()),
+            State::Dense(dense) => self.split_targets(&dense_targets(dense), 0, u8::MAX),
+            _ => {}
+        }
     }
 }
 
-/// Marks the bytes that a line assertion of the NFA distinguishes from the byte before.
-fn mark_lines<A: Allocator>(nfa: &NFA<A>, marks: &mut [bool; 256])
-    ensures { MarksChanges (λ b. has_line nfa.now.look_set_any && nat_eq b nfa.now.terminator)
-        marks.old marks.new }
-{
-    if !nfa.look_set_any().contains_anchor_line() {
-        return;
-    }
-    let terminator = nfa.look_matcher().get_line_terminator();
-    mark_between(terminator, terminator, marks);
-}
-
-/// Marks the bytes that a CRLF assertion of the NFA distinguishes from the byte before.
-fn mark_crlf<A: Allocator>(nfa: &NFA<A>, marks: &mut [bool; 256])
-    ensures carriage { MarksChanges (λ b. has_crlf nfa.now.look_set_any && nat_eq b 13)
-        marks.old marks.new }
-    ensures feed { MarksChanges (λ b. has_crlf nfa.now.look_set_any && nat_eq b 10)
-        marks.old marks.new }
-{
-    if !nfa.look_set_any().contains_anchor_crlf() {
-        return;
-    }
-    mark_between(b'\n', b'\n', marks);
-    mark_between(b'\r', b'\r', marks);
-}
-
-/// Marks the first byte of each range of word bytes, and the byte after its last.
-fn mark_word_bytes(marks: &mut [bool; 256])
-    ensures { MarksChanges semantics.is_word_byte marks.old marks.new }
-{
-    mark_between(b'0', b'9', marks);
-    mark_between(b'A', b'Z', marks);
-    mark_between(b'_', b'_', marks);
-    mark_between(b'a', b'z', marks);
-}
-
-/// Marks the bytes that a word assertion of the NFA distinguishes from the byte before.
-fn mark_words<A: Allocator>(nfa: &NFA<A>, marks: &mut [bool; 256])
-    ensures { MarksChanges (λ b. has_word nfa.now.look_set_any && semantics.is_word_byte b)
-        marks.old marks.new }
-{
-    if !nfa.look_set_any().contains_word() {
-        return;
-    }
-    mark_word_bytes(marks);
-}
-
-/// Returns marks at all bytes that the NFA may distinguish from the byte before.
-fn boundaries_of<A: Allocator>(nfa: &NFA<A>) -> [bool; 256]
-    ensures marks { AreBoundaries nfa.now result }
+/// Returns the least byte of the class of each byte: the least that the NFA does not distinguish
+/// from it.
+fn least_bytes<A: Allocator>(nfa: &NFA<A>) -> [u8; 256]
+    ensures least { AreLeast (AreAlike nfa.now) result }
     ensures accepted { IsAccepted nfa.now }
 {
-    let mut marks = [false; 256];
-    mark_lines(nfa, &mut marks);
-    mark_crlf(nfa, &mut marks);
-    mark_words(nfa, &mut marks);
+    let mut partition = Partition::new(nfa);
     for index in 0..nfa.len() {
-        nfa.mark_changes(StateID::must(index), &mut marks);
+        partition.split_state(nfa.state(StateID::must(index)));
     }
-    marks
-}
-
-/// Returns the index of the first of these bytes that is alike to a byte, or their number if none
-/// is.
-fn first_alike<A: Allocator>(nfa: &NFA<A>, firsts: &[u8], byte: u8) -> usize
-    ensures within { result ≤ length firsts.now }
-    ensures alike { result < length firsts.now
-        → AreAlike nfa.now (slice_index firsts.now result) byte }
-    ensures before { (k : ℕ) → k < result → AreAlike nfa.now (slice_index firsts.now k) byte → ⊥ }
-{
-    for (k, first) in firsts.iter().enumerate() {
-        if are_alike(nfa, *first, byte) {
-            return k;
-        }
-    }
-    firsts.len()
+    partition.least
 }
 
 impl<A: Allocator> NFA<A> {
-    /// Marks each byte on which the state with this id has another target than on the byte before,
-    /// and maybe others. Keeps all marks. The id must be below the number of states.
-    pub fn mark_changes(&self, id: StateID, marks: &mut [bool; 256])
-        requires { id < length self.now.states }
-        ensures { MarksChanges (λ b. target_of (Some b) (state_at self.now id))
-            marks.old marks.new }
-    {
-        mark_state(self.state(id), marks);
-    }
-
     /// Returns the classes of bytes that the NFA does not distinguish. Two bytes have one class
     /// exactly if every state has the same target on both, and no assertion of the NFA
     /// distinguishes them: one on words by whether they are word bytes, one on lines or CRLF by
     /// whether they are the line terminator, one on CRLF by whether they are `\r` or `\n`.
     ///
-    /// The classes are computed anew by each call. One pass over the states finds the bytes that
-    /// may differ from the byte before. Only these are compared with the least byte of each class
-    /// so far, and a comparison reads each state at most once. Does not allocate.
+    /// The classes are computed anew by each call, in one pass over the states. The cost of a state
+    /// is that of its ranges and of the bytes from the first range to the last, at most 256. Does
+    /// not allocate.
     pub fn byte_classes(&self) -> ByteClasses
         ensures classes { AreClassesOf self.now result }
         ensures accepted { IsAccepted self.now }
     {
-        let boundaries = boundaries_of(self);
+        let least = least_bytes(self);
         let mut classes = [0; 256];
         let mut firsts = [0; 256];
         let mut len = 0;
         for byte in 0..256 {
-            if byte > 0 && !boundaries[byte] {
-                classes[byte] = classes[byte - 1];
+            let first = usize::from(least[byte]);
+            if first < byte {
+                classes[byte] = classes[first];
                 continue;
             }
-            let class = first_alike(self, &firsts[..len], byte as u8);
-            classes[byte] = class as u8;
-            if class == len {
-                firsts[len] = byte as u8;
-                len += 1;
-            }
+            classes[byte] = len as u8;
+            firsts[len] = byte as u8;
+            len += 1;
         }
         ByteClasses::from_parts(classes, firsts, len)
     }

@@ -9,9 +9,11 @@
 //! A `Capture` state keeps its target only. Determinization follows it like any epsilon transition
 //! and has no use for slots.
 
-ghost use Rattle.std.specs.Prelude.{◌≡◌, ◌≤◌, count_by, length};
+ghost use Rattle.std.specs.Prelude.{◌≡◌, ◌≤◌, Some, count_by, length, true};
 ghost use Rattle.determinize_below.specs.Edges.{is_match_node};
+ghost use Rattle.determinize_below.specs.Nfa.{is_dense_sound, is_sparse_sound};
 ghost use Rattle.determinize_below.specs.Node as nodes;
+ghost use Rattle.determinize_below.specs.Semantics.{target_of};
 
 use crate::look::Look;
 use crate::nfa::transitions::{DenseTransitions, SparseTransitions, Transition};
@@ -53,6 +55,22 @@ impl<A: Allocator> State<A> {
             | State::BinaryUnion { .. }
             | State::Capture { .. } => true,
             _ => false,
+        }
+    }
+
+    /// Returns the state to which a byte leads, if any: the target of the transition over it. The
+    /// ranges of a sparse state must ascend, and a dense state must have 256 targets, as those of a
+    /// valid NFA do (`NFA::state`).
+    pub fn target(&self, byte: u8) -> Option<StateID>
+        requires ascends { is_sparse_sound (nodes.node_of self.now) ≡ true }
+        requires whole { is_dense_sound (nodes.node_of self.now) ≡ true }
+        ensures { result ≡ target_of (Some byte) (nodes.node_of self.now) }
+    {
+        match self {
+            State::ByteRange { trans } => trans.matches_byte(byte).then_some(trans.next),
+            State::Sparse(sparse) => sparse.matches_byte(byte),
+            State::Dense(dense) => dense.matches_byte(byte),
+            _ => None,
         }
     }
 }
