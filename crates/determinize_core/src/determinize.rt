@@ -31,6 +31,7 @@ pub mod lookbehind;
 mod reading;
 mod recorder;
 mod reopening;
+pub mod scratch;
 pub mod stepper;
 pub mod steps;
 pub mod transition;
@@ -39,6 +40,7 @@ mod working_list;
 
 pub use crate::determinize::closure::epsilon_closure;
 pub use crate::determinize::lookbehind::set_lookbehind_from_start;
+pub use crate::determinize::scratch::Scratch;
 pub use crate::determinize::stepper::Stepper;
 pub use crate::determinize::steps::Steps;
 pub use crate::determinize::transition::{next, next_counted};

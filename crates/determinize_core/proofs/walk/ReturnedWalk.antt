@@ -1,6 +1,6 @@
 -- The values of a chain are what a walk returns.
 -- Main statements: is_walk, walk_begins, walk_goes_on, walk_ends, walk_pushes, walk_pushes_last.
--- Used by: `states_over`, and `walk_between` of the cache.
+-- Used by: `walk_between`, also that of the cache.
 -- Idea: the values so far are followed by those over the bytes that are left.
 use Rattle.determinize_core.proofs.Common.{[], All-cons, All-nil, AllResolve, append_assoc, arith, between, chain}
 use Rattle.determinize_core.proofs.Common.{dead, drop, future, get_or, IsAccepted, length, List, map, MatchKind, Nfa}

@@ -1,21 +1,17 @@
 //! The start state and each next state of one NFA, with scratch that is kept between calls.
 
-ghost use Rattle.std.specs.Prelude.{◌≡◌, ◌<◌, ◌≤◌, length, IfOk, IfSome, IsSome, OnOk};
+ghost use Rattle.std.specs.Prelude.{◌≡◌, ◌<◌, ◌≤◌, length, IfOk, OnOk};
 ghost use Rattle.determinize_below.specs.Nfa.{AllResolve, IsAccepted};
 ghost use Rattle.determinize_below.specs.Unit.{byte_of};
 ghost use Rattle.determinize_below.specs.declared.search.MatchKind.TheVariants as kinds;
 ghost use Rattle.determinize_core.specs.Step.{IsStartOf, start_value, step};
-ghost use Rattle.determinize_core.specs.Stepper.{IsPrepared};
 
-use crate::determinize::transition::next;
-use crate::determinize::walks::start_state_of;
-use determinize_below::{MatchKind, NFA, SparseSets, StateID, Unit};
-use determinize_start::start::{Start, start_kind_of};
-use determinize_state::state::{State, StateBuilderEmpty, StateBuilderNFA};
+use crate::determinize::scratch::Scratch;
+use determinize_below::{MatchKind, NFA, StateID, Unit};
+use determinize_start::start::Start;
+use determinize_state::state::State;
 use std::alloc::{AllocError, Allocator, Global};
 use std::marker::Model;
-use std::mem;
-use std::mem::size_of;
 
 /// Computes the states of a DFA, one at a time: [`start_state`] and [`next`] with the scratch and
 /// the memory of the builder, which are reused.
@@ -26,65 +22,28 @@ use std::mem::size_of;
 /// The first `start` or `next` allocates the sets. An error drops the builder's memory, and a state
 /// of `next_lent` takes it along. In contracts a stepper is its NFA and its match kind.
 pub struct Stepper<'n, N: Allocator = Global, A: Allocator = Global> {
-    alloc: A,
     nfa: &'n NFA<N>,
     match_kind: MatchKind,
-    sparses: Option<SparseSets<A>>,
-    stack: Vec<StateID, A>,
-    empty_builder: StateBuilderEmpty<A>,
+    scratch: Scratch<A>,
 }
 
 // Derived code is proved again in each crate that drops a stepper.
 impl<'n, N: Allocator, A: Allocator> Drop for Stepper<'n, N, A> {
     fn drop(self) {
         let Stepper {
-            alloc: _,
             nfa: _,
             match_kind: _,
-            sparses: _,
-            stack: _,
-            empty_builder: _,
+            scratch: _,
         } = self;
     }
 }
 
 impl<'n, N: Allocator, A: Allocator> Model for Stepper<'n, N, A> {
-    ghost use Rattle.std.specs.Prelude.{◌≡◌, IfSome, []};
-    ghost use Rattle.determinize_core.specs.Stepper.{IsPrepared, StepperValue};
+    ghost use Rattle.determinize_core.specs.Stepper.{StepperValue};
 
     ghost Value = { StepperValue };
 
     ghost view = { λ s. record { nfa = s.nfa.now; kind = s.match_kind } };
-
-    ghost invariant = { λ s.
-        IfSome s.sparses (λ sets. IsPrepared s.nfa.now sets.set1 sets.set2)
-        × (s.stack.items ≡ []) };
-}
-
-/// Allocates the sets, unless they are allocated already.
-#[inline(always)]
-fn prepare<N: Allocator, A: Allocator + Copy>(
-    alloc: A,
-    nfa: &NFA<N>,
-    sparses: &mut Option<SparseSets<A>>,
-) -> Result<(), AllocError>
-    requires { IfSome sparses.old (λ sets. IsPrepared nfa.now sets.set1 sets.set2) }
-    ensures prepared { IfSome sparses.new (λ sets. IsPrepared nfa.now sets.set1 sets.set2) }
-    ensures some { OnOk result (IsSome sparses.new) }
-{
-    if sparses.is_none() {
-        *sparses = Some(SparseSets::new(alloc, nfa.len())?);
-    }
-    Ok(())
-}
-
-/// Takes the builder, and leaves one without memory.
-#[inline(always)]
-fn take_builder<A: Allocator + Copy>(
-    alloc: A,
-    builder: &mut StateBuilderEmpty<A>,
-) -> StateBuilderEmpty<A> {
-    mem::replace(builder, StateBuilderEmpty::new(alloc))
 }
 
 impl<'n, N: Allocator, A: Allocator + Copy> Stepper<'n, N, A> {
@@ -93,12 +52,9 @@ impl<'n, N: Allocator, A: Allocator + Copy> Stepper<'n, N, A> {
         ensures { result ≡ record { nfa = nfa.now; kind = match_kind } }
     {
         Stepper {
-            alloc,
             nfa,
             match_kind,
-            sparses: None,
-            stack: Vec::new(alloc),
-            empty_builder: StateBuilderEmpty::new(alloc),
+            scratch: Scratch::new(alloc),
         }
     }
 
@@ -119,16 +75,7 @@ impl<'n, N: Allocator, A: Allocator + Copy> Stepper<'n, N, A> {
     /// Returns the heap memory of the scratch and of the builder, in bytes. A set has an id and a
     /// bit for each NFA state. No clause says how much it is.
     pub fn memory_usage(&self) -> usize {
-        let states = match &self.sparses {
-            Some(sparses) => sparses.set1.capacity(),
-            None => 0,
-        };
-        let ids = states.saturating_mul(size_of::<StateID>());
-        let bits = states.div_ceil(64).saturating_mul(size_of::<u64>());
-        let sets = ids.saturating_add(bits).saturating_mul(2);
-        let stack = self.stack.capacity().saturating_mul(size_of::<StateID>());
-        sets.saturating_add(stack)
-            .saturating_add(self.empty_builder.capacity())
+        self.scratch.memory_usage()
     }
 
     /// Returns the state before the first unit, as [`start_state`] does.
@@ -143,8 +90,7 @@ impl<'n, N: Allocator, A: Allocator + Copy> Stepper<'n, N, A> {
         ensures accepted { OnOk result (IsAccepted self.old.nfa) }
         ensures unchanged { self.new ≡ self.old }
     {
-        let terminator = self.nfa.look_matcher().get_line_terminator();
-        self.start_of(start, start_kind_of(terminator, look_behind))
+        self.scratch.start(self.nfa, start, look_behind)
     }
 
     /// Returns the state before the first unit for a kind of start: the state that `start` returns
@@ -159,13 +105,7 @@ impl<'n, N: Allocator, A: Allocator + Copy> Stepper<'n, N, A> {
         ensures accepted { OnOk result (IsAccepted self.old.nfa) }
         ensures unchanged { self.new ≡ self.old }
     {
-        prepare(self.alloc, self.nfa, &mut self.sparses)?;
-        let Some(sparses) = &mut self.sparses else {
-            unreachable!()
-        };
-        let empty = take_builder(self.alloc, &mut self.empty_builder);
-        let builder = start_state_of(self.nfa, start, kind, sparses, &mut self.stack, empty)?;
-        self.finish(builder)
+        self.scratch.start_of(self.nfa, start, kind)
     }
 
     /// Returns the state after a state over a unit of input, as [`next`] does.
@@ -181,8 +121,7 @@ impl<'n, N: Allocator, A: Allocator + Copy> Stepper<'n, N, A> {
         ensures resolve { IfOk result (λ after. AllResolve self.old.nfa after.states) }
         ensures unchanged { self.new ≡ self.old }
     {
-        let builder = self.build_next(state, unit)?;
-        self.finish(builder)
+        self.scratch.next(self.nfa, self.match_kind, state, unit)
     }
 
     /// Returns the state that `next` returns, in the memory of the builder and not in a copy. Given
@@ -196,7 +135,8 @@ impl<'n, N: Allocator, A: Allocator + Copy> Stepper<'n, N, A> {
         ensures resolve { IfOk result (λ after. AllResolve self.old.nfa after.states) }
         ensures unchanged { self.new ≡ self.old }
     {
-        Ok(self.build_next(state, unit)?.into_state())
+        self.scratch
+            .next_lent(self.nfa, self.match_kind, state, unit)
     }
 
     /// Replaces the memory that is kept for the next builder by that of a state, or by none if the
@@ -204,42 +144,6 @@ impl<'n, N: Allocator, A: Allocator + Copy> Stepper<'n, N, A> {
     pub fn take_back(&mut self, state: State<A>)
         ensures unchanged { self.new ≡ self.old }
     {
-        self.empty_builder = StateBuilderEmpty::from_state(state);
-    }
-
-    /// Returns the next state in a builder, with the memory that is kept for one.
-    fn build_next(&mut self, state: &State<A>, unit: Unit) -> Result<StateBuilderNFA<A>, AllocError>
-        requires { AllResolve self.old.nfa state.now.states }
-        ensures ok { IfOk result
-            (λ builder. builder ≡ step self.old.nfa self.old.kind state.now (byte_of unit)) }
-        ensures single { self.old.kind ≡ kinds.LeftmostFirst
-            → IfOk result (λ builder. length builder.patterns ≤ 1) }
-        ensures resolve { IfOk result (λ builder. AllResolve self.old.nfa builder.states) }
-        ensures unchanged { self.new ≡ self.old }
-    {
-        prepare(self.alloc, self.nfa, &mut self.sparses)?;
-        let Some(sparses) = &mut self.sparses else {
-            unreachable!()
-        };
-        let empty = take_builder(self.alloc, &mut self.empty_builder);
-        next(
-            self.nfa,
-            self.match_kind,
-            sparses,
-            &mut self.stack,
-            state,
-            unit,
-            empty,
-        )
-    }
-
-    /// Returns the state that was built. Keeps the builder's memory for the next one.
-    fn finish(&mut self, builder: StateBuilderNFA<A>) -> Result<State<A>, AllocError>
-        ensures ok { IfOk result (λ state. state ≡ builder) }
-        ensures unchanged { self.new ≡ self.old }
-    {
-        let state = builder.to_state();
-        self.empty_builder = builder.clear();
-        state
+        self.scratch.take_back(state);
     }
 }

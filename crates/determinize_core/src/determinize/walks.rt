@@ -10,7 +10,7 @@ ghost use Rattle.determinize_core.specs.LastMatch as matches;
 ghost use Rattle.determinize_core.specs.WholeWalk.{IsWalk};
 ghost use Rattle.determinize_state.specs.Value.{dead};
 
-use crate::determinize::stepper::Stepper;
+use crate::determinize::scratch::Scratch;
 use crate::determinize::transition::enter;
 use determinize_below::{HalfMatch, MatchKind, NFA, SparseSets, StateID, Unit};
 use determinize_start::look_tables::LookTables;
@@ -122,29 +122,15 @@ pub fn walk_between<N: Allocator, A: Allocator + Copy>(
     ensures { IfOk result (λ states. IsWalk nfa.now match_kind start
         (between look_behind text.now look_ahead) states.items) }
 {
-    let mut stepper = Stepper::new(alloc, nfa, match_kind);
-    states_over(alloc, &mut stepper, start, look_behind, text, look_ahead)
-}
-
-/// Returns the states over a text, as [`walk_between`] does.
-fn states_over<N: Allocator, A: Allocator + Copy>(
-    alloc: A,
-    stepper: &mut Stepper<'_, N, A>,
-    start: StateID,
-    look_behind: Option<u8>,
-    text: &[u8],
-    look_ahead: Option<u8>,
-) -> Result<Vec<State<A>, A>, AllocError>
-    requires { start < length stepper.old.nfa.states }
-    ensures { IfOk result (λ states. IsWalk stepper.old.nfa stepper.old.kind start
-        (between look_behind text.now look_ahead) states.items) }
-{
+    let mut scratch = Scratch::new(alloc);
     let mut states = Vec::new(alloc);
-    states.push(stepper.start(start, look_behind)?)?;
+    states.push(scratch.start(nfa, start, look_behind)?)?;
     for index in 0..text.len() {
-        push_next(stepper, &mut states, index, Unit::u8(text[index]))?;
+        let unit = Unit::u8(text[index]);
+        push_next(nfa, match_kind, &mut scratch, &mut states, index, unit)?;
     }
-    push_next(stepper, &mut states, text.len(), Unit::from(look_ahead))?;
+    let unit = Unit::from(look_ahead);
+    push_next(nfa, match_kind, &mut scratch, &mut states, text.len(), unit)?;
     Ok(states)
 }
 
@@ -155,21 +141,21 @@ fn states_over<N: Allocator, A: Allocator + Copy>(
 /// Inlined, and the last state is read where it is, since each move of a state takes time.
 #[inline(always)]
 fn push_next<N: Allocator, A: Allocator + Copy>(
-    stepper: &mut Stepper<'_, N, A>,
+    nfa: &NFA<N>,
+    match_kind: MatchKind,
+    scratch: &mut Scratch<A>,
     states: &mut Vec<State<A>, A>,
     last: usize,
     unit: Unit,
 ) -> Result<(), AllocError>
     requires last { length states.old.items ≡ last + 1 }
-    requires resolve { AllResolve stepper.old.nfa (get_or states.old.items last dead).states }
+    requires resolve { AllResolve nfa.now (get_or states.old.items last dead).states }
     ensures pushed { OnOk result (states.new.items ≡ states.old.items
-        ++ step stepper.old.nfa stepper.old.kind (get_or states.old.items last dead) (byte_of unit)
-        ∷ []) }
+        ++ step nfa.now match_kind (get_or states.old.items last dead) (byte_of unit) ∷ []) }
     ensures resolve { OnOk result
-        (AllResolve stepper.old.nfa (get_or states.new.items (last + 1) dead).states) }
-    ensures unchanged { stepper.new ≡ stepper.old }
+        (AllResolve nfa.now (get_or states.new.items (last + 1) dead).states) }
 {
-    let next = stepper.next(&states[last], unit)?;
+    let next = scratch.next(nfa, match_kind, &states[last], unit)?;
     states.push(next)?;
     Ok(())
 }
