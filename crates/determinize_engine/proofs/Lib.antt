@@ -1,6 +1,7 @@
 pub mod SearchMatches
 pub mod LastUnits
 pub mod Later
+pub mod Lists
 pub mod Places
 pub mod Ranges
 pub mod Scanning

@@ -1,4 +1,5 @@
 pub mod Engines
+pub mod Lists
 pub mod Private
 pub mod Scans
 pub mod Searches

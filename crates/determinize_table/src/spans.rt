@@ -54,6 +54,21 @@ impl ClassSpans {
         }
     }
 
+    /// Returns a copy.
+    pub fn copied(&self) -> ClassSpans
+        ensures { result ≡ self.now }
+    {
+        // A clone of arrays does not fail.
+        let Ok(classes) = self.classes.clone() else {
+            unreachable!()
+        };
+        ClassSpans {
+            classes,
+            lasts: self.lasts,
+            runs: self.runs,
+        }
+    }
+
     /// Returns the least byte of the class of a byte.
     #[inline(always)]
     pub(crate) fn start(&self, byte: u8) -> usize
