@@ -37,6 +37,7 @@ pub use Rattle.determinize_lazy.specs.Private.Searched.{cached_place, ends_at, F
 pub use Rattle.determinize_lazy.specs.Private.Searched.{GoesToCached, HasCome, IsCachedPosition, IsCutOffAt, IsNext}
 pub use Rattle.determinize_lazy.specs.Private.Searched.{IsOver, IsOverText, next_place, Place, place}
 pub use Rattle.determinize_lazy.specs.Private.Starts.{AreStarts, start_slot}
-pub use Rattle.determinize_lazy.specs.Private.Steps.{IsFailedStep, IsFollowed, IsSound, IsStepped, IsWalking}
+pub use Rattle.determinize_lazy.specs.Private.Steps.{IsFailedStep, IsFollowed, IsSound, IsStateOf, IsStepped}
+pub use Rattle.determinize_lazy.specs.Private.Steps.{IsWalking}
 pub use Rattle.determinize_table.specs.Tags.{is_last_tag, match_of, match_reported, Tag, tag_in, tag_of}
 pub use Rattle.determinize_engine.specs.UnitsRead.{is_last, units_read}

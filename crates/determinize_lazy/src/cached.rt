@@ -1,142 +1,168 @@
-//! Searches of a cache with its NFA: of a [`Lazy`](crate::Lazy), or of an
-//! [`OwnedLazy`](crate::OwnedLazy).
-//!
-//! A search first only reads the cache (`view`). From the first transition that is not cached, each
-//! of the two continues in its own way (`search_rest`).
+//! The part of a search that only reads the cache: from a start state whose id is kept, over cached
+//! transitions. `search` continues at the first transition that is not cached.
 
-ghost use Rattle.std.specs.Prelude.{Decides, ◌≡◌, ◌<◌, false, true, length, IfOk, OnErr, OnOk, Ok, None};
-ghost use Rattle.determinize_below.specs.Search.{is_done};
-ghost use Rattle.determinize_engine.specs.Searches.{HasMatch, IsSearchResult, has_start, start_for, text_of};
-ghost use Rattle.determinize_lazy.specs.Cache.{Grows, LazyValue, cache};
-ghost use Rattle.determinize_lazy.specs.CachedSearches.{IsCutOffIn, IsPlentyIn, after_input, after_is_match};
-ghost use Rattle.determinize_lazy.specs.Private.Searched.{IsOverText, IsShort};
-ghost use Rattle.determinize_lazy.specs.Private.Steps.{IsSound};
+ghost use Rattle.std.specs.Prelude.{◌≡◌, ◌+◌, ◌<◌, ◌≤◌, length, option_map, slice_get, slice_index_or, Some};
+ghost use Rattle.std.specs.Option.{IfSome};
+ghost use Rattle.determinize_core.specs.Chain.{units};
+ghost use Rattle.determinize_core.specs.Step.{start_value};
+ghost use Rattle.determinize_core.specs.Value.{dead};
+ghost use Rattle.determinize_start.specs.StartSlots.{slot_number};
+ghost use Rattle.determinize_start.specs.declared.start.TheConstants.StartSlot.{COUNT};
+ghost use Rattle.determinize_lazy.specs.Cache.{cache};
+ghost use Rattle.determinize_lazy.specs.Private.Searched.{GoesToCached, HasCome, IsCachedPosition, IsReached, cached_place, first_place};
+ghost use Rattle.determinize_lazy.specs.Private.Starts.{start_slot};
+ghost use Rattle.determinize_lazy.specs.Private.Steps.{IsSound, IsStateOf};
 
-use crate::view::{CachedPosition, Reached, View, start_for};
-use determinize_below::{HalfMatch, Input, StateID};
-use determinize_engine::text::{Text, in_haystack};
-use std::alloc::{AllocError, Allocator};
+use crate::lazy::LazyDfa;
+use determinize_below::{AsNfa, HalfMatch, NFA, StateID};
+use determinize_core::start::{Start, start_kind_of};
+use determinize_engine::text::Text;
+use determinize_table::{LastMatch, LazyStateId};
+use std::alloc::Allocator;
 
-/// A cache with its NFA.
-pub(crate) trait Cached {
-    /// The allocator of the NFA.
-    type N: Allocator;
-    /// The allocator of the cache.
-    type A: Allocator + Copy;
+/// A position at a cached state.
+#[derive(Clone, Copy)]
+pub(crate) struct CachedPosition {
+    pub(crate) id: LazyStateId,
+    pub(crate) read: usize,
+    pub(crate) last: LastMatch,
+}
 
-    ghost value: { Self → LazyValue };
+/// How far a search comes that only reads the cache.
+#[derive(Clone, Copy)]
+pub(crate) enum Reached {
+    /// To its end, with this match.
+    End(Option<HalfMatch>),
+    /// To a position from which the next transition is not cached, or to none: the id of the start
+    /// state is not kept.
+    Short(Option<CachedPosition>),
+}
 
-    /// Returns the parts that a search reads.
-    fn view(&self) -> View<'_, Self::N, Self::A>
-        ensures { result ≡ value self.now };
+/// Returns the number of the slot in which the id of a start state is kept. `None` for any other
+/// NFA state than the two start states: its start is not kept.
+#[inline(always)]
+pub(crate) fn start_number<N: Allocator>(
+    nfa: &NFA<N>,
+    start: StateID,
+    look_behind: Option<u8>,
+) -> Option<usize>
+    ensures value { result ≡ option_map slot_number (start_slot nfa.now start look_behind) }
+    ensures limit { IfSome result (λ number. number < COUNT) }
+{
+    // Not by a `StartSlot`: from its `is_anchored` the compiler selects the number without a jump,
+    // or finds the kind of the start twice, and a short search takes longer.
+    let first = if start == nfa.start_anchored() {
+        0
+    } else if start == nfa.start_unanchored() {
+        Start::COUNT
+    } else {
+        return None;
+    };
+    let terminator = nfa.look_matcher().get_line_terminator();
+    Some(first + start_kind_of(terminator, look_behind).as_usize())
+}
 
-    /// Continues a search that came so far as it only read the cache: to a position, or to none,
-    /// since the id of its start state is not kept.
-    fn search_rest(
-        &mut self,
-        reached: Option<CachedPosition>,
-        start: StateID,
+impl<R: AsNfa, A: Allocator + Copy> LazyDfa<R, A> {
+    /// Returns the id of a start state, if it is kept.
+    #[inline(always)]
+    pub(crate) fn kept_start(&self, start: StateID, look_behind: Option<u8>) -> Option<LazyStateId>
+        requires { start < length self.now.nfa.states }
+        ensures at { IfSome result (λ id. slice_get self.now.states id
+            ≡ Some (start_value self.now.nfa start look_behind)) }
+        ensures known { IsStateOf self.now.nfa (start_value self.now.nfa start look_behind) }
+        ensures sound { IsSound (cache self.now) }
+    {
+        let number = start_number(self.nfa.nfa(), start, look_behind)?;
+        self.table.start(number)
+    }
+
+    /// Follows cached transitions over bytes of the text, up to a state at which the search ends.
+    ///
+    /// The loop does not share its body with the last step of `follow_to_end`: with a call it takes
+    /// six cycles a byte in place of five.
+    #[inline(always)]
+    pub(crate) fn follow(
+        &self,
+        from: CachedPosition,
         text: &Text<'_>,
         earliest: bool,
-    ) -> Result<Option<HalfMatch>, AllocError>
-        requires start { start < length (value self.old).nfa.states }
-        requires reached { IsShort earliest (value self.old) start text.now reached }
-        ensures { IsOverText earliest (cache (value self.old)) start text.now result
-            (cache (value self.new)) };
-}
-
-/// Searches a text from the start state of a walk over it. If the id of that state is kept and all
-/// transitions are cached, the cache is only read.
-#[inline(always)]
-pub(crate) fn search_text<C: Cached>(
-    cached: &mut C,
-    start: StateID,
-    text: &Text<'_>,
-    earliest: bool,
-) -> Result<Option<HalfMatch>, AllocError>
-    requires { start < length (C.value cached.old).nfa.states }
-    ensures over { IsOverText earliest (cache (C.value cached.old)) start text.now result
-        (cache (C.value cached.new)) }
-    ensures sound { IsSound (cache (C.value cached.old)) }
-{
-    match cached.view().search_text(start, text, earliest) {
-        Reached::End(found) => Ok(found),
-        // A copy, so that a search that only reads the cache keeps its text in registers.
-        Reached::Short(reached) => cached.search_rest(reached, start, &text.copied(), earliest),
+    ) -> CachedPosition
+        requires position { IsCachedPosition self.now from }
+        requires read { from.read ≤ length text.now.bytes }
+        ensures { GoesToCached earliest text.now (cached_place self.now from) self.now result }
+    {
+        let mut at = from;
+        while at.read < text.len() {
+            let byte = text.byte(at.read);
+            // The entry comes before the tag, since the next entry waits for it.
+            let target = self.table.lookup(at.id, Some(byte));
+            let tag = self.table.tag(at.id);
+            let Some(id) = target else {
+                return at;
+            };
+            if tag.is_last(earliest) {
+                return at;
+            }
+            at.last = at.last.or_match(tag, at.read);
+            at.id = id;
+            at.read += 1;
+        }
+        at
     }
-}
 
-/// Searches the text of an input. The offset of the match counts from the start of the text in
-/// reading order.
-#[inline(always)]
-fn search_range<C: Cached>(
-    cached: &mut C,
-    input: &Input<'_>,
-    earliest: bool,
-) -> Result<Option<HalfMatch>, AllocError>
-    requires start { has_start input.now.anchored ≡ true }
-    requires more { is_done input.now ≡ false }
-    ensures over { IsOverText earliest (cache (C.value cached.old))
-        (start_for (C.value cached.old).nfa input.now.anchored)
-        (text_of (C.value cached.old).nfa.reverse input.now) result
-        (cache (C.value cached.new)) }
-    ensures sound { IsSound (cache (C.value cached.old)) }
-{
-    let nfa = cached.view().nfa;
-    let start = start_for(nfa, input.get_anchored());
-    // Each has the direction of the text as a constant. With one call for both a search of four
-    // bytes takes 7 % more instructions.
-    if nfa.is_reverse() {
-        search_text(cached, start, &Text::of_input(input, true), earliest)
-    } else {
-        search_text(cached, start, &Text::of_input(input, false), earliest)
+    /// Follows cached transitions over a text and the unit ahead of it, up to a state at which the
+    /// search ends.
+    #[inline(always)]
+    fn follow_to_end(&self, start: LazyStateId, text: &Text<'_>, earliest: bool) -> CachedPosition
+        requires cached { start < length self.now.states }
+        requires known { IsStateOf self.now.nfa (slice_index_or self.now.states start dead) }
+        ensures position { IsCachedPosition self.now result }
+        ensures come { HasCome earliest (units text.now) (first_place (cache self.now)
+            (slice_index_or self.now.states start dead)) (cached_place self.now result) }
+        ensures within { result.read ≤ length text.now.bytes + 1 }
+    {
+        let first = CachedPosition {
+            id: start,
+            read: 0,
+            last: LastMatch::NONE,
+        };
+        let at = self.follow(first, text, earliest);
+        if at.read < text.len() {
+            return at;
+        }
+        let target = self.table.lookup(at.id, text.ahead());
+        let tag = self.table.tag(at.id);
+        match target {
+            Some(id) if !tag.is_last(earliest) => CachedPosition {
+                id,
+                read: at.read + 1,
+                last: at.last.or_match(tag, at.read),
+            },
+            _ => at,
+        }
     }
-}
 
-/// Returns the last match of a search of an input, as `Lazy::search_input`.
-#[tactic(auto, unfolding(crate::specs::CachedSearches::after_input))]
-#[inline(always)]
-pub(crate) fn search_input<C: Cached>(
-    cached: &mut C,
-    input: &Input<'_>,
-) -> Result<Option<HalfMatch>, AllocError>
-    requires { has_start input.now.anchored ≡ true }
-    ensures search { IfOk result (λ found. IsSearchResult
-        (C.value cached.old).nfa (C.value cached.old).kind input.now found) }
-    ensures done { is_done input.now ≡ true → result ≡ Ok None }
-    ensures after { OnOk result (cache (C.value cached.new)
-        ≡ after_input (cache (C.value cached.old)) input.now) }
-    ensures unchanged { is_done input.now ≡ true → cached.new ≡ cached.old }
-    ensures plenty { OnOk result
-        (IsPlentyIn (cache (C.value cached.old)) input.now (cache (C.value cached.new))) }
-    ensures failed { OnErr result
-        (IsCutOffIn false (cache (C.value cached.old)) input.now (cache (C.value cached.new))) }
-    ensures grows { Grows (cache (C.value cached.old)) (cache (C.value cached.new)) }
-{
-    if input.is_done() {
-        return Ok(None);
+    /// Searches a text from the start state of a walk over it, as far as the id of that state is
+    /// kept and the transitions are cached.
+    ///
+    /// Inlined, so that each caller has a loop in which `earliest` is a constant, and in `search`
+    /// also the direction of the text. With tests of these it takes six cycles a byte, not five.
+    #[inline(always)]
+    pub(crate) fn read_text(&self, start: StateID, text: &Text<'_>, earliest: bool) -> Reached
+        requires { start < length self.now.nfa.states }
+        ensures reached { IsReached earliest self.now start text.now result }
+        ensures sound { IsSound (cache self.now) }
+    {
+        let Some(id) = self.kept_start(start, text.behind()) else {
+            return Reached::Short(None);
+        };
+        let at = self.follow_to_end(id, text, earliest);
+        let tag = self.table.tag(at.id);
+        // An equation, not `>`: after the step over the unit ahead `at.read` is this sum, and the
+        // compiler then leaves out the test. It does not know that the sum is above the length.
+        if at.read == text.len() + 1 || tag.is_last(earliest) {
+            return Reached::End(at.last.or_match(tag, at.read).get());
+        }
+        Reached::Short(Some(at))
     }
-    let found = search_range(cached, input, false)?;
-    Ok(in_haystack(input, cached.view().nfa.is_reverse(), found))
-}
-
-/// Returns whether an input has a match, as `Lazy::is_match`.
-#[tactic(auto, unfolding(crate::specs::CachedSearches::after_is_match))]
-#[inline(always)]
-pub(crate) fn is_match<C: Cached>(cached: &mut C, input: &Input<'_>) -> Result<bool, AllocError>
-    requires { has_start input.now.anchored ≡ true }
-    ensures accepts { is_done input.now ≡ false → IfOk result
-        (λ found. Decides found (HasMatch (C.value cached.old).nfa input.now)) }
-    ensures done { is_done input.now ≡ true → result ≡ Ok false }
-    ensures after { OnOk result (cache (C.value cached.new)
-        ≡ after_is_match (cache (C.value cached.old)) input.now) }
-    ensures unchanged { is_done input.now ≡ true → cached.new ≡ cached.old }
-    ensures failed { OnErr result
-        (IsCutOffIn true (cache (C.value cached.old)) input.now (cache (C.value cached.new))) }
-    ensures grows { Grows (cache (C.value cached.old)) (cache (C.value cached.new)) }
-{
-    if input.is_done() {
-        return Ok(false);
-    }
-    Ok(search_range(cached, input, true)?.is_some())
 }

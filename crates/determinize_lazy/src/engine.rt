@@ -6,12 +6,12 @@ ghost use Rattle.determinize_engine.specs.Searches.{HasMatch, IsSearchResult, ha
 ghost use Rattle.determinize_lazy.specs.Cache.{Grows, cache};
 ghost use Rattle.determinize_lazy.specs.CachedSearches.{IsCutOffIn, after_input, after_is_match};
 
-use crate::lazy::Lazy;
-use determinize_below::{HalfMatch, Input};
+use crate::lazy::LazyDfa;
+use determinize_below::{AsNfa, HalfMatch, Input};
 use determinize_engine::engine::Engine;
 use std::alloc::{AllocError, Allocator};
 
-impl<'n, N: Allocator, A: Allocator + Copy> Engine for Lazy<'n, N, A> {
+impl<R: AsNfa, A: Allocator + Copy> Engine for LazyDfa<R, A> {
     type Error = AllocError;
 
     ghost engine = { λ v. record { nfa = v.nfa; kind = v.kind; limit = v.limit } };

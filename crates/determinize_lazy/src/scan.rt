@@ -14,6 +14,7 @@ ghost use Rattle.determinize_core.specs.Value.{is_nonempty};
 ghost use Rattle.determinize_lazy.specs.Cache.{Grows, IsCutOff, after_step, after_walk, cache};
 ghost use Rattle.determinize_table.specs.Cursors.{IsCursor, cursor_value};
 ghost use Rattle.determinize_lazy.specs.Private.Searched.{IsPieceRead};
+ghost use Rattle.determinize_lazy.specs.Private.Steps.{IsStateOf};
 ghost use Rattle.determinize_lazy.specs.Scanning.{EndsBefore, IsFoundBeforeLast, IsFoundInEach};
 ghost use Rattle.determinize_engine.specs.Private.Later.{later_by};
 ghost use Rattle.determinize_engine.specs.Scans.{IsScan, IsSettled};
@@ -21,17 +22,17 @@ ghost use Rattle.determinize_lazy.specs.CachedSearches.{units_begun, units_fed, 
 ghost use Rattle.determinize_engine.specs.Searches.{IsSearch};
 ghost use Rattle.determinize_below.specs.declared.search.MatchKind.{MatchKind as Kind};
 
-use crate::lazy::Lazy;
+use crate::lazy::LazyDfa;
 use crate::search::Position;
-use determinize_below::{HalfMatch, StateID};
+use determinize_below::{AsNfa, HalfMatch, StateID};
 use determinize_core::state::State;
 use determinize_engine::text::Text;
 use determinize_table::{Cursor, LazyStateId};
 use std::alloc::{AllocError, Allocator, Global};
 use std::marker::Model;
 
-/// A search under way, of a text that comes in pieces: `Lazy::scan` begins it, `Lazy::feed` reads
-/// the next piece, and `Lazy::finish` returns the match.
+/// A search under way, of a text that comes in pieces: `LazyDfa::scan` begins it, `LazyDfa::feed`
+/// reads the next piece, and `LazyDfa::finish` returns the match.
 ///
 /// It may be fed through any cache of the same NFA and match kind.
 #[derive(Drop)]
@@ -111,7 +112,7 @@ fn or_later(last: Option<HalfMatch>, read: usize, found: Option<HalfMatch>) -> O
     }
 }
 
-impl<'n, N: Allocator, A: Allocator + Copy> Lazy<'n, N, A> {
+impl<R: AsNfa, A: Allocator + Copy> LazyDfa<R, A> {
     /// Returns a search that has read nothing yet.
     ///
     /// - `start` is the id of the NFA state to start from, below the number of states.
@@ -162,8 +163,7 @@ impl<'n, N: Allocator, A: Allocator + Copy> Lazy<'n, N, A> {
     /// Returns the search of a piece from a cursor, as if its text began there.
     fn read_piece(&mut self, start: Cursor<A>, piece: &[u8]) -> Result<Scan<A>, AllocError>
         requires cursor { IsCursor self.old.states start }
-        requires resolve { AllResolve self.old.nfa
-            (cursor_value self.old.states start).states }
+        requires known { IsStateOf self.old.nfa (cursor_value self.old.states start) }
         ensures read { IfOk result (λ scan. IsPieceRead (cache self.old)
             (cursor_value self.old.states start) piece.now scan (cache self.new)) }
         ensures resolve { IfOk result
@@ -191,9 +191,10 @@ impl<'n, N: Allocator, A: Allocator + Copy> Lazy<'n, N, A> {
     ///
     /// The match is that of one search if the scan was begun with this NFA and match kind.
     ///
-    /// Returns `AllocError` also if the pieces have more than `usize::MAX` bytes together, or if an
-    /// id in the state of the scan is not that of a state of the NFA. After an error the scan is
-    /// unchanged, and the piece may be fed again.
+    /// Returns `AllocError` also if the pieces have more than `usize::MAX` bytes together, or if
+    /// the state of the scan has an id that is not one of a state of the NFA, or lists more
+    /// patterns or NFA states than the NFA has. After an error the scan is unchanged, and the piece
+    /// may be fed again.
     pub fn feed(&mut self, scan: &mut Scan<A>, piece: &[u8]) -> Result<(), AllocError>
         ensures fed { (start : ℕ) (behind : Option ℕ) (bytes : List ℕ)
             → IsScan self.old.nfa self.old.kind start behind bytes scan.old → OnOk result
@@ -226,7 +227,8 @@ impl<'n, N: Allocator, A: Allocator + Copy> Lazy<'n, N, A> {
     /// - `look_ahead` is the byte just after the text, or `None` if the input ends there.
     ///
     /// The match is that of one search if the scan was begun with this NFA and match kind. Returns
-    /// `AllocError` also if an id in the state of the scan is not that of a state of the NFA.
+    /// `AllocError` also if the state of the scan has an id that is not one of a state of the NFA,
+    /// or lists more patterns or NFA states than the NFA has.
     pub fn finish(
         &mut self,
         scan: &Scan<A>,

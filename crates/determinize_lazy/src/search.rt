@@ -1,7 +1,7 @@
 //! Searches over the cache: the last match of a walk, without a list of its states.
 //!
-//! If the id of its start state is kept (`step`), a search begins at that id (`cached`) and follows
-//! cached transitions from row to row (`view`). For each byte `follow` reads two numbers in the row
+//! If the id of its start state is kept (`step`), a search begins at that id and follows cached
+//! transitions from row to row (`cached`). For each byte `follow` reads two numbers in the row
 //! of the current state: the entry of the byte, which is the offset of the next row, and the tag.
 //! It neither allocates nor hashes, and computes no state. From the first transition that is not
 //! cached, `search_from` continues (its loop is `search_bytes`): it computes that step and follows
@@ -15,7 +15,6 @@
 //! to it. So a search also reads the unit ahead of its text, and a start state is no match state.
 
 ghost use Rattle.std.specs.Prelude.{Decides, ◌≡◌, ◌<◌, ◌≤◌, false, true, Option, drop, length, IfOk, OnErr, OnOk, Ok, None, Some};
-ghost use Rattle.determinize_below.specs.Nfa.{AllResolve};
 ghost use Rattle.determinize_below.specs.Semantics.{between};
 ghost use Rattle.determinize_below.specs.Search.{is_done};
 ghost use Rattle.determinize_core.specs.Chain.{units};
@@ -23,18 +22,29 @@ ghost use Rattle.determinize_core.specs.Step.{start_value};
 ghost use Rattle.determinize_core.specs.Value.{Value};
 ghost use Rattle.determinize_lazy.specs.Cache.{Grows, IsCutOff, LazyValue, cache};
 ghost use Rattle.determinize_table.specs.Cursors.{IsCursor, cursor_value};
-ghost use Rattle.determinize_lazy.specs.Private.Searched.{Fails, GoesTo, HasStopped, IsNext, IsOver, IsPosition, first_place, place, with_cursor};
-ghost use Rattle.determinize_lazy.specs.Private.Steps.{IsFailedStep};
-ghost use Rattle.determinize_engine.specs.Searches.{HasMatch, IsSearch, IsSearchResult, has_start};
+ghost use Rattle.determinize_lazy.specs.Private.Searched.{EndsAt, Fails, GoesTo, HasStopped, IsNext, IsOver, IsOverText, IsPosition, IsShort, first_place, place, with_cursor};
+ghost use Rattle.determinize_lazy.specs.Private.Steps.{IsFailedStep, IsSound, IsStateOf};
+ghost use Rattle.determinize_engine.specs.Searches.{HasMatch, IsSearch, IsSearchResult, has_start, start_for, text_of};
 ghost use Rattle.determinize_lazy.specs.CachedSearches.{IsCutOffIn, IsPlenty, IsPlentyIn, after_input, after_is_match, after_search, units_searched};
 
-use crate::cached::{Cached, is_match, search_input, search_text};
-use crate::lazy::Lazy;
-use crate::view::{CachedPosition, View};
-use determinize_below::{HalfMatch, Input, StateID};
-use determinize_engine::text::Text;
+use crate::cached::{CachedPosition, Reached};
+use crate::lazy::LazyDfa;
+use determinize_below::{Anchored, AsNfa, HalfMatch, Input, NFA, StateID};
+use determinize_engine::text::{Text, in_haystack};
 use determinize_table::{Cursor, LastMatch};
 use std::alloc::{AllocError, Allocator};
+
+/// Returns the start state of an NFA for an anchored mode.
+pub(crate) fn start_for<N: Allocator>(nfa: &NFA<N>, anchored: Anchored) -> StateID
+    ensures value { result ≡ start_for nfa.now anchored }
+    ensures resolve { result < length nfa.now.states }
+{
+    if anchored.is_anchored() {
+        nfa.start_anchored()
+    } else {
+        nfa.start_unanchored()
+    }
+}
 
 /// Where a search is: at which state, how many units it has read, and the last match of the states
 /// before that one.
@@ -49,7 +59,7 @@ impl<A: Allocator> Position<A> {
     /// Returns the position before the first unit.
     pub(crate) fn start(cursor: Cursor<A>) -> Position<A>
         ensures position { (c : LazyValue) → IsCursor c.states cursor
-            → AllResolve c.nfa (cursor_value c.states cursor).states → IsPosition c result }
+            → IsStateOf c.nfa (cursor_value c.states cursor) → IsPosition c result }
         ensures place { (c : LazyValue) (v : Value) → cursor_value c.states cursor ≡ v
             → place c result ≡ first_place (cache c) v }
         ensures read { result.read ≡ 0 }
@@ -76,7 +86,7 @@ impl CachedPosition {
     }
 }
 
-impl<'n, N: Allocator, A: Allocator + Copy> Lazy<'n, N, A> {
+impl<R: AsNfa, A: Allocator + Copy> LazyDfa<R, A> {
     /// Returns the last match up to and including the state at a position.
     pub(crate) fn found(&self, at: &Position<A>) -> Option<HalfMatch>
         requires { IsPosition self.now at.now }
@@ -87,7 +97,11 @@ impl<'n, N: Allocator, A: Allocator + Copy> Lazy<'n, N, A> {
 
     /// Takes a step over a unit, from a position at which the search does not end.
     #[inline(always)]
-    fn advance(&mut self, at: Position<A>, unit: Option<u8>) -> Result<Position<A>, AllocError>
+    pub(crate) fn advance(
+        &mut self,
+        at: Position<A>,
+        unit: Option<u8>,
+    ) -> Result<Position<A>, AllocError>
         requires position { IsPosition self.old at }
         requires read { at.read < usize.MAX }
         ensures next { IfOk result (λ next. IsNext (place self.old at) unit self.new next) }
@@ -114,9 +128,7 @@ impl<'n, N: Allocator, A: Allocator + Copy> Lazy<'n, N, A> {
         let Position { cursor, read, last } = from;
         match cursor {
             Cursor::Cached(id) => {
-                let at = self
-                    .view()
-                    .follow(CachedPosition { id, read, last }, text, earliest);
+                let at = self.follow(CachedPosition { id, read, last }, text, earliest);
                 at.with_cursor()
             }
             Cursor::Uncached(state) => Position {
@@ -175,12 +187,29 @@ impl<'n, N: Allocator, A: Allocator + Copy> Lazy<'n, N, A> {
         ensures { IsOver earliest (drop from.read (units text.now)) (place self.old from) result
             (cache self.new) }
     {
+        let at = self.search_to_end(from, text, earliest)?;
+        Ok(self.found(&at))
+    }
+
+    /// Searches a text from a position to its end, with the unit ahead. Returns the position at
+    /// which the search ends.
+    #[inline(always)]
+    pub(crate) fn search_to_end(
+        &mut self,
+        from: Position<A>,
+        text: &Text<'_>,
+        earliest: bool,
+    ) -> Result<Position<A>, AllocError>
+        requires position { IsPosition self.old from }
+        requires read { from.read ≤ length text.now.bytes }
+        ensures { EndsAt earliest (drop from.read (units text.now)) (place self.old from) result
+            self.new }
+    {
         let at = self.search_bytes(from, text, earliest)?;
         if self.tag_at(&at.cursor).is_last(earliest) {
-            return Ok(self.found(&at));
+            return Ok(at);
         }
-        let at = self.advance(at, text.ahead())?;
-        Ok(self.found(&at))
+        self.advance(at, text.ahead())
     }
 
     /// Returns the last match of the walk that `walk_between` makes over the same text, or `None`
@@ -217,7 +246,7 @@ impl<'n, N: Allocator, A: Allocator + Copy> Lazy<'n, N, A> {
         ensures grows { Grows (cache self.old) (cache self.new) }
     {
         let text = Text::new(look_behind, text, look_ahead);
-        search_text(self, start, &text, false)
+        self.search_text(start, &text, false)
     }
 
     /// Returns the last match of a search of an input, or `None` if no run accepts.
@@ -235,6 +264,7 @@ impl<'n, N: Allocator, A: Allocator + Copy> Lazy<'n, N, A> {
     /// No match includes the bytes next to the range. The byte behind decides the start state only;
     /// the byte ahead is read as the last unit, and its transition may be computed and cached. If
     /// the range starts past its end, nothing is read and the result is `Ok(None)`.
+    #[tactic(auto, unfolding(crate::specs::CachedSearches::after_input))]
     pub fn search_input(&mut self, input: &Input<'_>) -> Result<Option<HalfMatch>, AllocError>
         requires { has_start input.now.anchored ≡ true }
         ensures search { IfOk result
@@ -247,7 +277,11 @@ impl<'n, N: Allocator, A: Allocator + Copy> Lazy<'n, N, A> {
             (IsCutOffIn false (cache self.old) input.now (cache self.new)) }
         ensures grows { Grows (cache self.old) (cache self.new) }
     {
-        search_input(self, input)
+        if input.is_done() {
+            return Ok(None);
+        }
+        let found = self.search_range(input, false)?;
+        Ok(in_haystack(input, self.nfa.nfa().is_reverse(), found))
     }
 
     /// Returns whether an input has a match, under both match kinds: whether some run over what
@@ -256,6 +290,7 @@ impl<'n, N: Allocator, A: Allocator + Copy> Lazy<'n, N, A> {
     /// Stops at the first match state, and at a state that records no NFA states. Over cached
     /// transitions the cache is only read. If the range starts past its end, nothing is read and
     /// the result is `Ok(false)`. `Anchored::Pattern` is not accepted.
+    #[tactic(auto, unfolding(crate::specs::CachedSearches::after_is_match))]
     pub fn is_match(&mut self, input: &Input<'_>) -> Result<bool, AllocError>
         requires { has_start input.now.anchored ≡ true }
         ensures accepts { is_done input.now ≡ false → IfOk result
@@ -267,38 +302,74 @@ impl<'n, N: Allocator, A: Allocator + Copy> Lazy<'n, N, A> {
             (IsCutOffIn true (cache self.old) input.now (cache self.new)) }
         ensures grows { Grows (cache self.old) (cache self.new) }
     {
-        is_match(self, input)
+        if input.is_done() {
+            return Ok(false);
+        }
+        Ok(self.search_range(input, true)?.is_some())
     }
-}
 
-impl<'n, N: Allocator, A: Allocator + Copy> Cached for Lazy<'n, N, A> {
-    type N = N;
-
-    type A = A;
-
-    ghost value = { λ c. c };
-
+    /// Searches the text of an input. The offset of the match counts from the start of the text in
+    /// reading order.
     #[inline(always)]
-    fn view(&self) -> View<'_, N, A> {
-        View {
-            nfa: self.stepper.nfa(),
-            match_kind: self.stepper.match_kind(),
-            limit: self.limit,
-            computed: self.computed,
-            table: &self.table,
-            spans: &self.spans,
+    fn search_range(
+        &mut self,
+        input: &Input<'_>,
+        earliest: bool,
+    ) -> Result<Option<HalfMatch>, AllocError>
+        requires { is_done input.now ≡ false }
+        ensures over { IsOverText earliest (cache self.old)
+            (start_for self.old.nfa input.now.anchored) (text_of self.old.nfa.reverse input.now)
+            result (cache self.new) }
+        ensures sound { IsSound (cache self.old) }
+    {
+        let nfa = self.nfa.nfa();
+        let start = start_for(nfa, input.get_anchored());
+        let is_reverse = nfa.is_reverse();
+        // Each has the direction of the text as a constant. With one call for both a search of four
+        // bytes takes 7 % more instructions.
+        if is_reverse {
+            self.search_text(start, &Text::of_input(input, true), earliest)
+        } else {
+            self.search_text(start, &Text::of_input(input, false), earliest)
         }
     }
 
+    /// Searches a text from the start state of a walk over it. If the id of that state is kept and
+    /// all transitions are cached, the cache is only read.
+    #[inline(always)]
+    fn search_text(
+        &mut self,
+        start: StateID,
+        text: &Text<'_>,
+        earliest: bool,
+    ) -> Result<Option<HalfMatch>, AllocError>
+        requires { start < length self.old.nfa.states }
+        ensures over { IsOverText earliest (cache self.old) start text.now result
+            (cache self.new) }
+        ensures sound { IsSound (cache self.old) }
+    {
+        match self.read_text(start, text, earliest) {
+            Reached::End(found) => Ok(found),
+            // A copy, so that a search that only reads the cache keeps its text in registers.
+            Reached::Short(reached) => self.search_rest(reached, start, &text.copied(), earliest),
+        }
+    }
+
+    /// Continues a search that came so far as it only read the cache: to a position, or to none,
+    /// since the id of its start state is not kept.
     #[cold]
     #[inline(never)]
-    fn search_rest(
+    pub(crate) fn search_rest(
         &mut self,
         reached: Option<CachedPosition>,
         start: StateID,
         text: &Text<'_>,
         earliest: bool,
-    ) -> Result<Option<HalfMatch>, AllocError> {
+    ) -> Result<Option<HalfMatch>, AllocError>
+        requires start { start < length self.old.nfa.states }
+        requires reached { IsShort earliest self.old start text.now reached }
+        ensures { IsOverText earliest (cache self.old) start text.now result (cache self.new) }
+    {
         match reached {
             Some(at) => self.search_from(at.with_cursor(), text, earliest),
             None => {

@@ -7,32 +7,37 @@
 
 ghost use Rattle.std.specs.Prelude.{Decides, ◌≡◌, ◌<◌, ℕ, false, length, IfOk, OnOk};
 ghost use Rattle.std.specs.Option.{option_copied};
-ghost use Rattle.determinize_below.specs.Nfa.{AllResolve};
 ghost use Rattle.determinize_core.specs.Step.{start_value};
 ghost use Rattle.determinize_lazy.specs.Cache.{cache, classes_from};
 ghost use Rattle.determinize_table.specs.Cursors.{IsAt, IsCursor, cursor_value};
-ghost use Rattle.determinize_lazy.specs.Private.Steps.{IsSound, IsStarted, IsStepped};
+ghost use Rattle.determinize_lazy.specs.Private.Steps.{IsSound, IsStarted, IsStateOf, IsStepped};
 ghost use Rattle.determinize_table.specs.Tags.{tag_in, tag_of};
 ghost use Rattle.determinize_table.specs.Table.{is_cached};
 ghost use Rattle.determinize_table.specs.declared.table.Cursor.TheVariants as cursors;
 
-use crate::cached::Cached;
-use crate::lazy::Lazy;
-use crate::view::start_number;
-use determinize_below::{NFA, StateID, Unit};
+use crate::cached::start_number;
+use crate::lazy::LazyDfa;
+use determinize_below::{AsNfa, NFA, StateID, Unit};
 use determinize_core::state::State;
 use determinize_table::{ClassSpans, Cursor, LazyStateId, StateTag};
 use std::alloc::{AllocError, Allocator};
 
-/// Returns whether each id in a state is that of a state of the NFA.
-fn resolves<N: Allocator, A: Allocator>(nfa: &NFA<N>, state: &State<A>) -> bool
-    ensures { Decides result (AllResolve nfa.now state.now.states) }
+/// Returns whether a state may be one of the DFA of an NFA: each id in it is that of a state of the
+/// NFA, and it lists no more patterns and no more states than the NFA has.
+fn is_state_of<N: Allocator, A: Allocator>(nfa: &NFA<N>, state: &State<A>) -> bool
+    ensures { Decides result (IsStateOf nfa.now state.now) }
 {
+    // Without patterns there is no need to count those of the NFA, which takes a pass over it.
+    if state.is_match() && state.match_len() > nfa.pattern_len() {
+        return false;
+    }
     let count = nfa.len();
+    let mut listed = 0;
     for id in state.iter_nfa_state_ids() {
-        if id.as_usize() >= count {
+        if listed == count || id.as_usize() >= count {
             return false;
         }
+        listed += 1;
     }
     true
 }
@@ -53,7 +58,7 @@ fn classes_from<'s, N: Allocator, A: Allocator>(
     }
 }
 
-impl<'n, N: Allocator, A: Allocator + Copy> Lazy<'n, N, A> {
+impl<R: AsNfa, A: Allocator + Copy> LazyDfa<R, A> {
     /// Returns the state before the first unit.
     pub(crate) fn start_state(
         &mut self,
@@ -63,11 +68,11 @@ impl<'n, N: Allocator, A: Allocator + Copy> Lazy<'n, N, A> {
         requires { start < length self.old.nfa.states }
         ensures value { IfOk result
             (λ state. state ≡ start_value self.old.nfa start look_behind) }
-        ensures resolve { IfOk result (λ state. AllResolve self.old.nfa state.states) }
+        ensures known { IfOk result (λ state. IsStateOf self.old.nfa state) }
         ensures sound { IsSound (cache self.old) }
         ensures unchanged { self.new ≡ self.old }
     {
-        self.stepper.start(start, look_behind)
+        self.scratch.start(self.nfa.nfa(), start, look_behind)
     }
 
     /// Returns where a walk or a search begins. If `start` is one of the two start states of the
@@ -82,7 +87,7 @@ impl<'n, N: Allocator, A: Allocator + Copy> Lazy<'n, N, A> {
         requires { start < length self.old.nfa.states }
         ensures { IsStarted self.old (start_value self.old.nfa start look_behind) result self.new }
     {
-        match self.view().kept_start(start, look_behind) {
+        match self.kept_start(start, look_behind) {
             Some(id) => Ok(Cursor::Cached(id)),
             None => self.find_start(start, look_behind),
         }
@@ -104,7 +109,7 @@ impl<'n, N: Allocator, A: Allocator + Copy> Lazy<'n, N, A> {
         let Some(id) = self.table.find(&state, None) else {
             return Ok(Cursor::Uncached(state));
         };
-        if let Some(number) = start_number(self.stepper.nfa(), start, look_behind) {
+        if let Some(number) = start_number(self.nfa.nfa(), start, look_behind) {
             self.table.set_start(number, id);
         }
         Ok(Cursor::Cached(id))
@@ -113,20 +118,20 @@ impl<'n, N: Allocator, A: Allocator + Copy> Lazy<'n, N, A> {
     /// Returns the cursor of a borrowed state: a copy of it, if it is not cached. `likely` is an id
     /// that it may have.
     ///
-    /// Returns `AllocError` also if an id in the state is not that of a state of the NFA. There is
-    /// no such id in a state that is cached.
+    /// Returns `AllocError` also if the state cannot be one of the DFA of the NFA (`is_state_of`).
+    /// No such state is cached.
     pub(crate) fn cursor_of(
         &self,
         state: &State<A>,
         likely: Option<LazyStateId>,
     ) -> Result<Cursor<A>, AllocError>
         ensures at { IfOk result (λ cursor. IsAt self.now.states cursor state.now) }
-        ensures resolve { OnOk result (AllResolve self.now.nfa state.now.states) }
+        ensures known { OnOk result (IsStateOf self.now.nfa state.now) }
         ensures sound { IsSound (cache self.now) }
     {
         match self.table.find(state, likely) {
             Some(id) => Ok(Cursor::Cached(id)),
-            None if resolves(self.stepper.nfa(), state) => Ok(Cursor::Uncached(state.clone()?)),
+            None if is_state_of(self.nfa.nfa(), state) => Ok(Cursor::Uncached(state.clone()?)),
             None => Err(AllocError),
         }
     }
@@ -152,8 +157,7 @@ impl<'n, N: Allocator, A: Allocator + Copy> Lazy<'n, N, A> {
         unit: Option<u8>,
     ) -> Result<Cursor<A>, AllocError>
         requires cursor { IsCursor self.old.states cursor }
-        requires resolve { AllResolve self.old.nfa
-            (cursor_value self.old.states cursor).states }
+        requires known { IsStateOf self.old.nfa (cursor_value self.old.states cursor) }
         ensures { IsStepped self.old (cursor_value self.old.states cursor) unit result self.new }
     {
         match cursor {
@@ -171,15 +175,16 @@ impl<'n, N: Allocator, A: Allocator + Copy> Lazy<'n, N, A> {
     #[inline(never)]
     fn compute(&mut self, cursor: Cursor<A>, unit: Option<u8>) -> Result<Cursor<A>, AllocError>
         requires cursor { IsCursor self.old.states cursor }
-        requires resolve { AllResolve self.old.nfa
-            (cursor_value self.old.states cursor).states }
+        requires known { IsStateOf self.old.nfa (cursor_value self.old.states cursor) }
         requires uncached { (id : ℕ) → cursor ≡ cursors.Cached id → is_cached (cache self.old).table
             (cursor_value self.old.states cursor) unit ≡ false }
         ensures { IsStepped self.old (cursor_value self.old.states cursor) unit result self.new }
     {
         let state = self.table.state(&cursor);
-        let spans = classes_from(self.stepper.nfa(), state, &self.spans);
-        let following = self.stepper.next(state, Unit::from(unit))?;
+        let spans = classes_from(self.nfa.nfa(), state, &self.spans);
+        let following = self
+            .scratch
+            .next(self.nfa.nfa(), self.match_kind, state, Unit::from(unit))?;
         self.computed = self.computed.saturating_add(1);
         self.table.keep(cursor, unit, following, self.limit, spans)
     }

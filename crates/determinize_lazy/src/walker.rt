@@ -8,14 +8,14 @@ ghost use Rattle.determinize_core.specs.Step.{start_value, step};
 ghost use Rattle.determinize_lazy.specs.Cache.{Grows, IsCutOff, after_step, cache};
 ghost use Rattle.determinize_lazy.specs.Walkers.{IsWalkedTo};
 
-use crate::lazy::Lazy;
-use determinize_below::StateID;
+use crate::lazy::LazyDfa;
+use determinize_below::{AsNfa, StateID};
 use determinize_core::state::State;
 use determinize_table::LazyStateId;
 use std::alloc::{AllocError, Allocator, Global};
 use std::marker::Model;
 
-/// A walk under way, by steps: `Lazy::walker` begins it, and `Lazy::next` takes a step.
+/// A walk under way, by steps: `LazyDfa::walker` begins it, and `LazyDfa::next` takes a step.
 ///
 /// It owns its state, so it may continue through any cache of the same NFA and match kind,
 /// regardless of the other uses of that cache in between.
@@ -44,7 +44,7 @@ impl<A: Allocator> Walker<A> {
     }
 }
 
-impl<'n, N: Allocator, A: Allocator + Copy> Lazy<'n, N, A> {
+impl<R: AsNfa, A: Allocator + Copy> LazyDfa<R, A> {
     /// Returns a walker at the start state of a walk.
     ///
     /// - `start` is the id of the NFA state to start from, below the number of states.
@@ -74,8 +74,9 @@ impl<'n, N: Allocator, A: Allocator + Copy> Lazy<'n, N, A> {
     ///
     /// The states are those of one walk if the walker was begun with this NFA and match kind.
     ///
-    /// Returns `AllocError` also if an id in the state of the walker is not that of a state of the
-    /// NFA. After an error the walker is unchanged, and may take the same step again.
+    /// Returns `AllocError` also if the state of the walker has an id that is not one of a state of
+    /// the NFA, or lists more patterns or NFA states than the NFA has. After an error the walker is
+    /// unchanged, and may take the same step again.
     pub fn next(&mut self, walker: &mut Walker<A>, unit: Option<u8>) -> Result<(), AllocError>
         ensures value { OnOk result
             (walker.new ≡ step self.old.nfa self.old.kind walker.old unit) }

@@ -1,6 +1,6 @@
 -- A search, one unit more at a time, and what it finds and leaves.
 -- Main statements: come-next, over-at, next-cached, last-is, search-is.
--- Used by: the functions of `view.rt`, `search.rt`, `scan.rt` and `owned.rt`.
+-- Used by: the functions of `cached.rt`, `search.rt` and `scan.rt`.
 -- Idea: where a search ends depends only on the place where it is and on the units that are left; and the place where
 -- it ends has the last match and the cache of the walk over the units that it reads.
 use Rattle.determinize_lazy.proofs.Common.{[], after_walk, ap, arith, Asked, Bool, by_test, Cache, cache, cached_place}
@@ -24,9 +24,9 @@ use Rattle.determinize_lazy.proofs.walking.CachedWalks.{cut_off-first, cut_off-l
 use Rattle.determinize_core.specs.Chain.{chain}
 use Rattle.determinize_engine.proofs.SearchMatches.{is-search}
 use Rattle.determinize_engine.proofs.Ranges.{match-decides}
-use Rattle.determinize_core.proofs.step.Resolving.{step_resolves}
+use Rattle.determinize_lazy.proofs.steps.FewStates.{known-step}
 use Rattle.determinize_lazy.specs.Private.Searched.{with_cursor}
-use Rattle.determinize_lazy.specs.declared.view.CachedPosition.{CachedPosition}
+use Rattle.determinize_lazy.specs.declared.cached.CachedPosition.{CachedPosition}
 use Rattle.determinize_table.specs.declared.table.Cursor.TheVariants.{Cached}
 use Rattle.determinize_table.specs.declared.tag.LastMatch.{LastMatch}
 use Rattle.determinize_table.specs.Stored.{table_in}
@@ -59,25 +59,6 @@ over-text {old = old} {s' = s'} {t = t} s_is is =
 pub over-any : {D E : Type 0} {earliest : Bool} {us : List (Option ℕ)} {p : Place} {found : Option HalfMatch}
     {new : Cache} → IsOver {E = D} earliest us p (Ok found) new → IsOver {E = E} earliest us p (Ok found) new
 over-any o = record { last = o.last; after = o.after; failed = tt; grows = o.grows }
-
--- what a search leaves, for a value with the same fields
-pub over-kept : {E : Type 0} {earliest : Bool} {us : List (Option ℕ)} {p : Place} {r : Result (Option HalfMatch) E}
-    (v w : LazyValue) → IsOver earliest us p r (cache v) → w.nfa ≡ p.cache.nfa → w.kind ≡ p.cache.kind
-    → w.limit ≡ p.cache.limit → w.states ≡ v.states → w.rows ≡ v.rows → w.computed ≡ v.computed
-    → w.classes ≡ v.classes → IsOver earliest us p r (cache w)
-over-kept {earliest = earliest} {us} {p} {r} v w o nfa kind limit states rows computed classes =
-    let n : v.nfa ≡ w.nfa = o.grows.nfa ∙ sym nfa in
-    let k : v.kind ≡ w.kind = o.grows.kind ∙ sym kind in
-    let l : v.limit ≡ w.limit = o.grows.limit ∙ sym limit in
-    let same : cache v ≡ cache w = λ i. record {
-      nfa = n i;
-      kind = k i;
-      limit = l i;
-      table = table_in (sym states i) (sym rows i);
-      computed = sym computed i;
-      classes = sym classes i;
-    } in
-    subst (λ (c : Cache). IsOver earliest us p r c) same o
 
 -- the cache and the value where a search ends are those after a walk over the units that it reads
 pub end-is : (earliest : Bool) (us : List (Option ℕ)) (p : Place)
@@ -187,7 +168,7 @@ next-cached x is at position u id looked bits tagged earliest told more last fou
       record {
         position = record {
           cursor = w.cursor_is;
-          resolve = rw w.value (step_resolves x.nfa is.accepted x.kind v u);
+          known = rw w.value (known-step x.nfa is.accepted x.kind v u position.known);
           unmatched = λ e. absurd (omega arith);
         };
         place =

@@ -4,11 +4,12 @@
 -- Idea: each cached transition is a step of the DFA, and the step over it changes nothing.
 use Rattle.determinize_lazy.proofs.Common.{[], after_step, ap, arith, cache, Cache, cursor_value, dead, false, get_or}
 use Rattle.determinize_lazy.proofs.Common.{get_or_from_slice_get, is_cached, is_some, IsAt, IsCursor, IsFollowed}
-use Rattle.determinize_lazy.proofs.Common.{IsSound, IsStepped, IsTable, IsTarget, LazyValue, List, Ok, Option, refl}
+use Rattle.determinize_lazy.proofs.Common.{IsSound, IsStateOf, IsStepped, IsTable, IsTarget, LazyValue, List, Ok}
+use Rattle.determinize_lazy.proofs.Common.{Option, refl}
 use Rattle.determinize_lazy.proofs.Common.{slice_get, slice_get-get_or, slice_get_within, Some, step_of, true, Value, ℕ}
 use Rattle.determinize_lazy.proofs.Common.{◌++◌, ◌+◌, ◌∙◌, ◌∷◌, ◌≡◌}
 use Rattle.determinize_lazy.proofs.walking.CachedWalks.{drop-one, walks-on}
-use Rattle.determinize_core.proofs.step.Resolving.{step_resolves}
+use Rattle.determinize_lazy.proofs.steps.FewStates.{known-step}
 use Rattle.determinize_table.specs.declared.table.Cursor.{Cursor}
 use Rattle.determinize_table.specs.declared.table.Cursor.TheVariants.{Cached, Uncached}
 use Rattle.determinize_table.proofs.Transitions.{not_source}
@@ -32,10 +33,11 @@ module _ (c : Cache) (v : Value) (u : Option ℕ) (id : ℕ) (is : IsTable (step
 
 -- what a step over a cached transition leaves
 pub stepped_at : {A E : Type 0} (old : LazyValue) (v : Value) (u : Option ℕ) (id : ℕ) → IsSound (cache old)
-    → IsTarget (cache old).table v u (Some id) → IsStepped {A = A} {E = E} old v u (Ok (Cached id)) old
-stepped_at old v u id sound target = record {
+    → IsStateOf old.nfa v → IsTarget (cache old).table v u (Some id)
+    → IsStepped {A = A} {E = E} old v u (Ok (Cached id)) old
+stepped_at old v u id sound known target = record {
   at = cached_target (cache old) v u id sound.table target;
-  resolve = step_resolves old.nfa sound.accepted old.kind v u;
+  known = known-step old.nfa sound.accepted old.kind v u known;
   after = cached_step (cache old) v u id sound.table target;
   failed = tt;
   grows = record { nfa = refl; kind = refl; limit = refl; classes = refl; computed = omega arith };
@@ -56,12 +58,14 @@ pub followed-next : {us : List (Option ℕ)} {c : LazyValue} {from start id read
     → ((v : Value) → slice_get c.states id ≡ Some v → IsTarget (cache c).table v u (Some next))
     → slice_get c.states next ≡ Some w → IsFollowed us c from start before next (read + 1) (done ++ w ∷ [])
 followed-next {us} {c} {id = id} {read} {next} {u = u} {w} sound f here target at =
-    let s : IsStepped {A = ℕ} {E = ℕ} c (get_or c.states id dead) u (Ok (Cached next)) c =
-    stepped_at c _ u next sound (target _ (slice_get-get_or c.states id dead f.inside)) in
+    let v : Value = get_or c.states id dead in
+    let goes : IsTarget (cache c).table v u (Some next) = target _ (slice_get-get_or c.states id dead f.inside) in
+    let s : IsAt {A = ℕ} c.states (Cached next) (step_of (cache c) v u) =
+    cached_target (cache c) v u next sound.table goes in
     let w_is : get_or c.states next dead ≡ w = get_or_from_slice_get c.states next w dead at in record {
-      inside = s.at.cursor_is;
+      inside = s.cursor_is;
       further = omega (arith, f.further);
-      resolve = λ r. rw s.at.value s.resolve;
+      known = λ from. rw s.value (known-step c.nfa sound.accepted c.kind v u (f.known from));
       walking = λ old first walk. rw w_is (walks-on (rw (drop-one us read u here) at f.walking old first walk)
-          (rw (← w_is) s.at.value) s.after);
+          (rw (← w_is) s.value) (cached_step (cache c) v u next sound.table goes));
     }

@@ -1,6 +1,6 @@
 -- A cache in which nothing is kept.
 -- Main statements: empty_is_lazy.
--- Used by: `Lazy::new`, `Lazy::into_kept`.
+-- Used by: `with_spans`, and what clears a cache.
 -- Idea: the table of no states is that of each step function, and it keeps no start.
 use Rattle.determinize_lazy.proofs.Common.{ap, arith, length, Option, sym, ℕ, Table, ◌≤◌, ◌∙◌}
 use Rattle.std.proofs.lemmas.List.Elements.{All-nil}
@@ -28,6 +28,6 @@ empty_is_lazy nfa kind limit computed classes stored accepted small are is = rec
     classes = are;
   };
   within = omega (arith, ap (λ (t : Table). length t.states) is.table);
-  resolve = let none = ap (λ (t : Table). t.states) is.table in rw none (All-nil _);
+  known = let none = ap (λ (t : Table). t.states) is.table in rw none (All-nil _);
   starts = λ s p slot id of kept. not_none (sym kept ∙ is.starts (slot_number slot));
 }

@@ -1,18 +1,15 @@
 -- How many patterns and states the values of a walk list, and how many bytes a cache of them takes.
--- Main statements: small-over, few_bytes.
--- Used by: OwnedLazy.
+-- Main statements: known-start, known-step, few_bytes.
+-- Used by: what keeps the states of a cache small, and `cached_memory_usage`.
 -- Idea: a closure lists each state once, and a pattern comes from a match state.
-use Rattle.determinize_lazy.proofs.Common.{[], after_step, after_walk, AllResolve, ap, arith, by_cases, by_test, Cache}
-use Rattle.determinize_lazy.proofs.Common.{cond, Err, get_or, HalfMatch, IsAccepted, is_cached, IsCutOff, IsOver}
-use Rattle.determinize_lazy.proofs.Common.{is_some}
-use Rattle.determinize_lazy.proofs.Common.{length, List, MatchKind, nat_eq, Nfa, None, Ok, Option, Place, refl}
-use Rattle.determinize_lazy.proofs.Common.{Result, Some, start_value, step_of, suc, sym, take, take_all, true}
-use Rattle.determinize_lazy.proofs.Common.{shared_by, units_read}
-use Rattle.determinize_lazy.proofs.Common.{Value, zero, ℕ, ◌+◌, ◌<◌, ◌∙◌, ◌∷◌, ◌≡◌, ◌≤◌, Bool}
+use Rattle.determinize_lazy.proofs.Common.{[], ap, arith, Bool, by_test, cond, get_or, IsAccepted, is_some}
+use Rattle.determinize_lazy.proofs.Common.{IsStateOf, length, List, MatchKind, nat_eq, Nfa, None, Option, refl, Some}
+use Rattle.determinize_lazy.proofs.Common.{start_value, suc, sym, take, take_all, true, Value, zero, ℕ, ◌+◌, ◌<◌}
+use Rattle.determinize_lazy.proofs.Common.{◌∙◌, ◌∷◌, ◌≡◌, ◌≤◌}
 use Rattle.std.proofs.Common.{add-one, eqb-true}
 use Rattle.std.proofs.Math.Nat.{mul-le-mul_right}
 use Rattle.std.proofs.lemmas.List.Concat.{length-flat_map}
-use Rattle.std.proofs.lemmas.List.Elements.{All-contains, All-nil, All-weaker}
+use Rattle.std.proofs.lemmas.List.Elements.{All-contains, All-weaker}
 use Rattle.std.proofs.lemmas.List.Sums.{count_by-le-length, length-filter, sum_by-cons, sum_by-le, sum_by_more}
 use Rattle.std.specs.List.{count_by, flat_map, sum_by}
 use Rattle.std.specs.Option.{option_to_list}
@@ -25,12 +22,10 @@ use Rattle.determinize_below.specs.Edges.{reach}
 use Rattle.determinize_below.specs.Semantics.{Fail}
 use Rattle.determinize_core.proofs.Common.{accepted_sound, has, have_after, member, none_held, same_decides, tables_of}
 use Rattle.determinize_core.proofs.Common.{without}
-use Rattle.determinize_core.proofs.step.Resolving.{step_resolves, targets_resolve}
+use Rattle.determinize_core.proofs.step.Resolving.{start_resolves, step_resolves, targets_resolve}
 use Rattle.determinize_core.specs.Step.{distinct_states, is_reopened, opened_by, patterns_read, step, targets}
 use Rattle.determinize_core.specs.Step.{working_list}
-use Rattle.determinize_lazy.proofs.steps.Rule.{All-kept}
 use Rattle.determinize_lazy.specs.MostBytes.{most_bytes}
-use Rattle.determinize_lazy.specs.Private.Invariant.{IsSmall}
 use Rattle.determinize_engine.specs.StateBytes.{heap_bytes}
 use Rattle.determinize_start.specs.LookTables.{have_at_start}
 use Rattle.determinize_state.proofs.encoding.EncodedLength.{spell_short}
@@ -100,22 +95,22 @@ module _ (nfa : Nfa) (accepted : IsAccepted nfa) where
       few_patterns nfa (flat_map (ends nat_eq (edges nfa holds) (n + 1) none_held) roots)
       (ends_within_states nfa (accepted_sound nfa accepted) holds (n + 1) none_held roots inside)
 
-  pub small-start : (s : ℕ) (p : Option ℕ) → s < length nfa.states → IsSmall nfa (start_value nfa s p)
-  small-start s p l = (
-    omega arith,
-    (let xs : List ℕ = reach nfa (has (have_at_start (tables_of nfa) p)) (s ∷ []) in
-        let few : length xs ≤ length nfa.states = length-reach nfa (accepted_sound nfa accepted) _ (s ∷ [])
-        (λ r k. let e : s ≡ r = eqb-true s r (or_false (nat_eq s r) k) in omega arith) in
-        omega (arith, few, length-without (is_capture nfa) xs)),
-  )
+  pub known-start : (s : ℕ) (p : Option ℕ) → s < length nfa.states → IsStateOf nfa (start_value nfa s p)
+  known-start s p l =
+      let xs : List ℕ = reach nfa (has (have_at_start (tables_of nfa) p)) (s ∷ []) in
+      let few : length xs ≤ length nfa.states = length-reach nfa (accepted_sound nfa accepted) _ (s ∷ [])
+      (λ r k. let e : s ≡ r = eqb-true s r (or_false (nat_eq s r) k) in omega arith) in record {
+        resolve = start_resolves nfa accepted s p l;
+        patterns = omega arith;
+        states = omega (arith, few, length-without (is_capture nfa) xs);
+      }
 
-  small-step : (kind : MatchKind) (v : Value) (u : Option ℕ) → AllResolve nfa v.states
-      → IsSmall nfa (step nfa kind v u)
+  pub known-step : (kind : MatchKind) (v : Value) (u : Option ℕ) → IsStateOf nfa v → IsStateOf nfa (step nfa kind v u)
   unfolding step
-  small-step kind v u resolve =
+  known-step kind v u known =
       let n : ℕ = length nfa.states in
       let inside : (x : ℕ) → member nat_eq v.states x ≡ true → x < n =
-      λ x m. All-contains (λ id. id < n) v.states x resolve
+      λ x m. All-contains (λ id. id < n) v.states x known.resolve
       (In_Contains same_decides v.states x (member_In same_decides v.states x m)) in
       let patterns : length (patterns_of nfa (working_list nfa v u)) ≤ pattern_count nfa =
       by_test (is_reopened nfa v u)
@@ -124,47 +119,20 @@ module _ (nfa : Nfa) (accepted : IsAccepted nfa) where
       (λ e. rw e (few_patterns nfa v.states inside)) in
       let entered : List ℕ = reach nfa (has (have_after (tables_of nfa) u)) (targets nfa kind v u) in
       let few : length entered ≤ n = length-reach nfa (accepted_sound nfa accepted) _ (targets nfa kind v u)
-      (targets_resolve nfa accepted kind v u) in (
-        omega (arith, patterns, length-read kind (patterns_of nfa (working_list nfa v u))),
-        omega (arith, few, length-without (is_capture nfa) entered),
-      )
-
--- a walk leaves only values of which this is so
-small-walk : (us : List (Option ℕ)) (c : Cache) (v : Value) → IsAccepted c.nfa → Each (IsSmall c.nfa) c.table.states
-    → IsSmall c.nfa v → AllResolve c.nfa v.states → Each (IsSmall c.nfa) (after_walk c v us).table.states
-small-walk [] c v accepted each one resolve = each
-small-walk (u ∷ us) c v accepted each one resolve =
-    let next : IsSmall c.nfa (step_of c v u) = small-step c.nfa accepted c.kind v u resolve in
-    small-walk us (after_step c v u) (step_of c v u) accepted
-    (by_test (is_cached c.table v u) (λ e. rw e each)
-    (λ e. rw e (All-kept (IsSmall c.nfa) (shared_by c v u) c.limit c.table v (step_of c v u) each one next)))
-    next (step_resolves c.nfa accepted c.kind v u)
-
-small-cut_off : {old : Cache} {v : Value} {us : List (Option ℕ)} {new : Cache} → IsAccepted old.nfa
-    → Each (IsSmall old.nfa) old.table.states → IsSmall old.nfa v → AllResolve old.nfa v.states
-    → IsCutOff old v us new → Each (IsSmall old.nfa) new.table.states
-small-cut_off {old} {v} {us} accepted each one resolve cut =
-    by_cases cut.table (λ e. rw e (All-nil (IsSmall old.nfa)))
-    (λ e. rw e (small-walk (take cut.steps us) old v accepted each one resolve))
-
--- and so does a search
-pub small-over : {E : Type 0} {earliest : Bool} {us : List (Option ℕ)} {p : Place} (r : Result (Option HalfMatch) E)
-    {new : Cache} → IsAccepted p.cache.nfa → Each (IsSmall p.cache.nfa) p.cache.table.states
-    → IsSmall p.cache.nfa p.value → AllResolve p.cache.nfa p.value.states → IsOver earliest us p r new
-    → Each (IsSmall p.cache.nfa) new.table.states
-small-over {earliest = earliest} {us} {p} (Ok x) accepted each one resolve over =
-    rw over.after
-    (small-walk (units_read (step_of p.cache) earliest p.value us) p.cache p.value accepted each one resolve)
-small-over (Err e) accepted each one resolve over = small-cut_off accepted each one resolve over.failed
+      (targets_resolve nfa accepted kind v u) in record {
+        resolve = step_resolves nfa accepted kind v u;
+        patterns = omega (arith, patterns, length-read kind (patterns_of nfa (working_list nfa v u)));
+        states = omega (arith, few, length-without (is_capture nfa) entered);
+      }
 
 -- the memory of a cache
-pub few_bytes : (limit : ℕ) (nfa : Nfa) (states : List Value) → length states ≤ limit → Each (IsSmall nfa) states
+pub few_bytes : (limit : ℕ) (nfa : Nfa) (states : List Value) → length states ≤ limit → Each (IsStateOf nfa) states
     → cache_bytes states ≤ most_bytes limit nfa
 few_bytes limit nfa states within each =
     let m : ℕ = 26 + 8 * pattern_count nfa + 10 * length nfa.states in
-    let one : (v : Value) → IsSmall nfa v → heap_bytes v * 2 ≤ m =
-    λ v small. grind (arith, spell_short v, small.0, small.1) in
+    let one : (v : Value) → IsStateOf nfa v → heap_bytes v * 2 ≤ m =
+    λ v known. grind (arith, spell_short v, known.patterns, known.states) in
     let sum = sum_by-le (λ v. heap_bytes v * 2) m states
-    (All-weaker (IsSmall nfa) (λ v. heap_bytes v * 2 ≤ m) one states each) in
+    (All-weaker (IsStateOf nfa) (λ v. heap_bytes v * 2 ≤ m) one states each) in
     let more : length states * (1104 + m) ≤ limit * (1104 + m) = mul-le-mul_right (1104 + m) within in
     omega (arith, sum, more)

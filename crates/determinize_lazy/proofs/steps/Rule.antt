@@ -1,10 +1,11 @@
 -- What the rule keeps, and what is true of a cache after it; and general laws.
--- Main statements: All-kept, lazy-kept, stepped, lazy-sound.
+-- Main statements: lazy-kept, stepped, lazy-sound.
 -- Used by: `compute`, `step`, `kept_start`; the general laws by searches and `determinize_find`, too.
 -- Idea: a step leaves the table that the rule keeps or, if it fails, the one before or none.
-use Rattle.determinize_lazy.proofs.Common.{[], AllResolve, arith, Bool, by_cases, by_test, Cache, cache, count_after, empty}
+use Rattle.determinize_lazy.proofs.Common.{[], arith, Bool, by_cases, by_test, Cache, cache, count_after, empty}
 use Rattle.determinize_lazy.proofs.Common.{Err, false, fits, Grows, inr, IsAccepted, is_cached, IsKept, IsLazy}
-use Rattle.determinize_lazy.proofs.Common.{IsSound, IsStepped, IsTable, keep, LazyValue, length, List, list_any}
+use Rattle.determinize_lazy.proofs.Common.{IsSound, IsStateOf, IsStepped, IsTable, keep, LazyValue, length, List}
+use Rattle.determinize_lazy.proofs.Common.{list_any}
 use Rattle.determinize_lazy.proofs.Common.{MatchKind, Nfa, Ok, OnErr, on_err_weaker, on_ok_weaker, Option, refl}
 use Rattle.determinize_lazy.proofs.Common.{Result, same, step_of, StoredTable, Table, table_of, Value, with_value, ℕ}
 use Rattle.determinize_lazy.proofs.Common.{shared_by, shares, classes_from, sym, true, ◌∙◌, ◌≡◌, ◌≤◌}
@@ -13,7 +14,7 @@ use Rattle.determinize_lazy.proofs.steps.Sharing.{shared_steps, shares-self}
 use Rattle.std.proofs.lemmas.List.Elements.{All-nil, All-push}
 use Rattle.std.specs.Prelude.{All as Each}
 use Rattle.determinize_core.specs.Step.{step}
-use Rattle.determinize_core.proofs.step.Resolving.{step_resolves}
+use Rattle.determinize_lazy.proofs.steps.FewStates.{known-step}
 use Rattle.determinize_table.specs.declared.table.Cursor.{Cursor}
 use Rattle.determinize_table.proofs.Transitions.{empty-is, with_transition-is}
 use Rattle.determinize_lazy.proofs.steps.Starts.{starts-stay}
@@ -24,7 +25,7 @@ All-with_value : (P : Value → Type 0) (values : List Value) (v : Value) → Ea
 All-with_value P values v each one =
     by_test (list_any (same v) values) (λ e. rw e each) (λ e. rw e (All-push P values v each one))
 
-pub All-kept : (P : Value → Type 0) (over : Option ℕ → Bool) (limit : ℕ) (t : Table) (v w : Value) → Each P t.states
+All-kept : (P : Value → Type 0) (over : Option ℕ → Bool) (limit : ℕ) (t : Table) (v w : Value) → Each P t.states
     → P v → P w → Each P (keep over limit t v w).states
 All-kept P over limit t v w each source next =
     let both = λ (values : List Value) (e : Each P values).
@@ -47,13 +48,12 @@ keep-is f over limit t v w u in_it is w_is = (
 pub lazy-kept : {A E : Type 0} {nfa : Nfa} {kind : MatchKind} {limit count counted : ℕ}
     {classes : Option Classes} {t t' : StoredTable} {w : Value} {r : Result (Cursor A) E} (v : Value) (u : Option ℕ)
     → IsLazy nfa kind limit count classes t → w ≡ step nfa kind v u
-    → AllResolve nfa v.states → counted ≤ 18446744073709551615
+    → IsStateOf nfa v → counted ≤ 18446744073709551615
     → IsKept t (keep (shares (classes_from nfa v classes) u) limit (table_of t) v w) w r t'
     → IsLazy nfa kind limit counted classes t'
 lazy-kept {A} {E} {nfa} {kind} {limit} {classes = classes} {t = t} {t' = t'} {w} {r} v u is w_is source small kept =
     let f : Value → Option ℕ → Value = step nfa kind in
-    let Resolves : Value → Type 0 = λ x. AllResolve nfa x.states in
-    let next : Resolves w = rw w_is (step_resolves nfa is.sound.accepted kind v u) in
+    let next : IsStateOf nfa w = rw w_is (known-step nfa is.sound.accepted kind v u source) in
     let over : Option ℕ → Bool = shares (classes_from nfa v classes) u in
     let (table, within) = keep-is f over limit (table_of t) v w u (shares-self _ u) is.sound.table
     (λ y in_it. w_is ∙ sym (shared_steps is.sound.accepted classes is.sound.classes kind v u y in_it)) in record {
@@ -64,8 +64,9 @@ lazy-kept {A} {E} {nfa} {kind} {limit} {classes = classes} {t = t} {t' = t'} {w}
         classes = is.sound.classes;
       };
       within = by r (λ (x : Table). length x.states ≤ limit) kept within is.within (omega arith);
-      resolve = by r (λ (x : Table). Each Resolves x.states) kept
-          (All-kept Resolves over limit (table_of t) v w is.resolve source next) is.resolve (All-nil Resolves);
+      known = by r (λ (x : Table). Each (IsStateOf nfa) x.states) kept
+          (All-kept (IsStateOf nfa) over limit (table_of t) v w is.known source next) is.known
+          (All-nil (IsStateOf nfa));
       starts = starts-stay nfa t t' is.starts kept.starts;
     }
   where
@@ -79,14 +80,15 @@ lazy-kept {A} {E} {nfa} {kind} {limit} {classes = classes} {t = t} {t' = t'} {w}
 
 -- what is left by a step that is not cached
 pub stepped : {A E : Type 0} (old : LazyValue) {t t' : StoredTable} {v : Value} (u : Option ℕ) {r : Result (Cursor A) E}
-    → IsAccepted old.nfa → old.computed ≤ 18446744073709551615 → is_cached (cache old).table v u ≡ false
+    → IsAccepted old.nfa → IsStateOf old.nfa v → old.computed ≤ 18446744073709551615
+    → is_cached (cache old).table v u ≡ false
     → table_of t ≡ (cache old).table
     → IsKept t (keep (shared_by (cache old) v u) old.limit (cache old).table v (step_of (cache old) v u))
     (step_of (cache old) v u) r t'
     → IsStepped old v u r (record old { states = t'.states; rows = t'.rows; computed = count_after old.computed 1 })
-stepped old {v = v} u {r} accepted small absent table_is kept = record {
+stepped old {v = v} u {r} accepted known small absent table_is kept = record {
   at = kept.at;
-  resolve = step_resolves old.nfa accepted old.kind v u;
+  known = known-step old.nfa accepted old.kind v u known;
   after = on_ok_weaker r (λ e. rw (absent, ← e) refl) kept.table;
   failed = on_err_weaker r (λ e. record { table = rw table_is at e; counted = inr (rw absent refl) }) kept.failed;
   grows = record { nfa = refl; kind = refl; limit = refl; classes = refl; computed = grind (arith, small) };

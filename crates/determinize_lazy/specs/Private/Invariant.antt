@@ -1,16 +1,13 @@
 -- What is true of every cache.
 use Rattle.std.specs.Prelude.{ℕ, ◌≤◌, All, length, Option}
 use Rattle.determinize_below.specs.ByteClasses.{Classes}
-use Rattle.determinize_below.specs.Edges.{pattern_count}
-use Rattle.determinize_below.specs.Nfa.{AllResolve}
 use Rattle.determinize_below.specs.Semantics.{Nfa}
 use Rattle.determinize_below.specs.declared.search.MatchKind.{MatchKind}
-use Rattle.determinize_core.specs.Value.{Value}
 use Rattle.determinize_table.specs.Rows.{StoredTable, table_of}
 use Rattle.determinize_lazy.specs.Private.Starts.{AreStarts}
-use Rattle.determinize_lazy.specs.Private.Steps.{IsSound}
+use Rattle.determinize_lazy.specs.Private.Steps.{IsSound, IsStateOf}
 
--- a sound cache of at most `limit` states, whose ids are states of the NFA, and its start states
+-- a sound cache of at most `limit` states, each of which is one of the NFA, and its start states
 pub record IsLazy (nfa : Nfa) (kind : MatchKind) (limit computed : ℕ) (classes : Option Classes)
     (stored : StoredTable) : Type 0 where
   pub sound : IsSound record {
@@ -22,16 +19,5 @@ pub record IsLazy (nfa : Nfa) (kind : MatchKind) (limit computed : ℕ) (classes
     classes = classes;
   }
   pub within : length stored.states ≤ limit
-  pub resolve : All (λ (v : Value). AllResolve nfa v.states) stored.states
+  pub known : All (IsStateOf nfa) stored.states
   pub starts : AreStarts nfa stored
-
--- a value lists no more patterns than the NFA has, and no more states
-abbrev pub IsSmall : Nfa → Value → Type 0
-IsSmall nfa v =
-    (length v.patterns ≤ pattern_count nfa) × (length v.states ≤ length nfa.states)
-
--- the same of a cache that goes with its NFA, whose values are all small
-pub record IsOwned (nfa : Nfa) (kind : MatchKind) (limit computed : ℕ) (classes : Option Classes)
-    (stored : StoredTable) : Type 0 where
-  pub lazy : IsLazy nfa kind limit computed classes stored
-  pub small : All (IsSmall nfa) stored.states

@@ -2,7 +2,6 @@
 use Rattle.std.specs.Prelude.{◌≡◌, ℕ, ◌+◌, ◌≤◌, ◌⊎◌, Bool, true, false, Option, Some, None, List, ◌∷◌, []}
 use Rattle.std.specs.Prelude.{cond, drop, length, map, slice_get, IfOk, Ok, OnErr, OnOk, Result}
 use Rattle.std.specs.Option.{option_or}
-use Rattle.determinize_below.specs.Nfa.{AllResolve}
 use Rattle.determinize_below.specs.Semantics.{Text}
 use Rattle.determinize_below.specs.declared.search.HalfMatch.{HalfMatch}
 use Rattle.determinize_core.specs.Chain.{future, units, value_after}
@@ -11,14 +10,15 @@ use Rattle.determinize_core.specs.Step.{start_value}
 use Rattle.determinize_core.specs.Value.{Value}
 use Rattle.determinize_lazy.specs.Cache.{Cache, Grows, IsCutOff, LazyValue, after_step, after_walk}
 use Rattle.determinize_lazy.specs.Cache.{cache, step_of}
+use Rattle.determinize_lazy.specs.Private.Steps.{IsStateOf}
 use Rattle.determinize_engine.specs.Scans.{Scanned}
 use Rattle.determinize_engine.specs.UnitsRead.{is_last, units_read}
 use Rattle.determinize_table.specs.Cursors.{IsCursor, cursor_value}
 use Rattle.determinize_table.specs.Tags.{match_of, match_reported, tag_of}
 use Rattle.determinize_lazy.specs.declared.search.Position.{Position}
-use Rattle.determinize_lazy.specs.declared.view.CachedPosition.{CachedPosition}
-use Rattle.determinize_lazy.specs.declared.view.Reached.{Reached}
-use Rattle.determinize_lazy.specs.declared.view.Reached.TheVariants.{End, Short}
+use Rattle.determinize_lazy.specs.declared.cached.CachedPosition.{CachedPosition}
+use Rattle.determinize_lazy.specs.declared.cached.Reached.{Reached}
+use Rattle.determinize_lazy.specs.declared.cached.Reached.TheVariants.{End, Short}
 use Rattle.determinize_table.specs.declared.table.Cursor.TheVariants.{Cached}
 
 -- the match that a value reports which is entered after n units
@@ -54,11 +54,11 @@ cached_place c at = place {A = Unit {0}} c (with_cursor at)
 abbrev pub first_place : Cache → Value → Place
 first_place c v = record { read = 0; value = v; last = None; cache = c }
 
--- a position has a cursor of the table, its value has states of the NFA, and before the first unit
--- there is no match
+-- a position has a cursor of the table, a step may be taken from its value, and before the first
+-- unit there is no match
 pub record IsPosition {A : Type 0} (c : LazyValue) (at : Position A) : Type 0 where
   pub cursor : IsCursor c.states at.cursor
-  pub resolve : AllResolve c.nfa (cursor_value c.states at.cursor).states
+  pub known : IsStateOf c.nfa (cursor_value c.states at.cursor)
   pub unmatched : at.read ≡ 0 → match_of at.last ≡ None
 
 -- the same of a position at a cached state
@@ -110,7 +110,15 @@ pub record IsOver {E : Type 0} (earliest : Bool) (us : List (Option ℕ)) (p : P
   pub failed : OnErr result (IsCutOffAt earliest p us new)
   pub grows : Grows p.cache new
 
--- the same of a search from an NFA state over a text
+-- the same, if it returns the position at which it ends
+pub record EndsAt {A E : Type 0} (earliest : Bool) (us : List (Option ℕ)) (p : Place)
+    (result : Result (Position A) E) (new : LazyValue) : Type 0 where
+  pub position : IfOk result (λ at. IsPosition new at)
+  pub place : IfOk result (λ at. place new at ≡ ends_at earliest p us)
+  pub failed : OnErr result (IsCutOffAt earliest p us (cache new))
+  pub grows : Grows p.cache (cache new)
+
+-- what such a search finds and leaves from an NFA state over a text
 abbrev pub IsOverText : {E : Type 0} → Bool → Cache → ℕ → Text → Result (Option HalfMatch) E
     → Cache → Type 0
 IsOverText earliest old start text result new = IsOver earliest (units text)

@@ -3,7 +3,9 @@ use Rattle.std.specs.Prelude.{◌≡◌, ℕ, ◌++◌, ◌<◌, ◌≤◌, ◌�
 use Rattle.std.specs.Prelude.{drop, length, slice_index_or}
 use Rattle.std.specs.Option.{IfSome}
 use Rattle.determinize_below.specs.ByteClasses.{AreClassesOf}
+use Rattle.determinize_below.specs.Edges.{pattern_count}
 use Rattle.determinize_below.specs.Nfa.{AllResolve, IsAccepted}
+use Rattle.determinize_below.specs.Semantics.{Nfa}
 use Rattle.determinize_core.specs.Chain.{future}
 use Rattle.determinize_core.specs.Value.{Value, dead}
 use Rattle.determinize_lazy.specs.Cache.{Cache, Grows, IsCutOff, LazyValue, after_step, after_walk}
@@ -11,6 +13,13 @@ use Rattle.determinize_lazy.specs.Cache.{cache, step_of}
 use Rattle.determinize_table.specs.Cursors.{IsAt}
 use Rattle.determinize_table.specs.declared.table.Cursor.{Cursor}
 use Rattle.determinize_table.specs.Table.{IsTable, empty}
+
+-- a value from which a step may be taken: its ids are states of the NFA, and it lists no more
+-- patterns and no more states than the NFA has
+pub record IsStateOf (nfa : Nfa) (v : Value) : Type 0 where
+  pub resolve : AllResolve nfa v.states
+  pub patterns : length v.patterns ≤ pattern_count nfa
+  pub states : length v.states ≤ length nfa.states
 
 -- what a step leaves if it fails: the table as it was, or nothing is cached; and the count as it
 -- was, or as it is after the step
@@ -30,7 +39,7 @@ pub record IsSound (c : Cache) : Type 0 where
 pub record IsStarted {A E : Type 0} (old : LazyValue) (v : Value) (result : Result (Cursor A) E)
     (new : LazyValue) : Type 0 where
   pub at : IfOk result (λ cursor. IsAt old.states cursor v)
-  pub resolve : OnOk result (AllResolve old.nfa v.states)
+  pub known : OnOk result (IsStateOf old.nfa v)
   pub sound : IsSound (cache old)
   pub unchanged : new ≡ old
 
@@ -38,7 +47,7 @@ pub record IsStarted {A E : Type 0} (old : LazyValue) (v : Value) (result : Resu
 pub record IsStepped {A E : Type 0} (old : LazyValue) (v : Value) (u : Option ℕ)
     (result : Result (Cursor A) E) (new : LazyValue) : Type 0 where
   pub at : IfOk result (λ next. IsAt new.states next (step_of (cache old) v u))
-  pub resolve : AllResolve old.nfa (step_of (cache old) v u).states
+  pub known : IsStateOf old.nfa (step_of (cache old) v u)
   pub after : OnOk result (cache new ≡ after_step (cache old) v u)
   pub failed : OnErr result (IsFailedStep (cache old) v u (cache new))
   pub grows : Grows (cache old) (cache new)
@@ -57,8 +66,8 @@ pub record IsFollowed (us : List (Option ℕ)) (c : LazyValue) (from start : ℕ
     (id read : ℕ) (done : List Value) : Type 0 where
   pub inside : id < length c.states
   pub further : start ≤ read
-  pub resolve : AllResolve c.nfa (slice_index_or c.states from dead).states
-      → AllResolve c.nfa (slice_index_or c.states id dead).states
+  pub known : IsStateOf c.nfa (slice_index_or c.states from dead)
+      → IsStateOf c.nfa (slice_index_or c.states id dead)
   pub walking : (old : Cache) (first : Value)
       → IsWalking old first us before (cache c) (slice_index_or c.states from dead) (drop start us)
       → IsWalking old first us done (cache c) (slice_index_or c.states id dead) (drop read us)

@@ -1,0 +1,156 @@
+//! Which patterns match: where a range of a haystack ends, and anywhere in it.
+
+ghost use Rattle.std.specs.Prelude.{◌≡◌, ◌<◌, [], Contains, false, true, length, IfOk, OnErr, OnOk};
+ghost use Rattle.determinize_below.specs.Search.{is_done};
+ghost use Rattle.determinize_below.specs.declared.search.MatchKind.TheVariants as kinds;
+ghost use Rattle.determinize_core.specs.Chain.{units};
+ghost use Rattle.determinize_core.specs.Step.{start_value};
+ghost use Rattle.determinize_engine.specs.Lists.{ListsAtEnd};
+ghost use Rattle.determinize_engine.specs.Searches.{has_start, start_for, text_of};
+ghost use Rattle.determinize_lazy.specs.Cache.{Grows, cache};
+ghost use Rattle.determinize_lazy.specs.CachedSearches.{IsCutOffIn, after_input};
+ghost use Rattle.determinize_lazy.specs.Marks.{AreMarked, AreSomeMarked, HasMatchOf};
+ghost use Rattle.determinize_lazy.specs.Private.Listed.{IsListed};
+ghost use Rattle.determinize_lazy.specs.Private.Searched.{EndsAt, IsPosition, first_place, place};
+ghost use Rattle.determinize_lazy.specs.Private.Steps.{IsSound};
+
+use crate::lazy::LazyDfa;
+use crate::search::{Position, start_for};
+use determinize_below::{AsNfa, Input, PatternID, StateID};
+use determinize_engine::text::Text;
+use std::alloc::{AllocError, Allocator};
+
+impl<R: AsNfa, A: Allocator + Copy> LazyDfa<R, A> {
+    /// Returns the patterns that match where the range of an input ends, most preferred first: the
+    /// list of the last state of the walk over what `search_input` reads.
+    ///
+    /// Each pattern of the list has a match that ends there. Under `MatchKind::All` the list has
+    /// all of these. Under `MatchKind::LeftmostFirst` it is the pattern of the most preferred
+    /// accepting run if this run ends there, and else empty. A reverse NFA reads the range from its
+    /// end, so its matches end at the start of the range.
+    ///
+    /// Reads and caches what `search_input` does. If the range starts past its end, nothing is read
+    /// and the list is empty. `Anchored::Pattern` is not accepted.
+    #[tactic(auto, unfolding(crate::specs::CachedSearches::after_input))]
+    pub fn patterns_after(&mut self, input: &Input<'_>) -> Result<Vec<PatternID, A>, AllocError>
+        requires { has_start input.now.anchored ≡ true }
+        ensures lists { is_done input.now ≡ false → IfOk result (λ ids. ListsAtEnd self.old.nfa
+            self.old.kind (start_for self.old.nfa input.now.anchored)
+            (text_of self.old.nfa.reverse input.now) ids.items) }
+        ensures done { is_done input.now ≡ true → IfOk result (λ ids. ids.items ≡ []) }
+        ensures after { OnOk result (cache self.new ≡ after_input (cache self.old) input.now) }
+        ensures failed { OnErr result
+            (IsCutOffIn false (cache self.old) input.now (cache self.new)) }
+        ensures grows { Grows (cache self.old) (cache self.new) }
+    {
+        if input.is_done() {
+            return Ok(Vec::new(self.alloc));
+        }
+        let nfa = self.nfa.nfa();
+        let start = start_for(nfa, input.get_anchored());
+        let text = Text::of_input(input, nfa.is_reverse());
+        let at = self.read_to_end(start, &text)?;
+        if at.read <= text.len() {
+            // At a dead state, which no match follows.
+            return Ok(Vec::new(self.alloc));
+        }
+        self.patterns_at(&at)
+    }
+
+    /// Returns the position at which a search of a text ends.
+    fn read_to_end(&mut self, start: StateID, text: &Text<'_>) -> Result<Position<A>, AllocError>
+        requires { start < length self.old.nfa.states }
+        ensures over { EndsAt false (units text.now)
+            (first_place (cache self.old) (start_value self.old.nfa start text.now.behind)) result
+            self.new }
+        ensures sound { IsSound (cache self.old) }
+    {
+        let cursor = self.start(start, text.behind())?;
+        self.search_to_end(Position::start(cursor), text, false)
+    }
+
+    /// Returns the patterns that the state at a position lists.
+    fn patterns_at(&self, at: &Position<A>) -> Result<Vec<PatternID, A>, AllocError>
+        requires { IsPosition self.now at.now }
+        ensures { IfOk result (λ ids. ids.items ≡ (place self.now at.now).value.patterns) }
+    {
+        match self.table.state(&at.cursor).match_pattern_ids()? {
+            Some(ids) => Ok(ids),
+            None => Ok(Vec::new(self.alloc)),
+        }
+    }
+
+    /// Marks the patterns with a match that ends anywhere in the range of an input: sets the flag
+    /// at the id of each. No flag is cleared, and a pattern past the last flag is left out.
+    ///
+    /// Under `MatchKind::All` these are all patterns that match in what `search_input` reads: from
+    /// its start, or from anywhere for an unanchored search. Under `MatchKind::LeftmostFirst` only
+    /// patterns that match are marked, but perhaps not all.
+    ///
+    /// If the range starts past its end, nothing is read and nothing marked. `Anchored::Pattern` is
+    /// not accepted. After an error some of the patterns that match may be marked.
+    pub fn which_patterns(
+        &mut self,
+        input: &Input<'_>,
+        found: &mut [bool],
+    ) -> Result<(), AllocError>
+        requires { has_start input.now.anchored ≡ true }
+        ensures marked { self.old.kind ≡ kinds.All → is_done input.now ≡ false → OnOk result
+            (AreMarked found.old (HasMatchOf self.old.nfa input.now) found.new) }
+        ensures some { is_done input.now ≡ false
+            → AreSomeMarked found.old (HasMatchOf self.old.nfa input.now) found.new }
+        ensures done { is_done input.now ≡ true → found.new ≡ found.old }
+        ensures grows { Grows (cache self.old) (cache self.new) }
+    {
+        if input.is_done() {
+            return Ok(());
+        }
+        let nfa = self.nfa.nfa();
+        let start = start_for(nfa, input.get_anchored());
+        let text = Text::of_input(input, nfa.is_reverse());
+        self.mark_text(start, &text, found)
+    }
+
+    /// Marks the patterns that the states of a walk over a text list.
+    fn mark_text(
+        &mut self,
+        start: StateID,
+        text: &Text<'_>,
+        found: &mut [bool],
+    ) -> Result<(), AllocError>
+        requires { start < length self.old.nfa.states }
+        ensures marked { OnOk result (AreMarked found.old (IsListed self.old.nfa self.old.kind
+            (start_value self.old.nfa start text.now.behind) (units text.now)) found.new) }
+        ensures some { AreSomeMarked found.old (IsListed self.old.nfa self.old.kind
+            (start_value self.old.nfa start text.now.behind) (units text.now)) found.new }
+        ensures sound { IsSound (cache self.old) }
+        ensures grows { Grows (cache self.old) (cache self.new) }
+    {
+        let mut at = Position::start(self.start(start, text.behind())?);
+        while at.read <= text.len() {
+            at = self.search_bytes(at, text, true)?;
+            self.mark(&at, found);
+            if self.tag_at(&at.cursor).is_last(false) {
+                return Ok(());
+            }
+            let unit = text.unit(at.read);
+            at = self.advance(at, unit)?;
+        }
+        self.mark(&at, found);
+        Ok(())
+    }
+
+    /// Marks the patterns that the state at a position lists.
+    fn mark(&self, at: &Position<A>, found: &mut [bool])
+        requires { IsPosition self.now at.now }
+        ensures { AreMarked found.old (Contains (place self.now at.now).value.patterns) found.new }
+    {
+        let state = self.table.state(&at.cursor);
+        for index in 0..state.match_len() {
+            let id = state.match_pattern(index).as_usize();
+            if id < found.len() {
+                found[id] = true;
+            }
+        }
+    }
+}
