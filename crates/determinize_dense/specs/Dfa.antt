@@ -1,10 +1,8 @@
 -- What a table means, and how many states it has.
-use Rattle.std.specs.Prelude.{◌≡◌, ◌<◌, ◌↔◌, ℕ, Bool, false, true, All, cond, Option, List}
+use Rattle.std.specs.Prelude.{◌≡◌, ◌<◌, ◌↔◌, ℕ, Bool, All, cond, Option, List}
 use Rattle.std.specs.Prelude.{length, Contains}
 use Rattle.determinize_below.specs.Semantics.{Nfa}
 use Rattle.determinize_below.specs.Truth.{IsUnit}
-use Rattle.determinize_below.specs.declared.search.Anchored.{Anchored}
-use Rattle.determinize_below.specs.declared.search.Anchored.TheVariants.{No}
 use Rattle.determinize_below.specs.declared.search.MatchKind.{MatchKind}
 use Rattle.determinize_core.specs.Chain.{value_after}
 use Rattle.determinize_engine.specs.States.{EachApart}
@@ -15,11 +13,6 @@ use Rattle.determinize_dense.specs.Table.{Table, patterns_at, row_after, start_r
 -- the state of the NFA from which an anchored or an unanchored search starts
 abbrev pub start_in : Nfa → Bool → ℕ
 start_in nfa anchored = cond anchored nfa.start_anchored nfa.start_unanchored
-
--- whether a search in this anchored mode starts from the anchored start
-abbrev pub is_anchored : Anchored → Bool
-is_anchored No = false
-is_anchored _ = true
 
 -- the value after a start that follows a byte or nothing, and units
 abbrev pub value_from : Nfa → MatchKind → Bool → Option ℕ → List (Option ℕ) → Value

@@ -26,8 +26,8 @@ use crate::error::DfaError;
 use crate::rows::Rows;
 use determinize_below::alphabet::ByteClasses;
 use determinize_below::nfa::State as NfaState;
-use determinize_below::{MatchKind, NFA, PatternID, StateID, Unit};
-use determinize_core::determinize::Stepper;
+use determinize_below::{AsNfa, MatchKind, NFA, PatternID, StateID, Unit};
+use determinize_core::determinize::Scratch;
 use determinize_core::determinize::changes::{changes, steps_alike};
 use determinize_core::start::{Start, StartSlot};
 use determinize_core::state::State;
@@ -40,21 +40,24 @@ const SHARING: usize = 8;
 
 /// A DFA that is being built.
 #[derive(Drop)]
-pub(crate) struct Builder<'n, N: Allocator, A: Allocator> {
-    stepper: Stepper<'n, N, A>,
+pub(crate) struct Builder<R: AsNfa, A: Allocator> {
+    nfa: R,
+    match_kind: MatchKind,
+    scratch: Scratch<A>,
     classes: ByteClasses,
     limit: usize,
     states: StateTable<A>,
     next: Vec<u32, A>,
 }
 
-impl<'n, N: Allocator, A: Allocator> Model for Builder<'n, N, A> {
+impl<R: AsNfa, A: Allocator> Model for Builder<R, A> {
     ghost Value = { Building };
 
-    ghost view = { λ b. building b.stepper b.classes b.limit b.states b.next.items };
+    ghost view = { λ b. building (R.nfa b.nfa) b.match_kind b.classes b.limit b.states
+        b.next.items };
 
     ghost invariant = { λ b. IsBuilding
-        (building b.stepper b.classes b.limit b.states b.next.items) };
+        (building (R.nfa b.nfa) b.match_kind b.classes b.limit b.states b.next.items) };
 }
 
 /// Returns whether an NFA state matches, or has a target over a unit.
@@ -63,11 +66,11 @@ fn gives<N: Allocator>(nfa: &NFA<N>, id: StateID, unit: Unit) -> bool
     ensures { result ≡ not (gives_nothing nfa.now (byte_of unit) id) }
 {
     match nfa.state(id) {
-        NfaState::ByteRange { trans } => trans.matches_unit(unit),
-        NfaState::Sparse(sparse) => sparse.matches_unit(unit).is_some(),
-        NfaState::Dense(dense) => dense.matches_unit(unit).is_some(),
         NfaState::Match { .. } => true,
-        _ => false,
+        state => match unit.as_u8() {
+            Some(byte) => state.target(byte).is_some(),
+            None => false,
+        },
     }
 }
 
@@ -106,20 +109,20 @@ struct Base<'i> {
     further: &'i [StateID],
 }
 
-impl<'n, N: Allocator, A: Allocator + Copy> Builder<'n, N, A> {
+impl<R: AsNfa, A: Allocator + Copy> Builder<R, A> {
     /// Returns a builder that has found the dead state only.
     pub(crate) fn new(
         alloc: A,
-        nfa: &'n NFA<N>,
+        nfa: R,
         match_kind: MatchKind,
         limit: usize,
-    ) -> Result<Builder<'n, N, A>, DfaError>
-        ensures nfa { IfOk result (λ builder. builder.nfa ≡ nfa.now) }
+    ) -> Result<Builder<R, A>, DfaError>
+        ensures nfa { IfOk result (λ builder. builder.nfa ≡ R.nfa nfa) }
         ensures kind { IfOk result (λ builder. builder.kind ≡ match_kind) }
         ensures limit { IfOk result (λ builder. builder.limit ≡ min limit MAX_STATES) }
         ensures next { IfOk result (λ builder. builder.next ≡ []) }
         ensures many { result ≡ Err TooManyStates
-            → HasMoreStates nfa.now match_kind (min limit MAX_STATES) }
+            → HasMoreStates (R.nfa nfa) match_kind (min limit MAX_STATES) }
         ensures zero { limit ≡ 0 → result ≡ Err TooManyStates }
     {
         let limit = limit.min(MAX_STATES);
@@ -128,10 +131,12 @@ impl<'n, N: Allocator, A: Allocator + Copy> Builder<'n, N, A> {
         }
         let mut states = StateTable::new(alloc);
         states.intern(State::dead(alloc)?)?;
-        let classes = nfa.byte_classes();
+        let classes = nfa.nfa().byte_classes();
         let next = Vec::with_capacity(alloc, classes.alphabet_len())?;
         Ok(Builder {
-            stepper: Stepper::new(alloc, nfa, match_kind),
+            nfa,
+            match_kind,
+            scratch: Scratch::new(alloc),
             classes,
             limit,
             states,
@@ -174,7 +179,7 @@ impl<'n, N: Allocator, A: Allocator + Copy> Builder<'n, N, A> {
         ensures many { result ≡ Err TooManyStates
             → HasMoreStates self.old.nfa self.old.kind self.old.limit }
     {
-        let nfa = self.stepper.nfa();
+        let nfa = self.nfa.nfa();
         let terminator = nfa.look_matcher().get_line_terminator();
         if !slot.kind.occurs(terminator) {
             return Ok(0);
@@ -184,7 +189,7 @@ impl<'n, N: Allocator, A: Allocator + Copy> Builder<'n, N, A> {
         } else {
             nfa.start_unanchored()
         };
-        let state = self.stepper.start_of(start, slot.kind)?;
+        let state = self.scratch.start_of(nfa, start, slot.kind)?;
         self.place(&state, 0)
     }
 
@@ -235,7 +240,7 @@ impl<'n, N: Allocator, A: Allocator + Copy> Builder<'n, N, A> {
         if self.classes.alphabet_len() < SHARING {
             return [true; 256];
         }
-        changes(self.stepper.nfa(), &self.states.as_slice()[row])
+        changes(self.nfa.nfa(), &self.states.as_slice()[row])
     }
 
     /// Returns the last entry, if it is that of the column before and surely that of this column.
@@ -253,7 +258,7 @@ impl<'n, N: Allocator, A: Allocator + Copy> Builder<'n, N, A> {
         }
         let state = &self.states.as_slice()[row];
         let (before, byte) = (bytes[column - 1], bytes[column]);
-        if !steps_alike(self.stepper.nfa(), state, changes, before, byte) {
+        if !steps_alike(self.nfa.nfa(), state, changes, before, byte) {
             return None;
         }
         Some(self.next[self.next.len() - 1])
@@ -320,7 +325,7 @@ impl<'n, N: Allocator, A: Allocator + Copy> Builder<'n, N, A> {
         ensures { IfSome result (λ next. IsNextRow self.now row column next) }
     {
         let Some(base) = base else { return None };
-        if !none_gives(self.stepper.nfa(), base.further, self.unit(column)) {
+        if !none_gives(self.nfa.nfa(), base.further, self.unit(column)) {
             return None;
         }
         Some(self.next[base.row * self.classes.alphabet_len() + column])
@@ -357,9 +362,11 @@ impl<'n, N: Allocator, A: Allocator + Copy> Builder<'n, N, A> {
         }
         let unit = self.unit(column);
         let state = &self.states.as_slice()[row];
-        let next = self.stepper.next_lent(state, unit)?;
+        let next = self
+            .scratch
+            .next_lent(self.nfa.nfa(), self.match_kind, state, unit)?;
         let entry = self.place(&next, self.entry_above())?;
-        self.stepper.take_back(next);
+        self.scratch.take_back(next);
         Ok(entry)
     }
 
@@ -419,11 +426,11 @@ impl<'n, N: Allocator, A: Allocator + Copy> Builder<'n, N, A> {
     }
 
     /// Returns the rows of all states that a search can reach.
-    pub(crate) fn rows(&mut self, alloc: A) -> Result<Rows<'n, N, A>, DfaError>
-        requires { self.old.next ≡ [] }
-        ensures built { IfOk result (λ rows. IsBuilt self.old rows) }
+    pub(crate) fn rows(mut self, alloc: A) -> Result<Rows<R, A>, DfaError>
+        requires { self.next ≡ [] }
+        ensures built { IfOk result (λ rows. IsBuilt self rows) }
         ensures many { result ≡ Err TooManyStates
-            → HasMoreStates self.old.nfa self.old.kind self.old.limit }
+            → HasMoreStates self.nfa self.kind self.limit }
     {
         let starts = self.starts()?;
         let usual = StartSlot {
@@ -431,13 +438,14 @@ impl<'n, N: Allocator, A: Allocator + Copy> Builder<'n, N, A> {
             kind: Start::Text,
         };
         self.fill(alloc, starts[usual.as_usize()] as usize)?;
+        let patterns = lists_of(alloc, self.states.as_slice())?;
         Ok(Rows {
-            nfa: self.stepper.nfa(),
-            match_kind: self.stepper.match_kind(),
-            classes: self.classes.clone()?,
-            next: self.next.clone()?,
+            nfa: self.nfa,
+            match_kind: self.match_kind,
+            classes: self.classes,
+            next: self.next,
             starts,
-            patterns: lists_of(alloc, self.states.as_slice())?,
+            patterns,
         })
     }
 }

@@ -13,7 +13,7 @@ ghost use Rattle.determinize_dense.specs.Private.Rows.{rows_at};
 
 use crate::dfa::Dfa;
 use determinize_below::alphabet::ByteClasses;
-use determinize_below::{MatchKind, PatternID};
+use determinize_below::{AsNfa, MatchKind, PatternID};
 use std::alloc::{AllocError, Allocator};
 
 /// The first four bytes: `DFA` in ASCII, and a byte 0.
@@ -110,24 +110,25 @@ fn push_lists<A: Allocator>(
     Ok(())
 }
 
-impl<'n, N: Allocator, A: Allocator + Copy> Dfa<'n, N, A> {
+impl<R: AsNfa, A: Allocator + Copy> Dfa<R, A> {
     /// Returns the numbers at the beginning: what the bytes are, what is known of the DFA besides
     /// its table, and how large the table is.
     fn head(&self) -> [u32; 7]
         ensures head { result ≡ head_of (stored_of self.now) }
         ensures terminator { self.now.nfa.terminator < 256 }
     {
+        let nfa = self.nfa.nfa();
         let match_kind = match self.match_kind {
             MatchKind::All => 0,
             MatchKind::LeftmostFirst => 1,
         };
-        let is_reverse = if self.nfa.is_reverse() { 1 } else { 0 };
+        let is_reverse = if nfa.is_reverse() { 1 } else { 0 };
         [
             MAGIC,
             VERSION,
             match_kind,
             is_reverse,
-            u32::from(self.nfa.look_matcher().get_line_terminator()),
+            u32::from(nfa.look_matcher().get_line_terminator()),
             self.classes.alphabet_len() as u32 - 1,
             self.patterns.len() as u32,
         ]

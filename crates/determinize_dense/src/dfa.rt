@@ -16,7 +16,7 @@ use crate::error::DfaError;
 use crate::rows::Rows;
 use crate::scans::TABLES;
 use determinize_below::alphabet::ByteClasses;
-use determinize_below::{MatchKind, NFA, PatternID};
+use determinize_below::{AsNfa, MatchKind, NFA, PatternID};
 use determinize_core::start::{StartSlot, start_kind_of};
 use determinize_engine::state_table::MAX_STATES;
 use std::alloc::{AllocError, Allocator, Global};
@@ -30,16 +30,16 @@ pub(crate) const SCALE: usize = 1 << 32;
 /// The bytes of a list of patterns itself, with an allocator of no size.
 const LIST: usize = size_of::<Vec<PatternID>>();
 
-/// A whole DFA of an NFA. As built, it has a row for each state that a search can reach, from every
-/// start and over any units; as minimized, one row for all states that match alike.
+/// A whole DFA of an NFA, which it owns or borrows. As built, it has a row for each state that a
+/// search can reach, from every start and over any units; as minimized, one row for all states that
+/// match alike.
 ///
 /// First is the row of the dead state, then come the rows that list patterns, then those that a
 /// search scans out of, and then the others. So after the first 64 bytes a search mostly compares
 /// once for each byte. The first four rows that are scanned out of have a table of 256 bytes each,
 /// by which a scan reads eight bytes at once: a kilobyte in each `Dfa`, however few rows it has.
-#[derive(Drop)]
-pub struct Dfa<'n, N: Allocator = Global, A: Allocator = Global> {
-    pub(crate) nfa: &'n NFA<N>,
+pub struct Dfa<R: AsNfa, A: Allocator = Global> {
+    pub(crate) nfa: R,
     pub(crate) match_kind: MatchKind,
     pub(crate) classes: ByteClasses,
     /// The entries of the rows: the offset of the next row, which is its number times the length of
@@ -63,20 +63,39 @@ pub struct Dfa<'n, N: Allocator = Global, A: Allocator = Global> {
     pub(crate) inverse: usize,
 }
 
-impl<'n, N: Allocator, A: Allocator> Model for Dfa<'n, N, A> {
+// Derived code is proved again in each crate that drops a DFA.
+impl<R: AsNfa, A: Allocator> Drop for Dfa<R, A> {
+    fn drop(self) {
+        let Dfa {
+            nfa: _,
+            match_kind: _,
+            classes: _,
+            next: _,
+            starts: _,
+            patterns: _,
+            last_match: _,
+            last_special: _,
+            first_scanned: _,
+            leaving: _,
+            inverse: _,
+        } = self;
+    }
+}
+
+impl<R: AsNfa, A: Allocator> Model for Dfa<R, A> {
     ghost Value = { DfaValue };
 
-    ghost view = { λ d. dfa_value d.nfa.now d.match_kind d.classes
+    ghost view = { λ d. dfa_value (R.nfa d.nfa) d.match_kind d.classes
         (rows_at (length d.classes.firsts + 1) d.next.items) d.starts
         (map (λ list. list.items) d.patterns.items) };
 
-    ghost invariant = { λ d. IsArranged (dfa_value d.nfa.now d.match_kind d.classes
+    ghost invariant = { λ d. IsArranged (dfa_value (R.nfa d.nfa) d.match_kind d.classes
         (rows_at (length d.classes.firsts + 1) d.next.items) d.starts
         (map (λ list. list.items) d.patterns.items))
         d.next.items d.last_match d.last_special d.first_scanned d.leaving d.inverse };
 }
 
-impl<'n, N: Allocator, A: Allocator + Copy> Dfa<'n, N, A> {
+impl<R: AsNfa, A: Allocator + Copy> Dfa<R, A> {
     /// Builds the DFA of an NFA, with all its start states: anchored and unanchored, after each
     /// kind of byte.
     ///
@@ -88,25 +107,25 @@ impl<'n, N: Allocator, A: Allocator + Copy> Dfa<'n, N, A> {
     /// NFA, above all under `MatchKind::All`.
     pub fn build(
         alloc: A,
-        nfa: &'n NFA<N>,
+        nfa: R,
         match_kind: MatchKind,
         limit: usize,
-    ) -> Result<Dfa<'n, N, A>, DfaError>
-        ensures nfa { IfOk result (λ dfa. dfa.nfa ≡ nfa.now) }
+    ) -> Result<Dfa<R, A>, DfaError>
+        ensures nfa { IfOk result (λ dfa. dfa.nfa ≡ R.nfa nfa) }
         ensures kind { IfOk result (λ dfa. dfa.kind ≡ match_kind) }
         ensures means { IfOk result (λ dfa. IsDfaOf dfa.nfa dfa.kind dfa.table) }
         ensures states { IfOk result
-            (λ dfa. HasStates nfa.now match_kind (length dfa.table.patterns)) }
+            (λ dfa. HasStates (R.nfa nfa) match_kind (length dfa.table.patterns)) }
         ensures few { IfOk result (λ dfa. length dfa.table.patterns ≤ min limit MAX_STATES) }
         ensures many { result ≡ Err TooManyStates
-            → HasMoreStates nfa.now match_kind (min limit MAX_STATES) }
-        ensures more { HasMoreStates nfa.now match_kind (min limit MAX_STATES) → IsErr result }
+            → HasMoreStates (R.nfa nfa) match_kind (min limit MAX_STATES) }
+        ensures more { HasMoreStates (R.nfa nfa) match_kind (min limit MAX_STATES)
+            → IsErr result }
         ensures zero { limit ≡ 0 → result ≡ Err TooManyStates }
     {
-        let mut builder = Builder::new(alloc, nfa, match_kind, limit)?;
+        let builder = Builder::new(alloc, nfa, match_kind, limit)?;
+        // This drops the states found: they are not kept while the rows are copied in order.
         let rows = builder.rows(alloc)?;
-        // The states found are not kept while the rows are copied in order.
-        drop(builder);
         Ok(rows.arranged(alloc)?)
     }
 
@@ -118,49 +137,65 @@ impl<'n, N: Allocator, A: Allocator + Copy> Dfa<'n, N, A> {
     /// passes over the table suffice mostly. For a long chain of states that all list patterns, as
     /// that of `a{0,10000}`, or of states with a loop over most bytes and others in turn, as in
     /// `(?:a[^b]*b){5000}`, the time is quadratic in their number, and it is never more. The lists
-    /// of patterns are allocated by the allocator of this DFA, all else by `alloc`.
-    pub fn minimize(&self, alloc: A) -> Result<Dfa<'n, N, A>, AllocError>
-        ensures nfa { IfOk result (λ dfa. dfa.nfa ≡ self.now.nfa) }
-        ensures kind { IfOk result (λ dfa. dfa.kind ≡ self.now.kind) }
+    /// of patterns are allocated by the allocator of this DFA, all else by `alloc`. If an
+    /// allocation fails, this DFA is lost.
+    pub fn into_minimized(self, alloc: A) -> Result<Dfa<R, A>, AllocError>
+        ensures nfa { IfOk result (λ dfa. dfa.nfa ≡ self.nfa) }
+        ensures kind { IfOk result (λ dfa. dfa.kind ≡ self.kind) }
         ensures means { IfOk result (λ dfa. IsDfaOf dfa.nfa dfa.kind dfa.table) }
         ensures least { IfOk result (λ dfa. IsLeast dfa.nfa dfa.table) }
         ensures fewer { IfOk result
-            (λ dfa. length dfa.table.patterns ≤ length self.now.table.patterns) }
+            (λ dfa. length dfa.table.patterns ≤ length self.table.patterns) }
     {
-        let rows = self.to_rows(alloc)?;
-        let parts = rows.partition(alloc)?;
-        let fewest = rows.merged(alloc, &parts)?;
-        // These are not kept while the fewest rows are copied in order.
-        drop(rows);
-        drop(parts);
-        fewest.arranged(alloc)
+        self.into_rows(alloc)?.minimized(alloc)
     }
 
-    /// Returns a copy of the rows, whose entries are numbers of rows in place of offsets.
-    fn to_rows(&self, alloc: A) -> Result<Rows<'n, N, A>, AllocError>
-        ensures { IfOk result (λ rows. rows ≡ self.now) }
+    /// Returns the entries of the rows, as numbers of rows.
+    fn entries(&self, alloc: A) -> Result<Vec<u32, A>, AllocError>
+        ensures { IfOk result (λ entries. entries.items ≡ self.now.table.next) }
     {
         let columns = self.classes.alphabet_len();
-        let mut next = Vec::with_capacity(alloc, self.next.len())?;
+        let mut entries = Vec::with_capacity(alloc, self.next.len())?;
         for offset in &self.next {
-            next.push((*offset as usize / columns) as u32)?;
+            entries.push((*offset as usize / columns) as u32)?;
         }
+        Ok(entries)
+    }
+
+    /// Returns the rows, with numbers of rows in place of offsets.
+    fn into_rows(self, alloc: A) -> Result<Rows<R, A>, AllocError>
+        ensures { IfOk result (λ rows. rows ≡ self) }
+    {
+        let entries = self.entries(alloc)?;
+        let Dfa {
+            nfa,
+            match_kind,
+            classes,
+            next: _,
+            starts,
+            patterns,
+            last_match: _,
+            last_special: _,
+            first_scanned: _,
+            leaving: _,
+            inverse: _,
+        } = self;
         Ok(Rows {
-            nfa: self.nfa,
-            match_kind: self.match_kind,
-            classes: self.classes.clone()?,
-            next,
-            starts: self.starts,
-            patterns: self.patterns.clone()?,
+            nfa,
+            match_kind,
+            classes,
+            next: entries,
+            starts,
+            patterns,
         })
     }
 
     /// Returns the NFA.
-    pub fn nfa(&self) -> &'n NFA<N>
+    pub fn nfa(&self) -> &NFA<R::N>
         ensures value { result.now ≡ self.now.nfa }
         ensures accepted { IsAccepted self.now.nfa }
     {
-        self.nfa
+        self.nfa.nfa()
     }
 
     /// Returns the match kind.
@@ -212,7 +247,7 @@ impl<'n, N: Allocator, A: Allocator + Copy> Dfa<'n, N, A> {
         ensures unit { IsUnit look_behind }
         ensures sound { IsDfa self.now }
     {
-        let terminator = self.nfa.look_matcher().get_line_terminator();
+        let terminator = self.nfa.nfa().look_matcher().get_line_terminator();
         let kind = start_kind_of(terminator, look_behind);
         let slot = StartSlot { is_anchored, kind };
         self.starts[slot.as_usize()] as usize * self.classes.alphabet_len()
@@ -255,7 +290,43 @@ impl<'n, N: Allocator, A: Allocator + Copy> Dfa<'n, N, A> {
     }
 }
 
-impl<'n, N: Allocator, A: Allocator + Copy> fmt::Debug for Dfa<'n, N, A> {
+impl<'n, N: Allocator, A: Allocator + Copy> Dfa<&'n NFA<N>, A> {
+    /// Returns the NFA, for as long as it is lent.
+    pub fn lent_nfa(&self) -> &'n NFA<N>
+        ensures value { result.now ≡ self.now.nfa }
+        ensures accepted { IsAccepted self.now.nfa }
+    {
+        self.nfa
+    }
+
+    /// Returns the DFA with the fewest states, as `into_minimized` does, and keeps this one.
+    pub fn minimize(&self, alloc: A) -> Result<Dfa<&'n NFA<N>, A>, AllocError>
+        ensures nfa { IfOk result (λ dfa. dfa.nfa ≡ self.now.nfa) }
+        ensures kind { IfOk result (λ dfa. dfa.kind ≡ self.now.kind) }
+        ensures means { IfOk result (λ dfa. IsDfaOf dfa.nfa dfa.kind dfa.table) }
+        ensures least { IfOk result (λ dfa. IsLeast dfa.nfa dfa.table) }
+        ensures fewer { IfOk result
+            (λ dfa. length dfa.table.patterns ≤ length self.now.table.patterns) }
+    {
+        self.to_rows(alloc)?.minimized(alloc)
+    }
+
+    /// Returns a copy of the rows, with numbers of rows in place of offsets.
+    fn to_rows(&self, alloc: A) -> Result<Rows<&'n NFA<N>, A>, AllocError>
+        ensures { IfOk result (λ rows. rows ≡ self.now) }
+    {
+        Ok(Rows {
+            nfa: self.nfa,
+            match_kind: self.match_kind,
+            classes: self.classes.clone()?,
+            next: self.entries(alloc)?,
+            starts: self.starts,
+            patterns: self.patterns.clone()?,
+        })
+    }
+}
+
+impl<R: AsNfa, A: Allocator + Copy> fmt::Debug for Dfa<R, A> {
     fn fmt<W: fmt::Write>(&self, f: &mut fmt::Formatter<W>) -> fmt::Result {
         f.debug_struct("Dfa")
             .field("match_kind", &self.match_kind())

@@ -7,11 +7,12 @@
 //! each block becomes one row.
 
 ghost use Rattle.std.specs.Prelude.{◌≡◌, ◌↔◌, ℕ, ◌<◌, ◌≤◌, ◌+◌, IfOk, IsTrue, false, length, slice_index, sum_by};
-ghost use Rattle.determinize_dense.specs.Private.Minimizing.{AreDistances, AreFirstAlike, AreMergedRows, AreDistancesSoFar, entry, IsGrouping, IsMerged, IsPartition, IsDistanceSoFar, IsSettled, IsShort, IsSplitBy, IsStable};
+ghost use Rattle.determinize_dense.specs.Private.Minimizing.{AreDistances, AreFirstAlike, AreMergedRows, AreDistancesSoFar, entry, IsGrouping, IsMerged, IsMinimized, IsPartition, IsDistanceSoFar, IsSettled, IsShort, IsSplitBy, IsStable};
 
+use crate::dfa::Dfa;
 use crate::partition::Partition;
 use crate::rows::Rows;
-use determinize_below::PatternID;
+use determinize_below::{AsNfa, PatternID};
 use determinize_core::start::StartSlot;
 use std::alloc::{AllocError, Allocator};
 use std::collections::HashMap;
@@ -20,7 +21,7 @@ use std::hash::{BuildHasherDefault, FoldHasher};
 /// The first row that has each list of patterns.
 type Firsts<'l, A> = HashMap<&'l [PatternID], usize, BuildHasherDefault<FoldHasher>, A>;
 
-impl<'n, N: Allocator, A: Allocator + Copy> Rows<'n, N, A> {
+impl<R: AsNfa, A: Allocator + Copy> Rows<R, A> {
     /// Returns for each row the first row that lists the same patterns.
     fn first_rows(&self, alloc: A) -> Result<Vec<usize, A>, AllocError>
         ensures { IfOk result (λ values. AreFirstAlike self.now.table values.items) }
@@ -168,14 +169,21 @@ impl<'n, N: Allocator, A: Allocator + Copy> Rows<'n, N, A> {
         }
     }
 
+    /// Returns the DFA with the fewest rows that list the same patterns along all units.
+    pub(crate) fn minimized(self, alloc: A) -> Result<Dfa<R, A>, AllocError>
+        ensures { IfOk result (λ dfa. IsMinimized self dfa) }
+    {
+        let parts = self.partition(alloc)?;
+        let fewest = self.merged(alloc, &parts)?;
+        // The blocks are not kept while the fewest rows are copied in order.
+        drop(parts);
+        fewest.arranged(alloc)
+    }
+
     /// Returns a row for each block: its entries and starts are blocks.
-    pub(crate) fn merged(
-        &self,
-        alloc: A,
-        parts: &Partition<A>,
-    ) -> Result<Rows<'n, N, A>, AllocError>
-        requires { IsGrouping self.now.table parts.now }
-        ensures { IfOk result (λ rows. IsMerged self.now parts.now rows) }
+    pub(crate) fn merged(self, alloc: A, parts: &Partition<A>) -> Result<Rows<R, A>, AllocError>
+        requires { IsGrouping self.table parts.now }
+        ensures { IfOk result (λ rows. IsMerged self parts.now rows) }
     {
         let mut starts = self.starts;
         for number in 0..StartSlot::COUNT {
@@ -185,11 +193,12 @@ impl<'n, N: Allocator, A: Allocator + Copy> Rows<'n, N, A> {
         for row in parts.members() {
             patterns.push(self.patterns[*row].clone()?)?;
         }
+        let next = self.merged_rows(alloc, parts)?;
         Ok(Rows {
             nfa: self.nfa,
             match_kind: self.match_kind,
-            classes: self.classes.clone()?,
-            next: self.merged_rows(alloc, parts)?,
+            classes: self.classes,
+            next,
             starts,
             patterns,
         })

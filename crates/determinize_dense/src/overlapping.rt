@@ -9,7 +9,7 @@ ghost use Rattle.determinize_dense.specs.Reading.{ListsAlong, lists_along};
 
 use crate::dfa::Dfa;
 use crate::reading::RowId;
-use determinize_below::{Anchored, PatternID};
+use determinize_below::{Anchored, AsNfa, PatternID};
 use determinize_core::start::Config;
 use determinize_engine::text::Text;
 use std::alloc::{Allocator, Global};
@@ -17,21 +17,21 @@ use std::marker::Model;
 
 /// An iterator over the lists of the patterns that match at each position of a text.
 #[derive(Drop)]
-pub struct Overlapping<'d, 'n, 'h, N: Allocator = Global, A: Allocator = Global> {
-    dfa: &'d Dfa<'n, N, A>,
+pub struct Overlapping<'d, 'h, R: AsNfa, A: Allocator = Global> {
+    dfa: &'d Dfa<R, A>,
     text: Text<'h>,
     row: RowId,
     /// The number of units that are read.
     read: usize,
 }
 
-impl<'d, 'n, 'h, N: Allocator, A: Allocator> Model for Overlapping<'d, 'n, 'h, N, A> {
+impl<'d, 'h, R: AsNfa, A: Allocator> Model for Overlapping<'d, 'h, R, A> {
     ghost Value = { List (List ℕ) };
 
     ghost view = { λ o. lists_along o.dfa.now.table o.row (drop o.read (units o.text)) };
 }
 
-impl<'d, 'n, 'h, N: Allocator, A: Allocator + Copy> Iterator for Overlapping<'d, 'n, 'h, N, A> {
+impl<'d, 'h, R: AsNfa, A: Allocator + Copy> Iterator for Overlapping<'d, 'h, R, A> {
     type Item = &'d [PatternID];
 
     ghost next_gives = { YieldsFirstRef (λ s. s) };
@@ -57,7 +57,7 @@ impl<'d, 'n, 'h, N: Allocator, A: Allocator + Copy> Iterator for Overlapping<'d,
     }
 }
 
-impl<'n, N: Allocator, A: Allocator + Copy> Dfa<'n, N, A> {
+impl<R: AsNfa, A: Allocator + Copy> Dfa<R, A> {
     /// Returns an iterator over the patterns that match at each position of a text: first those
     /// with a match that ends at its start, and last those with a match that ends at its end. Each
     /// list is most preferred first.
@@ -73,7 +73,7 @@ impl<'n, N: Allocator, A: Allocator + Copy> Dfa<'n, N, A> {
         look_behind: Option<u8>,
         text: &'h [u8],
         look_ahead: Option<u8>,
-    ) -> Overlapping<'d, 'n, 'h, N, A>
+    ) -> Overlapping<'d, 'h, R, A>
         requires { has_start anchored ≡ true }
         ensures { ListsAlong self.now.nfa self.now.kind (start_for self.now.nfa anchored)
             (between look_behind text.now look_ahead) result }

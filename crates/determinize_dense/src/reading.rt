@@ -7,16 +7,16 @@ ghost use Rattle.std.specs.Prelude.{◌≡◌, ◌-◌, ℕ, List, None, Some, d
 ghost use Rattle.std.specs.List.{range_with_len};
 ghost use Rattle.std.specs.Iterator.{YieldsFirst, item_count};
 ghost use Rattle.determinize_below.specs.Nfa.{IsAccepted};
+ghost use Rattle.determinize_below.specs.Search.{is_anchored};
 ghost use Rattle.determinize_engine.specs.Searches.{has_start};
 ghost use Rattle.determinize_state.specs.Value.{is_nonempty};
 ghost use Rattle.determinize_start.specs.StartKinds.{byte_before};
-ghost use Rattle.determinize_dense.specs.Dfa.{IsDfaOf, is_anchored};
+ghost use Rattle.determinize_dense.specs.Dfa.{IsDfaOf};
 ghost use Rattle.determinize_dense.specs.Reading.{IsDead};
 ghost use Rattle.determinize_dense.specs.Table.{patterns_at, row_over, start_row};
 
 use crate::dfa::Dfa;
-use crate::search::is_anchored;
-use determinize_below::{Input, PatternID};
+use determinize_below::{AsNfa, Input, PatternID};
 use determinize_core::start::Config;
 use std::alloc::{AllocError, Allocator};
 use std::fmt;
@@ -120,7 +120,7 @@ impl Iterator for RowIds {
     }
 }
 
-impl<'n, N: Allocator, A: Allocator + Copy> Dfa<'n, N, A> {
+impl<R: AsNfa, A: Allocator + Copy> Dfa<R, A> {
     /// Returns the row of the start state of a configuration: its anchored mode, and the byte
     /// before the start. `Anchored::Pattern` has no start state and is not accepted.
     pub fn start_state(&self, config: &Config) -> RowId
@@ -131,7 +131,7 @@ impl<'n, N: Allocator, A: Allocator + Copy> Dfa<'n, N, A> {
         ensures dead { IsDead self.now.table 0 }
         ensures accepted { IsAccepted self.now.nfa }
     {
-        let is_anchored = is_anchored(config.get_anchored());
+        let is_anchored = config.get_anchored().is_anchored();
         let offset = self.start_row(is_anchored, config.get_look_behind());
         RowId(self.row_number(offset))
     }

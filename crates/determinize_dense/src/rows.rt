@@ -12,7 +12,7 @@ ghost use Rattle.determinize_dense.specs.Table.{DfaValue, patterns_at};
 use crate::dfa::{Dfa, SCALE};
 use crate::partition::Partition;
 use determinize_below::alphabet::ByteClasses;
-use determinize_below::{MatchKind, NFA, PatternID};
+use determinize_below::{AsNfa, MatchKind, PatternID};
 use determinize_core::start::StartSlot;
 use determinize_engine::state_table::MAX_STATES;
 use std::alloc::{AllocError, Allocator, Global};
@@ -26,8 +26,8 @@ const STAYING: usize = 64;
 /// A row has an entry for each class of bytes and, last, one for the end of input (EOI): the number
 /// of the next row.
 #[derive(Drop)]
-pub(crate) struct Rows<'n, N: Allocator = Global, A: Allocator = Global> {
-    pub(crate) nfa: &'n NFA<N>,
+pub(crate) struct Rows<R: AsNfa, A: Allocator = Global> {
+    pub(crate) nfa: R,
     pub(crate) match_kind: MatchKind,
     pub(crate) classes: ByteClasses,
     pub(crate) next: Vec<u32, A>,
@@ -35,14 +35,14 @@ pub(crate) struct Rows<'n, N: Allocator = Global, A: Allocator = Global> {
     pub(crate) patterns: Vec<Vec<PatternID, A>, A>,
 }
 
-impl<'n, N: Allocator, A: Allocator> Model for Rows<'n, N, A> {
+impl<R: AsNfa, A: Allocator> Model for Rows<R, A> {
     ghost Value = { DfaValue };
 
-    ghost view = { λ d. dfa_value d.nfa.now d.match_kind d.classes d.next.items d.starts
+    ghost view = { λ d. dfa_value (R.nfa d.nfa) d.match_kind d.classes d.next.items d.starts
         (map (λ list. list.items) d.patterns.items) };
 
-    ghost invariant = { λ d. IsDfa (dfa_value d.nfa.now d.match_kind d.classes d.next.items d.starts
-        (map (λ list. list.items) d.patterns.items)) };
+    ghost invariant = { λ d. IsDfa (dfa_value (R.nfa d.nfa) d.match_kind d.classes d.next.items
+        d.starts (map (λ list. list.items) d.patterns.items)) };
 }
 
 /// Returns the offsets of the rows with these numbers.
@@ -64,7 +64,7 @@ fn offsets_of<A: Allocator + Copy>(
     Ok(offsets)
 }
 
-impl<'n, N: Allocator, A: Allocator + Copy> Rows<'n, N, A> {
+impl<R: AsNfa, A: Allocator + Copy> Rows<R, A> {
     /// Returns the number of rows.
     pub(crate) fn len(&self) -> usize
         ensures value { result ≡ length self.now.table.patterns }
@@ -130,8 +130,8 @@ impl<'n, N: Allocator, A: Allocator + Copy> Rows<'n, N, A> {
     }
 
     /// Returns the DFA with these rows, in order.
-    pub(crate) fn arranged(&self, alloc: A) -> Result<Dfa<'n, N, A>, AllocError>
-        ensures { IfOk result (λ dfa. IsInOrder self.now dfa) }
+    pub(crate) fn arranged(self, alloc: A) -> Result<Dfa<R, A>, AllocError>
+        ensures { IfOk result (λ dfa. IsInOrder self dfa) }
     {
         let ranks = self.ranks(alloc)?;
         let ranks = ranks.as_slice();

@@ -12,6 +12,7 @@ ghost use Rattle.determinize_dense.specs.Private.Searching.{IsScan};
 
 use crate::dfa::Dfa;
 use crate::rows::Rows;
+use determinize_below::AsNfa;
 use determinize_engine::state_table::MAX_STATES;
 use determinize_engine::text::Text;
 use std::alloc::Allocator;
@@ -90,7 +91,7 @@ fn are_zeros(table: &[u8; 256], text: &Text<'_>, from: usize) -> bool
     any == 0
 }
 
-impl<'n, N: Allocator, A: Allocator + Copy> Rows<'n, N, A> {
+impl<R: AsNfa, A: Allocator + Copy> Rows<R, A> {
     /// Returns the table of a row: for each byte 0 if it does not leave the row, and else 1.
     fn leaving(&self, row: usize) -> [u8; 256]
         requires { row < length self.now.table.patterns }
@@ -122,7 +123,7 @@ impl<'n, N: Allocator, A: Allocator + Copy> Rows<'n, N, A> {
     }
 }
 
-impl<'n, N: Allocator, A: Allocator + Copy> Dfa<'n, N, A> {
+impl<R: AsNfa, A: Allocator + Copy> Dfa<R, A> {
     /// Returns the table of a row, if it has one: 0 only for bytes that do not leave the row.
     ///
     /// - `row` is the offset of the row.

@@ -8,11 +8,11 @@ ghost use Rattle.std.specs.Prelude.{[], Bool, Decides, IsTrue, ◌≡◌, ◌+�
 ghost use Rattle.std.specs.Option.{IfSome};
 ghost use Rattle.determinize_below.specs.Semantics as semantics;
 ghost use Rattle.determinize_below.specs.Semantics.{between};
+ghost use Rattle.determinize_below.specs.Search as search_specs;
 ghost use Rattle.determinize_below.specs.Search.{is_done};
 ghost use Rattle.determinize_engine.specs.Searches.{HasMatch, IsSearch, IsSearchResult, has_start, start_for, text_of};
 ghost use Rattle.determinize_state.specs.Value.{is_nonempty};
-ghost use Rattle.determinize_dense.specs.Dfa as dfas;
-ghost use Rattle.determinize_dense.specs.Meaning.{ListsAtEnd};
+ghost use Rattle.determinize_engine.specs.Lists.{ListsAtEnd};
 ghost use Rattle.determinize_dense.specs.Private.Order.{ListsNoneAbove};
 ghost use Rattle.determinize_dense.specs.Private.Rows.{IsOffset, IsRowAt};
 ghost use Rattle.determinize_dense.specs.Table.{patterns_at};
@@ -20,7 +20,7 @@ ghost use Rattle.determinize_dense.specs.Private.Searching.{FindsFrom, HasCome, 
 
 use crate::dfa::{Dfa, SCALE};
 use crate::scans::{BLOCK, BLOCKS, FIRST, Pauses};
-use determinize_below::{Anchored, HalfMatch, Input, PatternID};
+use determinize_below::{Anchored, AsNfa, HalfMatch, Input, PatternID};
 use determinize_engine::engine::Engine;
 use determinize_engine::text::{Text, in_haystack};
 use std::alloc::Allocator;
@@ -53,19 +53,7 @@ impl Reached {
     }
 }
 
-/// Returns whether a search in this anchored mode starts at the anchored start.
-pub(crate) fn is_anchored(anchored: Anchored) -> bool
-    requires { has_start anchored ≡ true }
-    ensures { result ≡ dfas.is_anchored anchored }
-{
-    match anchored {
-        Anchored::No => false,
-        Anchored::Yes => true,
-        Anchored::Pattern(_) => unreachable!(),
-    }
-}
-
-impl<'n, N: Allocator, A: Allocator + Copy> Dfa<'n, N, A> {
+impl<R: AsNfa, A: Allocator + Copy> Dfa<R, A> {
     /// Returns the patterns that match where a text ends, most preferred first: the list of the
     /// last state of the walk that `walk_between` of `determinize_core` makes over the same text.
     ///
@@ -85,7 +73,7 @@ impl<'n, N: Allocator, A: Allocator + Copy> Dfa<'n, N, A> {
         ensures { ListsAtEnd self.now.nfa self.now.kind (start_for self.now.nfa anchored)
             (between look_behind text.now look_ahead) result.now }
     {
-        let mut row = self.start_row(is_anchored(anchored), look_behind);
+        let mut row = self.start_row(anchored.is_anchored(), look_behind);
         for byte in text {
             row = self.row_over(row, Some(*byte));
         }
@@ -362,11 +350,11 @@ impl<'n, N: Allocator, A: Allocator + Copy> Dfa<'n, N, A> {
     fn search_range(&self, input: &Input<'_>, is_earliest: bool) -> Option<HalfMatch>
         requires start { has_start input.now.anchored ≡ true }
         requires more { is_done input.now ≡ false }
-        ensures { IsFound self.now is_earliest (dfas.is_anchored input.now.anchored)
+        ensures { IsFound self.now is_earliest (search_specs.is_anchored input.now.anchored)
             (text_of self.now.nfa.reverse input.now) result }
     {
-        let text = Text::of_input(input, self.nfa.is_reverse());
-        self.search_text(is_anchored(input.get_anchored()), &text, is_earliest)
+        let text = Text::of_input(input, self.nfa.nfa().is_reverse());
+        self.search_text(input.get_anchored().is_anchored(), &text, is_earliest)
     }
 
     /// Returns the last match of the walk that `walk_between` of `determinize_core` makes over the
@@ -395,7 +383,7 @@ impl<'n, N: Allocator, A: Allocator + Copy> Dfa<'n, N, A> {
             (between look_behind text.now look_ahead) result }
     {
         let text = Text::new(look_behind, text, look_ahead);
-        self.search_text(is_anchored(anchored), &text, false)
+        self.search_text(anchored.is_anchored(), &text, false)
     }
 
     /// Returns the last match of a search of an input, or `None` if no run accepts. Which match it
@@ -417,7 +405,7 @@ impl<'n, N: Allocator, A: Allocator + Copy> Dfa<'n, N, A> {
             return None;
         }
         let found = self.search_range(input, false);
-        in_haystack(input, self.nfa.is_reverse(), found)
+        in_haystack(input, self.nfa.nfa().is_reverse(), found)
     }
 
     /// Returns whether an input has a match, under both match kinds: whether some run over what
@@ -438,7 +426,7 @@ impl<'n, N: Allocator, A: Allocator + Copy> Dfa<'n, N, A> {
     }
 }
 
-impl<'d, 'n, N: Allocator, A: Allocator + Copy> Engine for &'d Dfa<'n, N, A> {
+impl<'d, R: AsNfa, A: Allocator + Copy> Engine for &'d Dfa<R, A> {
     type Error = Infallible;
 
     ghost engine = { λ d. record {
@@ -453,5 +441,23 @@ impl<'d, 'n, N: Allocator, A: Allocator + Copy> Engine for &'d Dfa<'n, N, A> {
 
     fn is_match(&mut self, input: &Input<'_>) -> Result<bool, Infallible> {
         Ok((**self).is_match(input))
+    }
+}
+
+impl<R: AsNfa, A: Allocator + Copy> Engine for Dfa<R, A> {
+    type Error = Infallible;
+
+    ghost engine = { λ d. record {
+      nfa = d.nfa;
+      kind = d.kind;
+      limit = length d.table.patterns;
+    } };
+
+    fn search_input(&mut self, input: &Input<'_>) -> Result<Option<HalfMatch>, Infallible> {
+        Ok((*self).search_input(input))
+    }
+
+    fn is_match(&mut self, input: &Input<'_>) -> Result<bool, Infallible> {
+        Ok((*self).is_match(input))
     }
 }

@@ -2,16 +2,17 @@
 
 ghost use Rattle.std.specs.Prelude.{◌≡◌, ◌+◌, ◌*◌, ◌/◌, nat_eq, true};
 ghost use Rattle.determinize_below.specs.Nfa.{IsAccepted};
+ghost use Rattle.determinize_below.specs.Search.{is_anchored};
 ghost use Rattle.determinize_engine.specs.Searches.{has_start};
 ghost use Rattle.determinize_state.specs.Value.{is_nonempty};
-ghost use Rattle.determinize_dense.specs.Dfa.{IsDfaOf, is_anchored};
+ghost use Rattle.determinize_dense.specs.Dfa.{IsDfaOf};
 ghost use Rattle.determinize_dense.specs.Private.Rows.{IsOffset};
 ghost use Rattle.determinize_dense.specs.Reading.{IsDead, Place};
 ghost use Rattle.determinize_dense.specs.Table.{patterns_at, row_over, start_row};
 
 use crate::dfa::Dfa;
 use crate::reading::RowId;
-use crate::search::is_anchored;
+use determinize_below::AsNfa;
 use determinize_core::start::Config;
 use std::alloc::{Allocator, Global};
 use std::marker::Model;
@@ -24,13 +25,13 @@ use std::marker::Model;
 /// Matches are delayed by one unit, as for `Dfa::match_patterns`: after the last byte of a text
 /// take one more step, over the byte ahead or EOI.
 #[derive(Drop)]
-pub struct Walker<'d, 'n, N: Allocator = Global, A: Allocator = Global> {
-    dfa: &'d Dfa<'n, N, A>,
+pub struct Walker<'d, R: AsNfa, A: Allocator = Global> {
+    dfa: &'d Dfa<R, A>,
     /// The offset of the row.
     offset: usize,
 }
 
-impl<'d, 'n, N: Allocator, A: Allocator> Model for Walker<'d, 'n, N, A> {
+impl<'d, R: AsNfa, A: Allocator> Model for Walker<'d, R, A> {
     ghost Value = { Place };
 
     ghost view = { λ w. record {
@@ -41,11 +42,11 @@ impl<'d, 'n, N: Allocator, A: Allocator> Model for Walker<'d, 'n, N, A> {
     ghost invariant = { λ w. IsOffset w.dfa.now.table w.offset };
 }
 
-impl<'n, N: Allocator, A: Allocator + Copy> Dfa<'n, N, A> {
+impl<R: AsNfa, A: Allocator + Copy> Dfa<R, A> {
     /// Returns a walker in the row of the start state of a configuration: its anchored mode, and
     /// the byte before the start. `Anchored::Pattern` has no start state and is not accepted.
     #[inline(always)]
-    pub fn walker(&self, config: &Config) -> Walker<'_, 'n, N, A>
+    pub fn walker(&self, config: &Config) -> Walker<'_, R, A>
         requires { has_start config.now.anchored ≡ true }
         ensures value { result ≡ record {
           dfa = self.now;
@@ -56,7 +57,7 @@ impl<'n, N: Allocator, A: Allocator + Copy> Dfa<'n, N, A> {
         ensures dead { IsDead self.now.table 0 }
         ensures accepted { IsAccepted self.now.nfa }
     {
-        let is_anchored = is_anchored(config.get_anchored());
+        let is_anchored = config.get_anchored().is_anchored();
         Walker {
             dfa: self,
             offset: self.start_row(is_anchored, config.get_look_behind()),
@@ -64,7 +65,7 @@ impl<'n, N: Allocator, A: Allocator + Copy> Dfa<'n, N, A> {
     }
 }
 
-impl<'d, 'n, N: Allocator, A: Allocator + Copy> Walker<'d, 'n, N, A> {
+impl<'d, R: AsNfa, A: Allocator + Copy> Walker<'d, R, A> {
     /// Moves to the row after its row over a byte or, for `None`, over the end of input (EOI).
     #[inline(always)]
     pub fn step(&mut self, unit: Option<u8>)

@@ -1,7 +1,7 @@
 //! The graph of a whole DFA.
 
 use crate::targets::{NO_BYTE, Targets, UNITS, write_edges, write_head};
-use determinize_below::{Anchored, PatternID};
+use determinize_below::{Anchored, AsNfa, PatternID};
 use determinize_core::start::Config;
 use determinize_dense::{Dfa, RowId};
 use std::alloc::{Allocator, Global};
@@ -15,18 +15,18 @@ use std::fmt;
 /// depends on the byte behind the start, their labels have the bytes. The dead row and the edges to
 /// it are left out.
 #[derive(Clone, Copy)]
-pub struct DfaGraph<'d, 'n, N: Allocator = Global, A: Allocator = Global> {
-    dfa: &'d Dfa<'n, N, A>,
+pub struct DfaGraph<'d, R: AsNfa, A: Allocator = Global> {
+    dfa: &'d Dfa<R, A>,
 }
 
-impl<'d, 'n, N: Allocator, A: Allocator> DfaGraph<'d, 'n, N, A> {
+impl<'d, R: AsNfa, A: Allocator> DfaGraph<'d, R, A> {
     /// Returns the graph of a DFA.
-    pub fn new(dfa: &'d Dfa<'n, N, A>) -> DfaGraph<'d, 'n, N, A> {
+    pub fn new(dfa: &'d Dfa<R, A>) -> DfaGraph<'d, R, A> {
         DfaGraph { dfa }
     }
 }
 
-impl<'d, 'n, N: Allocator, A: Allocator + Copy> fmt::Display for DfaGraph<'d, 'n, N, A> {
+impl<'d, R: AsNfa, A: Allocator + Copy> fmt::Display for DfaGraph<'d, R, A> {
     fn fmt<W: fmt::Write>(&self, f: &mut fmt::Formatter<W>) -> fmt::Result {
         write_head(f, "dfa")?;
         write_starts(f, self.dfa, true)?;
@@ -39,7 +39,7 @@ impl<'d, 'n, N: Allocator, A: Allocator + Copy> fmt::Display for DfaGraph<'d, 'n
 }
 
 /// Returns the number of a row, or `None` for the dead row.
-fn number<N: Allocator, A: Allocator + Copy>(dfa: &Dfa<'_, N, A>, row: RowId) -> Option<usize> {
+fn number<R: AsNfa, A: Allocator + Copy>(dfa: &Dfa<R, A>, row: RowId) -> Option<usize> {
     if dfa.is_dead_state(row) {
         None
     } else {
@@ -48,7 +48,7 @@ fn number<N: Allocator, A: Allocator + Copy>(dfa: &Dfa<'_, N, A>, row: RowId) ->
 }
 
 /// Returns the rows after a row.
-fn targets<N: Allocator, A: Allocator + Copy>(dfa: &Dfa<'_, N, A>, row: RowId) -> Targets {
+fn targets<R: AsNfa, A: Allocator + Copy>(dfa: &Dfa<R, A>, row: RowId) -> Targets {
     let mut targets = [None; UNITS];
     for byte in 0..=u8::MAX {
         targets[usize::from(byte)] = number(dfa, dfa.next_state(row, byte));
@@ -58,8 +58,8 @@ fn targets<N: Allocator, A: Allocator + Copy>(dfa: &Dfa<'_, N, A>, row: RowId) -
 }
 
 /// Returns the row where anchored searches start, or unanchored ones, behind a byte or nothing.
-pub(crate) fn start<N: Allocator, A: Allocator + Copy>(
-    dfa: &Dfa<'_, N, A>,
+pub(crate) fn start<R: AsNfa, A: Allocator + Copy>(
+    dfa: &Dfa<R, A>,
     is_anchored: bool,
     look_behind: Option<u8>,
 ) -> RowId {
@@ -72,7 +72,7 @@ pub(crate) fn start<N: Allocator, A: Allocator + Copy>(
 }
 
 /// Returns the rows where searches start, behind each byte and behind nothing.
-fn starts<N: Allocator, A: Allocator + Copy>(dfa: &Dfa<'_, N, A>, is_anchored: bool) -> Targets {
+fn starts<R: AsNfa, A: Allocator + Copy>(dfa: &Dfa<R, A>, is_anchored: bool) -> Targets {
     let mut targets = [None; UNITS];
     for byte in 0..=u8::MAX {
         targets[usize::from(byte)] = number(dfa, start(dfa, is_anchored, Some(byte)));
@@ -82,9 +82,9 @@ fn starts<N: Allocator, A: Allocator + Copy>(dfa: &Dfa<'_, N, A>, is_anchored: b
 }
 
 /// Writes the edges to the rows where searches start, from the name of the anchored mode.
-pub(crate) fn write_starts<N: Allocator, A: Allocator + Copy, W: fmt::Write>(
+pub(crate) fn write_starts<R: AsNfa, A: Allocator + Copy, W: fmt::Write>(
     f: &mut fmt::Formatter<W>,
-    dfa: &Dfa<'_, N, A>,
+    dfa: &Dfa<R, A>,
     is_anchored: bool,
 ) -> fmt::Result {
     let name = if is_anchored {
@@ -105,9 +105,9 @@ pub(crate) fn write_starts<N: Allocator, A: Allocator + Copy, W: fmt::Write>(
 }
 
 /// Writes a row and the edges that leave it, unless it is the dead row.
-pub(crate) fn write_row<N: Allocator, A: Allocator + Copy, W: fmt::Write>(
+pub(crate) fn write_row<R: AsNfa, A: Allocator + Copy, W: fmt::Write>(
     f: &mut fmt::Formatter<W>,
-    dfa: &Dfa<'_, N, A>,
+    dfa: &Dfa<R, A>,
     row: RowId,
 ) -> fmt::Result {
     if dfa.is_dead_state(row) {

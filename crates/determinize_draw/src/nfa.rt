@@ -1,5 +1,9 @@
 //! The graph of an NFA.
 
+ghost use Rattle.std.specs.Prelude.{◌≡◌, true};
+ghost use Rattle.determinize_below.specs.Nfa.{is_dense_sound, is_sparse_sound};
+ghost use Rattle.determinize_below.specs.Node.{node_of};
+
 use crate::targets::{Targets, UNITS, write_edges, write_head, write_range};
 use determinize_below::nfa::{State, Transition};
 use determinize_below::{NFA, StateID};
@@ -50,15 +54,13 @@ fn write_state<A: Allocator, W: fmt::Write>(
     f: &mut fmt::Formatter<W>,
     id: StateID,
     state: &State<A>,
-) -> fmt::Result {
+) -> fmt::Result
+    requires ascends { is_sparse_sound (node_of state.now) ≡ true }
+    requires whole { is_dense_sound (node_of state.now) ≡ true }
+{
     match state {
         State::ByteRange { trans } => write_transition(f, id, trans),
-        State::Sparse(sparse) => {
-            write_edges(f, &id, &of_ranges(sparse.transitions.as_slice()), "", "")
-        }
-        State::Dense(dense) => {
-            write_edges(f, &id, &of_table(dense.transitions.as_slice()), "", "")
-        }
+        State::Sparse(_) | State::Dense(_) => write_edges(f, &id, &targets(state), "", ""),
         State::Look { look, next } => {
             write!(f, "  {id} -> {next} [style=dashed, label=\"{look:?}\"];\n")
         }
@@ -100,23 +102,15 @@ fn write_union<W: fmt::Write>(
     Ok(())
 }
 
-/// Returns the target of each byte in ranges.
-fn of_ranges(transitions: &[Transition]) -> Targets {
+/// Returns the target of a state over each byte.
+fn targets<A: Allocator>(state: &State<A>) -> Targets
+    requires ascends { is_sparse_sound (node_of state.now) ≡ true }
+    requires whole { is_dense_sound (node_of state.now) ≡ true }
+{
     let mut targets = [None; UNITS];
-    for trans in transitions {
-        for byte in trans.start..=trans.end {
-            targets[usize::from(byte)] = Some(trans.next.as_usize());
-        }
-    }
-    targets
-}
-
-/// Returns the target of each byte in a table, in which 0 is no target.
-fn of_table(table: &[StateID]) -> Targets {
-    let mut targets = [None; UNITS];
-    for (target, next) in targets.iter_mut().zip(table) {
-        if *next != StateID::ZERO {
-            *target = Some(next.as_usize());
+    for byte in 0..=u8::MAX {
+        if let Some(next) = state.target(byte) {
+            targets[usize::from(byte)] = Some(next.as_usize());
         }
     }
     targets

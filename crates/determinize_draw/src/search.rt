@@ -5,7 +5,7 @@ ghost use Rattle.determinize_engine.specs.Searches.{has_start};
 
 use crate::dfa::{start, write_row, write_starts};
 use crate::targets::write_head;
-use determinize_below::Anchored;
+use determinize_below::{Anchored, AsNfa};
 use determinize_dense::{Dfa, RowId};
 use std::alloc::{AllocError, Allocator, Global};
 use std::fmt;
@@ -13,24 +13,24 @@ use std::fmt;
 /// The graph of the rows that anchored searches enter, or unanchored ones, which `Display` writes
 /// as a `DfaGraph` does.
 #[derive(Drop)]
-pub struct SearchGraph<'d, 'n, N: Allocator = Global, A: Allocator = Global> {
-    dfa: &'d Dfa<'n, N, A>,
+pub struct SearchGraph<'d, R: AsNfa, A: Allocator = Global> {
+    dfa: &'d Dfa<R, A>,
     is_anchored: bool,
     /// Whether searches enter each row.
     entered: Vec<bool, A>,
 }
 
-impl<'d, 'n, N: Allocator, A: Allocator + Copy> SearchGraph<'d, 'n, N, A> {
+impl<'d, R: AsNfa, A: Allocator + Copy> SearchGraph<'d, R, A> {
     /// Returns the graph of the rows that follow the starts of an anchored mode.
     /// `Anchored::Pattern` has no start state and is not accepted.
     pub fn new(
         alloc: A,
-        dfa: &'d Dfa<'n, N, A>,
+        dfa: &'d Dfa<R, A>,
         anchored: Anchored,
-    ) -> Result<SearchGraph<'d, 'n, N, A>, AllocError>
+    ) -> Result<SearchGraph<'d, R, A>, AllocError>
         requires { has_start anchored ≡ true }
     {
-        let is_anchored = anchored != Anchored::No;
+        let is_anchored = anchored.is_anchored();
         let entered = entered(alloc, dfa, is_anchored)?;
         Ok(SearchGraph {
             dfa,
@@ -40,7 +40,7 @@ impl<'d, 'n, N: Allocator, A: Allocator + Copy> SearchGraph<'d, 'n, N, A> {
     }
 }
 
-impl<'d, 'n, N: Allocator, A: Allocator + Copy> fmt::Display for SearchGraph<'d, 'n, N, A> {
+impl<'d, R: AsNfa, A: Allocator + Copy> fmt::Display for SearchGraph<'d, R, A> {
     fn fmt<W: fmt::Write>(&self, f: &mut fmt::Formatter<W>) -> fmt::Result {
         write_head(f, "dfa")?;
         write_starts(f, self.dfa, self.is_anchored)?;
@@ -69,9 +69,9 @@ fn enter<A: Allocator>(
 }
 
 /// Returns whether searches enter each row.
-fn entered<N: Allocator, A: Allocator + Copy>(
+fn entered<R: AsNfa, A: Allocator + Copy>(
     alloc: A,
-    dfa: &Dfa<'_, N, A>,
+    dfa: &Dfa<R, A>,
     is_anchored: bool,
 ) -> Result<Vec<bool, A>, AllocError> {
     let mut entered = vec![in alloc; false; dfa.len()]?;

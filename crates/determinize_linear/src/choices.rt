@@ -63,20 +63,6 @@ fn holds_at<N: Allocator>(nfa: &NFA<N>, text: &Text<'_>, at: usize, look: Look) 
     )
 }
 
-/// Returns the target of a state over a byte.
-fn target<N: Allocator>(state: &State<N>, byte: u8) -> Option<StateID>
-    requires ascends { is_sparse_sound (node_of state.now) ≡ true }
-    requires whole { is_dense_sound (node_of state.now) ≡ true }
-    ensures { result ≡ target_of (Some byte) (node_of state.now) }
-{
-    match state {
-        State::ByteRange { trans } => trans.matches_byte(byte).then_some(trans.next),
-        State::Sparse(sparse) => sparse.matches_byte(byte),
-        State::Dense(dense) => dense.matches_byte(byte),
-        _ => None,
-    }
-}
-
 /// Pushes a pair.
 fn push<A: Allocator>(
     at: usize,
@@ -104,7 +90,7 @@ fn push_target<N: Allocator, A: Allocator>(
     if at >= text.len() {
         return Ok(());
     }
-    match target(state, text.byte(at)) {
+    match state.target(text.byte(at)) {
         Some(next) => push(at + 1, next, stack),
         None => Ok(()),
     }

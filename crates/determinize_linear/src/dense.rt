@@ -17,7 +17,6 @@ ghost use Rattle.determinize_below.specs.Nfa.{IsAccepted};
 ghost use Rattle.determinize_below.specs.Semantics.{before_at};
 ghost use Rattle.determinize_below.specs.Truth.{IsUnit};
 ghost use Rattle.determinize_below.specs.declared.search.MatchKind.TheVariants as kinds;
-ghost use Rattle.determinize_core.specs.Chain.{units};
 ghost use Rattle.determinize_dense.specs.Dfa.{IsDfaOf};
 ghost use Rattle.determinize_dense.specs.Reading.{IsDead};
 ghost use Rattle.determinize_dense.specs.Table.{start_row};
@@ -38,7 +37,7 @@ use crate::matcher::Matcher;
 use crate::row_marks::RowMarks;
 use crate::starts::{begin_alike, start_at};
 use crate::tries::{Counter, Tries};
-use determinize_below::{HalfMatch, Input, Match, NFA};
+use determinize_below::{AsNfa, HalfMatch, Input, Match, NFA};
 use determinize_dense::{Dfa, RowId, Walker};
 use determinize_engine::text::Text;
 use std::alloc::{AllocError, Allocator, Global};
@@ -48,8 +47,8 @@ use std::sync::ledger::Ledger;
 
 /// A walk over a text under way, with the last match that its rows have listed.
 #[derive(Drop)]
-struct Walk<'d, 'n, N: Allocator, M: Allocator> {
-    walker: Walker<'d, 'n, N, M>,
+struct Walk<'d, R: AsNfa, M: Allocator> {
+    walker: Walker<'d, R, M>,
     /// The position of the next unit.
     at: usize,
     /// The last row that listed a match, or the dead row.
@@ -58,7 +57,7 @@ struct Walk<'d, 'n, N: Allocator, M: Allocator> {
     end: usize,
 }
 
-impl<'d, 'n, N: Allocator, M: Allocator> Model for Walk<'d, 'n, N, M> {
+impl<'d, R: AsNfa, M: Allocator> Model for Walk<'d, R, M> {
     ghost use Rattle.determinize_core.specs.LastMatch.{ended_at};
     ghost use Rattle.determinize_dense.specs.Table.{patterns_at};
     ghost use Rattle.determinize_linear.specs.Private.Walks.{WalkValue};
@@ -73,15 +72,10 @@ impl<'d, 'n, N: Allocator, M: Allocator> Model for Walk<'d, 'n, N, M> {
     } };
 }
 
-impl<'d, 'n, N: Allocator, M: Allocator + Copy> Walk<'d, 'n, N, M> {
+impl<'d, R: AsNfa, M: Allocator + Copy> Walk<'d, R, M> {
     /// Returns an anchored walk that begins at a position of a text.
     #[inline(always)]
-    fn new(
-        dfa: &'d Dfa<'n, N, M>,
-        text: &Text<'_>,
-        from: usize,
-        begin_alike: bool,
-    ) -> Walk<'d, 'n, N, M>
+    fn new(dfa: &'d Dfa<R, M>, text: &Text<'_>, from: usize, begin_alike: bool) -> Walk<'d, R, M>
         requires { begin_alike ≡ true → BeginAlike dfa.now text.now }
         ensures value { result ≡ record {
           dfa = dfa.now;
@@ -137,7 +131,7 @@ impl<'d, 'n, N: Allocator, M: Allocator + Copy> Walk<'d, 'n, N, M> {
     ///
     /// - `dfa` is the DFA of the walk.
     #[inline(always)]
-    fn found(&self, dfa: &Dfa<'_, N, M>) -> Option<HalfMatch>
+    fn found(&self, dfa: &Dfa<R, M>) -> Option<HalfMatch>
         requires { dfa.now ≡ self.now.dfa }
         ensures { result ≡ self.now.found }
     {
@@ -151,8 +145,8 @@ impl<'d, 'n, N: Allocator, M: Allocator + Copy> Walk<'d, 'n, N, M> {
 
 /// Walks over the bytes of a text, up to its end or to where no further match is listed.
 #[inline(always)]
-fn walk_bytes<N: Allocator, M: Allocator + Copy, A: Allocator, C: Counter>(
-    walk: &mut Walk<'_, '_, N, M>,
+fn walk_bytes<R: AsNfa, M: Allocator + Copy, A: Allocator, C: Counter>(
+    walk: &mut Walk<'_, R, M>,
     text: &Text<'_>,
     marks: &mut RowMarks<A>,
     counter: &mut C,
@@ -189,8 +183,8 @@ fn walk_bytes<N: Allocator, M: Allocator + Copy, A: Allocator, C: Counter>(
 ///
 /// - `begin_alike` says whether walks from all positions of the text begin in one row.
 #[inline(always)]
-pub(crate) fn walk_from<N: Allocator, M: Allocator + Copy, A: Allocator, C: Counter>(
-    dfa: &Dfa<'_, N, M>,
+pub(crate) fn walk_from<R: AsNfa, M: Allocator + Copy, A: Allocator, C: Counter>(
+    dfa: &Dfa<R, M>,
     text: &Text<'_>,
     from: usize,
     begin_alike: bool,
@@ -217,9 +211,9 @@ pub(crate) fn walk_from<N: Allocator, M: Allocator + Copy, A: Allocator, C: Coun
 }
 
 /// Returns marks for walks over a text, of which those of the dead row are set.
-pub(crate) fn new_marks<N: Allocator, M: Allocator + Copy, A: Allocator>(
+pub(crate) fn new_marks<R: AsNfa, M: Allocator + Copy, A: Allocator>(
     alloc: A,
-    dfa: &Dfa<'_, N, M>,
+    dfa: &Dfa<R, M>,
     text: &Text<'_>,
 ) -> Result<RowMarks<A>, AllocError>
     requires { IsDead dfa.now.table 0 }
@@ -234,14 +228,14 @@ pub(crate) fn new_marks<N: Allocator, M: Allocator + Copy, A: Allocator>(
 
 /// Walks by one DFA over one text.
 #[derive(Drop)]
-struct Walks<'d, 'n, N: Allocator, M: Allocator, A: Allocator> {
-    dfa: &'d Dfa<'n, N, M>,
+struct Walks<'d, R: AsNfa, M: Allocator, A: Allocator> {
+    dfa: &'d Dfa<R, M>,
     marks: RowMarks<A>,
     /// Whether all of them begin in one row.
     begin_alike: bool,
 }
 
-impl<'d, 'n, M: Allocator + Copy, D: Allocator, A: Allocator> Matcher for Walks<'d, 'n, D, M, A> {
+impl<'d, R: AsNfa, M: Allocator + Copy, A: Allocator> Matcher for Walks<'d, R, M, A> {
     type Error = Infallible;
 
     ghost dfa = { λ w. Some w.dfa.now };
@@ -272,19 +266,12 @@ impl<'d, 'n, M: Allocator + Copy, D: Allocator, A: Allocator> Matcher for Walks<
 /// A cursor over the matches of an input, in their order, which are those of [`find_all`]. It
 /// borrows the DFA, and owns the marks of its searches.
 #[derive(Drop)]
-pub struct Searcher<
-    'd,
-    'n,
-    'h,
-    N: Allocator = Global,
-    M: Allocator = Global,
-    A: Allocator = Global,
-> {
-    walks: Walks<'d, 'n, N, M, A>,
+pub struct Searcher<'d, 'h, R: AsNfa, M: Allocator = Global, A: Allocator = Global> {
+    walks: Walks<'d, R, M, A>,
     cursor: Cursor<'h>,
 }
 
-impl<'d, 'n, 'h, N: Allocator, M: Allocator, A: Allocator> Model for Searcher<'d, 'n, 'h, N, M, A> {
+impl<'d, 'h, R: AsNfa, M: Allocator, A: Allocator> Model for Searcher<'d, 'h, R, M, A> {
     ghost use Rattle.determinize_linear.specs.Cursors.{SearcherValue};
     ghost use Rattle.determinize_linear.specs.Private.Following.{steps_left};
     ghost use Rattle.determinize_linear.specs.Private.Searchers.{IsSearcher};
@@ -303,7 +290,7 @@ impl<'d, 'n, 'h, N: Allocator, M: Allocator, A: Allocator> Model for Searcher<'d
         IsSearcher s.walks.dfa.now s.walks.marks s.walks.begin_alike s.cursor };
 }
 
-impl<'d, 'n, 'h, N: Allocator, M: Allocator + Copy, A: Allocator> Searcher<'d, 'n, 'h, N, M, A> {
+impl<'d, 'h, R: AsNfa, M: Allocator + Copy, A: Allocator> Searcher<'d, 'h, R, M, A> {
     /// Returns a cursor before the first match of an input, with the marks that its searches need:
     /// no later call allocates.
     ///
@@ -312,9 +299,9 @@ impl<'d, 'n, 'h, N: Allocator, M: Allocator + Copy, A: Allocator> Searcher<'d, '
     /// here: a caller that stops early saves steps, and no memory.
     pub fn new(
         alloc: A,
-        dfa: &'d Dfa<'n, N, M>,
+        dfa: &'d Dfa<R, M>,
         input: &Input<'h>,
-    ) -> Result<Searcher<'d, 'n, 'h, N, M, A>, AllocError>
+    ) -> Result<Searcher<'d, 'h, R, M, A>, AllocError>
         requires forward { dfa.now.nfa.reverse ≡ false }
         requires kind { dfa.now.kind ≡ kinds.LeftmostFirst }
         requires start { has_start input.now.anchored ≡ true }
@@ -358,7 +345,8 @@ impl<'d, 'n, 'h, N: Allocator, M: Allocator + Copy, A: Allocator> Searcher<'d, '
             → IfNone result (C.total counter.old + (self.old.cursor.asked.end + 1 - self.old.next)
             ≤ C.total counter.new) }
     {
-        let nfa = self.walks.dfa.nfa();
+        let dfa = self.walks.dfa;
+        let nfa = dfa.nfa();
         let Ok(found) = self.cursor.advance(&mut self.walks, nfa, counter);
         found
     }
@@ -415,9 +403,9 @@ impl<'d, 'n, 'h, N: Allocator, M: Allocator + Copy, A: Allocator> Searcher<'d, '
 }
 
 /// Returns all matches of an input, counted or not.
-fn find_all_with<N: Allocator, M: Allocator + Copy, A: Allocator + Copy, C: Counter>(
+fn find_all_with<R: AsNfa, M: Allocator + Copy, A: Allocator + Copy, C: Counter>(
     alloc: A,
-    dfa: &Dfa<'_, N, M>,
+    dfa: &Dfa<R, M>,
     input: &Input<'_>,
     counter: &mut C,
 ) -> Result<Vec<Match, A>, AllocError>
@@ -454,9 +442,9 @@ fn find_all_with<N: Allocator, M: Allocator + Copy, A: Allocator + Copy, C: Coun
 /// range are seen by assertions. The number of steps is linear in the length of the range, as
 /// [`find_all_counted`] says. The memory is, too: a bit for each row of the DFA at each index of
 /// the range, and at most eight bytes for each entry of its table.
-pub fn find_all<N: Allocator, M: Allocator + Copy, A: Allocator + Copy>(
+pub fn find_all<R: AsNfa, M: Allocator + Copy, A: Allocator + Copy>(
     alloc: A,
-    dfa: &Dfa<'_, N, M>,
+    dfa: &Dfa<R, M>,
     input: &Input<'_>,
 ) -> Result<Vec<Match, A>, AllocError>
     requires forward { dfa.now.nfa.reverse ≡ false }
@@ -471,9 +459,9 @@ pub fn find_all<N: Allocator, M: Allocator + Copy, A: Allocator + Copy>(
 /// they are at most `(rows + 4) * (bytes + 2)`, for the rows of the DFA and the bytes of the range.
 /// On success they are at least one for each index from the start of the range to the end of each
 /// match and, if the input is not anchored, to the end of the range.
-pub fn find_all_counted<N: Allocator, M: Allocator + Copy, A: Allocator + Copy, L: Ledger>(
+pub fn find_all_counted<R: AsNfa, M: Allocator + Copy, A: Allocator + Copy, L: Ledger>(
     alloc: A,
-    dfa: &Dfa<'_, N, M>,
+    dfa: &Dfa<R, M>,
     input: &Input<'_>,
     steps: &mut Tries<L>,
 ) -> Result<Vec<Match, A>, AllocError>

@@ -11,30 +11,16 @@ ghost use Rattle.determinize_linear.specs.Private.Turns.{HasMoved, IsCursor, end
 
 use crate::matcher::Matcher;
 use crate::tries::Counter;
-use determinize_below::{Anchored, HalfMatch, Input, Match, NFA};
+use determinize_below::{HalfMatch, Input, Match, NFA};
 use determinize_engine::text::Text;
 use std::alloc::{AllocError, Allocator};
 use std::marker::Model;
 
 /// Returns whether a match may begin only where the search starts.
 fn is_anchored<N: Allocator>(nfa: &NFA<N>, input: &Input<'_>) -> bool
-    requires { has_start input.now.anchored ≡ true }
     ensures { result ≡ inputs.is_anchored nfa.now input.now.anchored }
 {
-    match input.get_anchored() {
-        Anchored::No => nfa.start_unanchored() == nfa.start_anchored(),
-        Anchored::Yes => true,
-        Anchored::Pattern(_) => unreachable!(),
-    }
-}
-
-/// Returns a copy of an input.
-fn copied<'h>(input: &Input<'h>) -> Input<'h>
-    ensures { result ≡ input.now }
-{
-    Input::new(input.haystack())
-        .range(input.start()..input.end())
-        .anchored(input.get_anchored())
+    input.get_anchored().is_anchored() || nfa.start_unanchored() == nfa.start_anchored()
 }
 
 /// Returns the text of a range, or an empty one if the range starts past its end.
@@ -118,7 +104,7 @@ impl<'h> Cursor<'h> {
         ensures at { input.now.start ≤ input.now.end → result.at ≡ 0 }
     {
         Cursor {
-            input: copied(input),
+            input: input.from_index(input.start()),
             text: text_of_range(input),
             is_anchored: is_anchored(nfa, input),
             last_match_end: None,

@@ -14,16 +14,16 @@ use crate::dense::{new_marks, walk_from};
 use crate::in_turn::push_moved;
 use crate::starts::begin_alike;
 use crate::tries::{Counter, Tries};
-use determinize_below::{Input, Match};
+use determinize_below::{AsNfa, Input, Match};
 use determinize_dense::Dfa;
 use determinize_engine::text::Text;
 use std::alloc::{AllocError, Allocator};
 use std::sync::ledger::Ledger;
 
 /// Returns the tokens of an input, counted or not.
-fn tokens_with<N: Allocator, M: Allocator + Copy, A: Allocator + Copy, C: Counter>(
+fn tokens_with<R: AsNfa, M: Allocator + Copy, A: Allocator + Copy, C: Counter>(
     alloc: A,
-    dfa: &Dfa<'_, N, M>,
+    dfa: &Dfa<R, M>,
     input: &Input<'_>,
     counter: &mut C,
 ) -> Result<Vec<Match, A>, AllocError>
@@ -64,9 +64,9 @@ fn tokens_with<N: Allocator, M: Allocator + Copy, A: Allocator + Copy, C: Counte
 /// begins. The anchored mode of the input makes no difference. The bytes next to the range are seen
 /// by assertions. The number of steps is linear in the length of the range, as [`tokens_counted`]
 /// says, and so is the memory, as of [`crate::dense::find_all`].
-pub fn tokens<N: Allocator, M: Allocator + Copy, A: Allocator + Copy>(
+pub fn tokens<R: AsNfa, M: Allocator + Copy, A: Allocator + Copy>(
     alloc: A,
-    dfa: &Dfa<'_, N, M>,
+    dfa: &Dfa<R, M>,
     input: &Input<'_>,
 ) -> Result<Vec<Match, A>, AllocError>
     requires forward { dfa.now.nfa.reverse ≡ false }
@@ -80,9 +80,9 @@ pub fn tokens<N: Allocator, M: Allocator + Copy, A: Allocator + Copy>(
 /// they are at most `(rows + 4) * (bytes + 2)`, for the rows of the DFA and the bytes of the range.
 /// On success they are at least one for each token and one for each byte that they cover, and one
 /// more if the list ends before the range does.
-pub fn tokens_counted<N: Allocator, M: Allocator + Copy, A: Allocator + Copy, L: Ledger>(
+pub fn tokens_counted<R: AsNfa, M: Allocator + Copy, A: Allocator + Copy, L: Ledger>(
     alloc: A,
-    dfa: &Dfa<'_, N, M>,
+    dfa: &Dfa<R, M>,
     input: &Input<'_>,
     steps: &mut Tries<L>,
 ) -> Result<Vec<Match, A>, AllocError>

@@ -140,7 +140,7 @@ fn find_all_with<N: Allocator, A: Allocator + Copy, C: Counter>(
     find_all_by(alloc, &mut search, nfa, input, counter)
 }
 
-/// Returns all matches of an input, in their order, as `plain::find_all` of `determinize_find`.
+/// Returns all matches of an input, in their order, as `find_all` of `determinize_find`.
 ///
 /// The NFA must read forward; it needs no prefix. If its two starts are one state, the input is
 /// anchored. The bytes next to the range are seen by assertions. The number of tries is linear in

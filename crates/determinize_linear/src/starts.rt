@@ -12,7 +12,7 @@ ghost use Rattle.determinize_start.specs.StartKinds.{start_kind};
 ghost use Rattle.determinize_start.specs.declared.start.Start.TheVariants.{NonWordByte, WordByte};
 
 use crate::choices::byte_before;
-use determinize_below::Anchored;
+use determinize_below::{Anchored, AsNfa};
 use determinize_core::start::Config;
 use determinize_dense::Dfa;
 use determinize_engine::text::Text;
@@ -36,7 +36,7 @@ fn other_byte(terminator: u8) -> u8
 }
 
 /// Returns the row where an anchored walk begins after this byte, or after none.
-fn row_behind<N: Allocator, M: Allocator + Copy>(dfa: &Dfa<'_, N, M>, behind: Option<u8>) -> usize
+fn row_behind<R: AsNfa, M: Allocator + Copy>(dfa: &Dfa<R, M>, behind: Option<u8>) -> usize
     ensures row { result ≡ start_row dfa.now.nfa dfa.now.table true behind }
     ensures dead { IsDead dfa.now.table 0 }
     ensures unit { IsUnit behind }
@@ -47,10 +47,7 @@ fn row_behind<N: Allocator, M: Allocator + Copy>(dfa: &Dfa<'_, N, M>, behind: Op
 
 /// Returns `true` only if anchored walks from all positions of a text begin in one row. For a text
 /// of fewer than `FEW` bytes returns `false`.
-pub(crate) fn begin_alike<N: Allocator, M: Allocator + Copy>(
-    dfa: &Dfa<'_, N, M>,
-    text: &Text<'_>,
-) -> bool
+pub(crate) fn begin_alike<R: AsNfa, M: Allocator + Copy>(dfa: &Dfa<R, M>, text: &Text<'_>) -> bool
     ensures alike { result ≡ true → BeginAlike dfa.now text.now }
     ensures dead { IsDead dfa.now.table 0 }
 {

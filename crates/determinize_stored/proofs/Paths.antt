@@ -12,7 +12,7 @@ use Rattle.std.proofs.lemmas.List.{drop_all, drop_more}
 use Rattle.std.proofs.lemmas.Option.{get_or_from_slice_get, slice_get_within}
 use Rattle.std.proofs.lemmas.List.Elements.{All-drop, All-head, All-tail, All-take}
 use Rattle.determinize_below.specs.Nfa.{IsAccepted}
-use Rattle.determinize_below.specs.Search.{Asked, is_done}
+use Rattle.determinize_below.specs.Search.{Asked, is_anchored, is_done}
 use Rattle.determinize_below.specs.Semantics.{Nfa, Text}
 use Rattle.determinize_below.specs.Truth.{IsUnit}
 use Rattle.determinize_below.specs.declared.search.Anchored.{Anchored}
@@ -20,7 +20,7 @@ use Rattle.determinize_core.proofs.Common.{Bool}
 use Rattle.determinize_core.specs.Chain.{chain}
 use Rattle.determinize_dense.proofs.Along.{along_text, last_listed-dead, last_listed-done, last_listed-more, start_is}
 use Rattle.ordered_reach.proofs.lists.Pieces.{option_or-assoc}
-use Rattle.determinize_dense.specs.Dfa.{is_anchored, start_in}
+use Rattle.determinize_dense.specs.Dfa.{start_in}
 use Rattle.determinize_dense.specs.Table.{start_row}
 use Rattle.determinize_engine.proofs.TextUnits.{text_units}
 use Rattle.determinize_engine.specs.Searches.{in_haystack, last_in, start_for, text_of}

@@ -2,7 +2,7 @@
 use Rattle.std.specs.Prelude.{◌≡◌, ◌<◌, ◌+◌, ℕ, [], All, Bool, cond, None, Option, option_map}
 use Rattle.std.specs.Prelude.{slice_index, take, true}
 use Rattle.determinize_below.specs.Nfa.{IsAccepted}
-use Rattle.determinize_below.specs.Search.{Asked, is_done}
+use Rattle.determinize_below.specs.Search.{Asked, is_anchored, is_done}
 use Rattle.determinize_below.specs.Semantics.{Nfa, Text}
 use Rattle.determinize_below.specs.declared.search.HalfMatch.{HalfMatch}
 use Rattle.determinize_core.specs.Chain.{units}
@@ -11,7 +11,7 @@ use Rattle.determinize_start.specs.StartKinds.{start_kind_of}
 use Rattle.determinize_start.specs.StartSlots.{slot_number, slot_of}
 use Rattle.determinize_engine.specs.Searches.{has_start, in_haystack, last_in, text_of}
 use Rattle.determinize_dense.specs.Bytes.{Stored}
-use Rattle.determinize_dense.specs.Dfa.{IsDfaOf, is_anchored}
+use Rattle.determinize_dense.specs.Dfa.{IsDfaOf}
 use Rattle.determinize_dense.specs.Reading.{lists_along}
 use Rattle.determinize_dense.specs.Table.{Table, patterns_at}
 

@@ -7,7 +7,7 @@ ghost use Rattle.determinize_engine.specs.Searches.{has_start};
 ghost use Rattle.determinize_stored.specs.Reading.{last_along, last_found};
 
 use crate::stored::StoredDfa;
-use determinize_below::{Anchored, HalfMatch, Input};
+use determinize_below::{HalfMatch, Input};
 use determinize_engine::text::{Text, in_haystack};
 
 impl<'b> StoredDfa<'b> {
@@ -51,7 +51,7 @@ impl<'b> StoredDfa<'b> {
         if input.is_done() {
             return None;
         }
-        let is_anchored = !matches!(input.get_anchored(), Anchored::No);
+        let is_anchored = input.get_anchored().is_anchored();
         let text = Text::of_input(input, self.head.is_reverse);
         in_haystack(
             input,

@@ -5,11 +5,11 @@
 
 ghost use Rattle.std.specs.Prelude.{All, Decides, ◌≡◌, ◌≤◌, IfOk, IsOkAnd, Some, None, length, slice_get, true};
 ghost use Rattle.std.specs.List.{range_with_len};
+ghost use Rattle.determinize_below.specs.Search.{is_anchored};
 ghost use Rattle.determinize_state.specs.Value.{is_nonempty};
 ghost use Rattle.determinize_start.specs.StartKinds.{byte_before};
 ghost use Rattle.determinize_engine.specs.Searches.{has_start};
 ghost use Rattle.determinize_dense.specs.Bytes.{IsWhole, Stored, file_of};
-ghost use Rattle.determinize_dense.specs.Dfa.{is_anchored};
 ghost use Rattle.determinize_dense.specs.Reading.{IsDead};
 ghost use Rattle.determinize_dense.specs.Table.{column_of, patterns_at, row_over};
 ghost use Rattle.determinize_below.specs.declared.primitives.TheConstants.{MAX_ID};
@@ -18,7 +18,7 @@ ghost use Rattle.determinize_stored.specs.Reading.{HasDeadRow, first_row};
 use crate::error::{FormatError, FormatErrorKind};
 use crate::format::{Head, Parts};
 use crate::words::Words;
-use determinize_below::{Anchored, Input, MatchKind, PatternID};
+use determinize_below::{Input, MatchKind, PatternID};
 use determinize_core::start::{Config, StartSlot, start_kind_of};
 use determinize_dense::{RowId, RowIds};
 use std::fmt;
@@ -110,7 +110,7 @@ impl<'b> StoredDfa<'b> {
         ensures { result ≡ first_row self.now (is_anchored config.now.anchored)
             config.now.look_behind }
     {
-        let is_anchored = !matches!(config.get_anchored(), Anchored::No);
+        let is_anchored = config.get_anchored().is_anchored();
         self.first_row(is_anchored, config.get_look_behind())
     }
 

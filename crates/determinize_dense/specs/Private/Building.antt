@@ -11,7 +11,6 @@ use Rattle.determinize_engine.specs.States.{EachApart}
 use Rattle.determinize_engine.specs.declared.state_table.TheConstants.{MAX_STATES}
 use Rattle.determinize_core.specs.Alike.{AreChanges}
 use Rattle.determinize_core.specs.Step.{start_value, step}
-use Rattle.determinize_core.specs.Stepper.{StepperValue}
 use Rattle.determinize_core.specs.Value.{Value, dead}
 use Rattle.determinize_dense.specs.Dfa.{HasStates, IsReachedValue, start_in}
 use Rattle.determinize_dense.specs.Table.{DfaValue}
@@ -29,10 +28,10 @@ pub record Building : Type 0 where
   pub next : List ℕ
 
 -- the value of a builder of these parts
-abbrev pub building : StepperValue → Classes → ℕ → List Value → List ℕ → Building
-building stepper classes limit values next = record {
-  nfa = stepper.nfa;
-  kind = stepper.kind;
+abbrev pub building : Nfa → MatchKind → Classes → ℕ → List Value → List ℕ → Building
+building nfa kind classes limit values next = record {
+  nfa = nfa;
+  kind = kind;
   classes = classes;
   limit = limit;
   values = values;

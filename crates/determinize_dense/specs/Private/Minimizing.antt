@@ -3,7 +3,7 @@ use Rattle.std.specs.Prelude.{◌≡◌, ◌<◌, ◌≤◌, ◌+◌, ◌*◌, �
 use Rattle.std.specs.Prelude.{slice_index}
 use Rattle.determinize_below.specs.Truth.{IsUnit}
 use Rattle.determinize_dense.specs.Dfa.{IsDfaOf}
-use Rattle.determinize_dense.specs.Least.{AreApart, IsReachedRow}
+use Rattle.determinize_dense.specs.Least.{AreApart, IsLeast, IsReachedRow}
 use Rattle.determinize_dense.specs.Private.Partition.{AreBlocks, AreTogether, Blocks}
 use Rattle.determinize_dense.specs.Table.{DfaValue, Table, patterns_at, row_after}
 use Rattle.determinize_start.specs.declared.start.TheConstants.StartSlot.{COUNT}
@@ -136,3 +136,11 @@ pub record IsMerged (v : DfaValue) (p : Blocks) (merged : DfaValue) : Type 0 whe
       → AreApart merged.table b c
   pub reached : (b : ℕ) → b < length merged.table.patterns
       → IsReachedRow merged.nfa merged.table b
+
+-- a DFA of the same NFA and match kind, with the fewest rows
+pub record IsMinimized (v w : DfaValue) : Type 0 where
+  pub nfa : w.nfa ≡ v.nfa
+  pub kind : w.kind ≡ v.kind
+  pub means : IsDfaOf w.nfa w.kind w.table
+  pub least : IsLeast w.nfa w.table
+  pub fewer : length w.table.patterns ≤ length v.table.patterns

@@ -4,7 +4,7 @@ use Rattle.determinize_dense.proofs.build.Builder.place.Goals.{In_default, In_ok
 use Rattle.determinize_dense.proofs.build.Builder.place.Goals as goal
 
 reached : (g : _) (c : In_default g)
-    → IsReachedValue c.self.inside.stepper.nfa c.self.inside.stepper.kind c.args.state.now
+    → IsReachedValue (g.R.AsNfa.nfa c.self.inside.nfa) c.self.inside.match_kind c.args.state.now
 reached g c = rw (← c.self.view_is) at c.requires.reached
 
 -- the table has it behind the others

@@ -42,7 +42,7 @@ returns g c =
     c.index-as_slice-row.result (at-row g d) from (inside g d)
     (read-at there refl (rw place at c.index.ensures))
     (rw (c.nfa.ensures, c.representatives-bytes.ensures.firsts)
-    at (c.steps_alike.ensures c.if-not-steps_alike.false c.self.inside.stepper.kind)))
+    at (c.steps_alike.ensures c.if-not-steps_alike.false c.self.inside.match_kind)))
 
 pub bounds-as_slice-row : goal.bounds-as_slice-row
 bounds-as_slice-row g c = rw c.as_slice.ensures (rw (← c.self.view_is) at c.requires.row)

@@ -1,4 +1,4 @@
-use Rattle.determinize_dense.proofs.Common.{arith, rules, ℕ, ◌<◌, ◌∙◌, ◌≡◌, ◌≤◌}
+use Rattle.determinize_dense.proofs.Common.{arith, Err, Ok, Result, rules, ℕ, ◌<◌, ◌∙◌, ◌≡◌, ◌≤◌}
 use Rattle.determinize_dense.proofs.Building.{more-as, err-as}
 use Rattle.determinize_dense.proofs.Pigeonhole.{each_count_is_one}
 use Rattle.determinize_dense.proofs.dfa.Dfa.build.Goals as goal
@@ -11,6 +11,9 @@ returns-in_err-rows-clause-many g c = λ same.
 not-more : {count limit least : ℕ} → least < count → count ≤ limit → limit ≡ least → ⊥
 not-more more few same = omega arith
 
+not-err : {A E : Type 0} {x : A} {e : E} → ◌≡◌ {A = Result A E} (Ok x) (Err e) → ⊥
+not-err same = cc
+
 pub returns : goal.returns
 returns g c =
     let built = c.in_ok-rows.ensures.built in
@@ -22,7 +25,7 @@ returns g c =
       states = rw c.in_ok-arranged.ensures.rows states;
       few = rw (c.in_ok-arranged.ensures.rows, ← c.in_ok-builder.ensures.limit) built.few;
       many = search rules;
-      more = λ more. absurd (not-more ((each_count_is_one c.args.nfa.now c.args.match_kind _ _ states).1 more)
-          built.few c.in_ok-builder.ensures.limit);
-      zero = λ none. absurd (grind (arith, c.in_ok-builder.ensures.zero none));
+      more = λ more. absurd (not-more ((each_count_is_one (g.R.AsNfa.nfa c.args.nfa) c.args.match_kind _ _ states).1
+          more) built.few c.in_ok-builder.ensures.limit);
+      zero = λ none. absurd (not-err (c.in_ok-builder.ensures.zero none));
     }

@@ -3,8 +3,8 @@ use Rattle.determinize_dense.proofs.Common.{patterns_at, row_after, rules, Some,
 use Rattle.determinize_dense.proofs.Common.{text_units, units, units_are, [], ℕ, ◌++◌, ◌<◌, ◌∙◌, ◌∷◌, ◌≡◌}
 use Rattle.determinize_dense.proofs.Along.{start_is}
 use Rattle.determinize_dense.proofs.Least.{row_after-more}
-use Rattle.determinize_dense.proofs.Listing.{each-accepted, list-all, list-preferred}
 use Rattle.determinize_dense.proofs.Offsets.{same-offset}
+use Rattle.determinize_engine.proofs.Lists.{lists_at_end}
 use Rattle.determinize_dense.proofs.dfa.Dfa.patterns_after.Goals as goal
 
 pub loop-byte-init : goal.loop-byte-init
@@ -52,10 +52,5 @@ returns g c =
     let listed = c.patterns.ensures ∙ ap (λ (r : ℕ). patterns_at d r)
     (sym (rw (← units_are c.args.look_behind c.args.look_ahead c.args.text.now) at row))
     ∙ sound.tells (is_anchored c.args.anchored) c.args.look_behind (units text) c.start_row-row.ensures.unit all in
-    let start = start_is c.args.self.now.nfa c.args.anchored in
-    record {
-      patterns = rw (← start) listed;
-      all = list-all c.args.self.now.kind text sound.accepted start listed;
-      preferred = list-preferred c.args.self.now.kind text sound.accepted start listed;
-      accepted = each-accepted c.args.self.now.kind text sound.accepted start listed;
-    }
+    lists_at_end c.args.self.now.nfa c.args.self.now.kind _ text c.patterns.result.now sound.accepted
+    (rw (← start_is c.args.self.now.nfa c.args.anchored) listed)

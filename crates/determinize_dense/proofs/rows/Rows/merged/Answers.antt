@@ -1,10 +1,10 @@
 use Rattle.determinize_dense.proofs.Common.{AreMergedLists, AreMergedStarts, arith, dfa_value, get_or-set_at}
-use Rattle.determinize_dense.proofs.Common.{get_or-set_other, length-map, length-set, map, map_push, rules}
+use Rattle.determinize_dense.proofs.Common.{get_or-set_other, length-map, length-set, map, map_push}
 use Rattle.determinize_dense.proofs.Common.{same_from_all_zip, ◌≡◌}
 use Rattle.determinize_dense.proofs.Lists.{items-at}
 use Rattle.determinize_dense.proofs.Merging.{merged-dfa, merged-is, with_rows}
 use Rattle.determinize_dense.proofs.Splitting.{few_blocks, pushed}
-use Rattle.determinize_dense.proofs.rows.Rows.merged.Goals.{In_ok-merged_rows}
+use Rattle.determinize_dense.proofs.rows.Rows.merged.Goals.{In_ok-next}
 use Rattle.determinize_dense.proofs.rows.Rows.merged.Goals as goal
 
 pub block-requires : goal.block-requires
@@ -26,30 +26,32 @@ loop-row-preserved g c =
     (grind (arith, pushed, map_push, length-map, copy, items-at (λ list. list.items) c.self.inside.patterns.items))
 
 -- the value of the result
-value-is : (g : _) (c : In_ok-merged_rows g) → dfa_value c.self.inside.nfa.now c.self.inside.match_kind
-    c.in_ok-clone-2.field-0 c.in_ok-merged_rows.field-0.items c.loop-number.starts
+value-is : (g : _) (c : In_ok-next g) → dfa_value (g.R.AsNfa.nfa c.self.inside.nfa) c.self.inside.match_kind
+    c.self.inside.classes c.in_ok-next.next.items c.loop-number.starts
     (map (λ list. list.items) c.loop-row.patterns.items)
-    ≡ with_rows c.args.self.now c.in_ok-merged_rows.field-0.items c.loop-number.starts
+    ≡ with_rows c.args.self c.in_ok-next.next.items c.loop-number.starts
     (map (λ list. list.items) c.loop-row.patterns.items)
-value-is g c = let same : c.in_ok-clone-2.field-0 ≡ c.self.inside.classes = search rules in rw (same, ← c.self.view_is)
+value-is g c = rw (← c.self.view_is)
 
-starts-are : (g : _) (c : In_ok-merged_rows g)
-    → AreMergedStarts c.args.self.now.table c.args.parts.now c.loop-number.starts
+starts-are : (g : _) (c : In_ok-next g)
+    → AreMergedStarts c.args.self.table c.args.parts.now c.loop-number.starts
 starts-are g c = record { count = c.loop-number.invariant.count; blocks = grind arith }
 
-lists-are : (g : _) (c : In_ok-merged_rows g) → AreMergedLists c.args.self.now.table c.args.parts.now
+lists-are : (g : _) (c : In_ok-next g) → AreMergedLists c.args.self.table c.args.parts.now
     (map (λ list. list.items) c.loop-row.patterns.items)
 lists-are g c = record { count = grind (arith, length-map); rows = c.loop-row.invariant.rows }
 
 pub invariant_of-result : goal.invariant_of-result
 invariant_of-result g c =
-    let at = (goal.at.invariant_of-result g c).In_ok-merged_rows in
-    rw (value-is g at) (merged-dfa (rw c.self.view_is at c.self.invariant) c.requires c.in_ok-merged_rows.ensures
+    let at = (goal.at.invariant_of-result g c).In_ok-next in
+    rw (value-is g at) (merged-dfa (rw c.self.view_is at c.self.invariant) c.requires c.in_ok-next.ensures
     (starts-are g at) (lists-are g at))
 
 pub returns : goal.returns
-returns g c = rw (value-is g c) (merged-is (rw c.self.view_is at c.self.invariant) c.requires
-    c.in_ok-merged_rows.ensures (starts-are g c) (lists-are g c))
+returns g c =
+    let at = (goal.at.returns g c).In_ok-next in
+    rw (value-is g at) (merged-is (rw c.self.view_is at c.self.invariant) c.requires c.in_ok-next.ensures
+    (starts-are g at) (lists-are g at))
 
 pub loop-number-init : goal.loop-number-init
 loop-number-init g c = record {
