@@ -31,7 +31,7 @@ pub use Rattle.determinize_find.specs.Laws.{EachInputHasMatches, EachStartIsCove
 pub use Rattle.determinize_find.specs.LeftmostIn.{is_anchored, IsLeftmostIn, latest, moved}
 pub use Rattle.determinize_find.specs.Matches.{AreApart, AreMatches, BeginsAt, Covers, from, is_touching, IsEmptyAt}
 pub use Rattle.determinize_find.specs.Matches.{IsNext, IsTaken, touches}
-pub use Rattle.determinize_find.specs.Private.Begins.{asked_of, IsBeginOf, IsEnded, IsEndOf}
+pub use Rattle.determinize_find.specs.Private.Begins.{IsBeginOf, IsEnded, IsEndOf}
 pub use Rattle.determinize_find.specs.Private.Left.{left}
 pub use Rattle.determinize_find.specs.Private.Windows.{end_before, HasMoved, IsCertain, IsFresh, with_bytes, with_scan}
 pub use Rattle.determinize_find.specs.Private.Windows.{without_first}

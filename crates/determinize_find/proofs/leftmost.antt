@@ -1,3 +1,4 @@
+pub mod FullMatches
 pub mod PreferredRun
 pub mod SearchInTurn
 pub mod TwoSearches

@@ -5,6 +5,7 @@ pub use Rattle.determinize_nfa.specs.Runs
 pub mod Certain
 pub mod Cursors
 pub mod Endings
+pub mod FullMatches
 pub mod Idle
 pub mod Laws
 pub mod Leftmost

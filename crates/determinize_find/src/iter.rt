@@ -1,7 +1,7 @@
 //! A cursor over all matches of an input, and the list of them, by any finder.
 
 ghost use Rattle.std.specs.Prelude.{◌≡◌, ◌+◌, ◌≤◌, None, false, true, IfOk, OnErr};
-ghost use Rattle.std.specs.Option.{IfNone, IfSome};
+ghost use Rattle.std.specs.Option.{IfSome};
 ghost use Rattle.determinize_engine.specs.Searches.{has_start};
 ghost use Rattle.determinize_find.specs.Cursors.{after_match};
 ghost use Rattle.determinize_find.specs.LeftmostIn.{IsLeftmostIn};
@@ -9,6 +9,7 @@ ghost use Rattle.determinize_find.specs.Matches as matches;
 ghost use Rattle.determinize_find.specs.Matches.{AreMatches, IsNext};
 
 use crate::finder::Finder;
+use crate::laws::input_law;
 use determinize_below::{Input, Match};
 use std::alloc::{AllocError, Allocator};
 use std::marker::Model;
@@ -75,22 +76,6 @@ impl<'h> Searcher<'h> {
         }
         Ok(found)
     }
-
-    /// Moves the cursor as `advance` does, and returns any error as `AllocError`.
-    fn advance_with_alloc_error<F: Finder>(
-        &mut self,
-        finder: &mut F,
-    ) -> Result<Option<Match>, AllocError>
-        ensures next { IfOk result
-            (λ found. IsNext (F.nfa finder.old) self.old.asked self.old.before found) }
-        ensures after { IfOk result (λ found. self.new ≡ after_match self.old found) }
-        ensures same { finder.new ≡ finder.old }
-    {
-        let Ok(found) = self.advance(finder) else {
-            return Err(AllocError);
-        };
-        Ok(found)
-    }
 }
 
 /// Returns all matches of an input, in their order. Only the list is allocated from `alloc`.
@@ -105,15 +90,16 @@ pub fn find_all<F: Finder, C: Allocator>(
         (λ found. AreMatches (F.nfa finder.old) input.now None found.items) }
     ensures same { finder.new ≡ finder.old }
 {
-    let whole = Input::new(input.haystack())
-        .range(input.start()..input.end())
-        .anchored(input.get_anchored());
-    let mut searcher = Searcher::new(whole);
+    input_law(input);
+    let mut searcher = Searcher::new(input.from_index(input.start()));
     let mut all = Vec::new(alloc);
-    while let Some(found) = searcher.advance_with_alloc_error(finder)? {
-        all.push(found)?;
+    loop {
+        match searcher.advance(finder) {
+            Ok(Some(found)) => all.push(found)?,
+            Ok(None) => return Ok(all),
+            Err(_) => return Err(AllocError),
+        }
     }
-    Ok(all)
 }
 
 /// Returns the match of an input that follows a match which ended at `before`.
@@ -129,34 +115,11 @@ fn next_match<F: Finder>(
     ensures same { finder.new ≡ finder.old }
 {
     let first = finder.find(input)?;
-    match further(input, before, &first) {
-        Some(rest) => finder.find(&rest),
-        None => Ok(first),
+    if is_touching(before, &first) {
+        input_law(input);
+        return finder.find(&input.from_index(input.start() + 1));
     }
-}
-
-/// Returns the input without its first byte if its leftmost match is skipped: if that is empty, and
-/// begins where the match before it ended. The next match is then the leftmost one of the result.
-pub(crate) fn further<'h>(
-    input: &Input<'h>,
-    before: Option<usize>,
-    first: &Option<Match>,
-) -> Option<Input<'h>>
-    requires { IfSome first.now (λ m.
-        (input.now.start ≤ m.start) × (m.start ≤ m.end) × (m.end ≤ input.now.end)) }
-    ensures rest { IfSome result
-        (λ rest. rest ≡ matches.from input.now (input.now.start + 1)) }
-    ensures skipped { IfSome result (λ rest. matches.is_touching before first.now ≡ true) }
-    ensures next { IfNone result (matches.is_touching before first.now ≡ false) }
-{
-    if is_touching(before, first) {
-        let (haystack, start, end) = (input.haystack(), input.start(), input.end());
-        let rest = Input::new(haystack)
-            .range(start + 1..end)
-            .anchored(input.get_anchored());
-        return Some(rest);
-    }
-    None
+    Ok(first)
 }
 
 /// Returns whether there is a match, it is empty, and it begins where the one before it ended.

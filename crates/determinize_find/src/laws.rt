@@ -1,8 +1,25 @@
 //! Laws of the leftmost match, as public functions with empty bodies.
 
+ghost use Rattle.std.specs.Prelude.{◌<◌, ◌≤◌, All, length};
 ghost use Rattle.determinize_find.specs.Laws.{EachAnchoredIsLeftmost, EachBusyHasBegun, EachCertainIsPreferred, EachIdleIsFresh, EachInputHasMatches, EachLeftmostInIsOne, EachLeftmostIsOne, EachMatchesAreApart, EachMatchesAreOne, EachPreferredIsLeftmost, EachStartIsCovered};
 
+use determinize_below::Input;
 pub use determinize_nfa::laws::{mirror_law, shift_law};
+
+/// The haystack of an input has bytes, and fewer than `usize::MAX`, and its range ends within it.
+pub fn input_law(input: &Input<'_>)
+    ensures bytes { All (λ b. b < 256) input.now.haystack }
+    ensures size { length input.now.haystack < usize.MAX }
+    ensures within { input.now.end ≤ length input.now.haystack }
+{
+    bytes_law(input.haystack());
+    let _ = input.end();
+}
+
+/// The elements of a slice of bytes are less than 256.
+fn bytes_law(bytes: &[u8])
+    ensures { All (λ b. b < 256) bytes.now }
+{}
 
 /// A text has at most one leftmost match.
 #[tactic(auto, using(crate::proofs::matches::OneList::each_leftmost_is_one))]

@@ -10,7 +10,6 @@ pub mod finder;
 pub mod idle;
 pub mod iter;
 pub mod laws;
-pub mod owned;
 pub mod pieces;
 pub mod plain;
 pub mod regex;
@@ -23,7 +22,6 @@ pub use determinize_nfa::{
 pub use finder::Finder;
 pub use idle::is_idle;
 pub use iter::{Searcher, find_all};
-pub use owned::OwnedRegex;
 pub use pieces::Pieces;
 pub use plain::Plain;
-pub use regex::{LazyRegex, Regex};
+pub use regex::{Regex, cached_memory_usage};

@@ -21,8 +21,8 @@ ghost use Rattle.determinize_find.specs.Streams.{count_read, left_in};
 
 use crate::iter::{Searcher, is_touching};
 use crate::regex::Regex;
-use determinize_below::{Input, Match};
-use determinize_lazy::{Engine, Lazy, Scan};
+use determinize_below::{AsNfa, Input, Match};
+use determinize_lazy::{Engine, LazyDfa, Scan};
 use std::alloc::{AllocError, Allocator, Global};
 use std::marker::Model;
 
@@ -129,9 +129,9 @@ impl<A: Allocator + Copy> Pieces<A> {
 
     /// Keeps the next bytes of the text, which the search under way reads too. After an error
     /// nothing has changed.
-    fn keep<N: Allocator, B: Engine<Error = AllocError>>(
+    fn keep<R: AsNfa, B: Engine<Error = AllocError>>(
         &mut self,
-        regex: &mut Regex<Lazy<'_, N, A>, B>,
+        regex: &mut Regex<LazyDfa<R, A>, B>,
         block: &[u8],
     ) -> Result<(), AllocError>
         ensures kept { OnOk result
@@ -162,9 +162,9 @@ impl<A: Allocator + Copy> Pieces<A> {
 
     /// Begins the search of all kept bytes from the start on, if none is under way.
     #[inline(always)]
-    fn begin_scan<N: Allocator, B: Engine<Error = AllocError>>(
+    fn begin_scan<R: AsNfa, B: Engine<Error = AllocError>>(
         &mut self,
-        regex: &mut Regex<Lazy<'_, N, A>, B>,
+        regex: &mut Regex<LazyDfa<R, A>, B>,
     ) -> Result<(), AllocError>
         ensures begun { OnOk result (IsSome self.new.scan) }
         ensures kept { IsSome self.old.scan → self.new ≡ self.old }
@@ -202,9 +202,9 @@ impl<A: Allocator + Copy> Pieces<A> {
     }
 
     /// Returns whether the search under way is idle (`Regex::is_idle`).
-    fn is_idle<N: Allocator, B: Engine<Error = AllocError>>(
+    fn is_idle<R: AsNfa, B: Engine<Error = AllocError>>(
         &self,
-        regex: &Regex<Lazy<'_, N, A>, B>,
+        regex: &Regex<LazyDfa<R, A>, B>,
     ) -> bool
         ensures fresh { IsSearching regex.now.nfa self.now → result ≡ true
             → IsFresh regex.now.nfa self.now.kept self.now.start }
@@ -221,9 +221,9 @@ impl<A: Allocator + Copy> Pieces<A> {
 
     /// Begins a new search at the end of the kept bytes if the one under way is idle: then no match
     /// begins before. Called where no match is certain.
-    fn skip_idle<N: Allocator, B: Engine<Error = AllocError>>(
+    fn skip_idle<R: AsNfa, B: Engine<Error = AllocError>>(
         &mut self,
-        regex: &mut Regex<Lazy<'_, N, A>, B>,
+        regex: &mut Regex<LazyDfa<R, A>, B>,
     ) -> Result<(), AllocError>
         ensures moved { IsSearching regex.old.nfa self.old
             → HasMoved regex.old.nfa self.old self.new }
@@ -246,9 +246,9 @@ impl<A: Allocator + Copy> Pieces<A> {
 
     /// Begins a new search if the one under way is idle, and drops the bytes that no search needs
     /// any more. Called where no match is certain.
-    fn settle<N: Allocator, B: Engine<Error = AllocError>>(
+    fn settle<R: AsNfa, B: Engine<Error = AllocError>>(
         &mut self,
-        regex: &mut Regex<Lazy<'_, N, A>, B>,
+        regex: &mut Regex<LazyDfa<R, A>, B>,
     ) -> Result<(), AllocError>
         ensures moved { IsSearching regex.old.nfa self.old
             → HasMoved regex.old.nfa self.old self.new }
@@ -269,9 +269,9 @@ impl<A: Allocator + Copy> Pieces<A> {
     /// Returns the leftmost match of the kept bytes from the start on, by indices into these bytes,
     /// if the search under way makes it certain.
     #[inline(always)]
-    fn certain_now<N: Allocator, B: Engine<Error = AllocError>>(
+    fn certain_now<R: AsNfa, B: Engine<Error = AllocError>>(
         &self,
-        regex: &mut Regex<Lazy<'_, N, A>, B>,
+        regex: &mut Regex<LazyDfa<R, A>, B>,
     ) -> Result<Option<Match>, AllocError>
         ensures certain { IsSearching regex.old.nfa self.now → IfOk result (λ next. IfSome next
             (λ m. IsCertain regex.old.nfa self.now.kept self.now.start m)) }
@@ -292,9 +292,9 @@ impl<A: Allocator + Copy> Pieces<A> {
     ///
     /// Inlined, as the other steps that each match takes: with calls it takes 5 percent longer.
     #[inline(always)]
-    fn certain<N: Allocator, B: Engine<Error = AllocError>>(
+    fn certain<R: AsNfa, B: Engine<Error = AllocError>>(
         &mut self,
-        regex: &mut Regex<Lazy<'_, N, A>, B>,
+        regex: &mut Regex<LazyDfa<R, A>, B>,
     ) -> Result<Option<Match>, AllocError>
         ensures moved { IsSearching regex.old.nfa self.old
             → HasMoved regex.old.nfa self.old self.new }
@@ -322,9 +322,9 @@ impl<A: Allocator + Copy> Pieces<A> {
     /// Returns the next match if it is certain, as `certain` does. But an empty match where the one
     /// before ended is skipped, and the start is moved by one byte.
     #[inline(always)]
-    fn next_certain<N: Allocator, B: Engine<Error = AllocError>>(
+    fn next_certain<R: AsNfa, B: Engine<Error = AllocError>>(
         &mut self,
-        regex: &mut Regex<Lazy<'_, N, A>, B>,
+        regex: &mut Regex<LazyDfa<R, A>, B>,
     ) -> Result<Option<Match>, AllocError>
         ensures moved { IsSearching regex.old.nfa self.old
             → HasMoved regex.old.nfa self.old self.new }
@@ -359,9 +359,9 @@ impl<A: Allocator + Copy> Pieces<A> {
 
     /// Returns the next match in the text if it is certain, and moves the start to its end.
     #[inline(always)]
-    fn take_next<N: Allocator, B: Engine<Error = AllocError>>(
+    fn take_next<R: AsNfa, B: Engine<Error = AllocError>>(
         &mut self,
-        regex: &mut Regex<Lazy<'_, N, A>, B>,
+        regex: &mut Regex<LazyDfa<R, A>, B>,
     ) -> Result<Option<Match>, AllocError>
         ensures read { IsSearching regex.old.nfa self.old → (piece : List ℕ)
             → IsAdvance regex.old.nfa self.old self.new piece piece result }
@@ -382,9 +382,9 @@ impl<A: Allocator + Copy> Pieces<A> {
     }
 
     /// Reads the first block of a piece, and returns the next match if it is then certain.
-    fn read_next<N: Allocator, B: Engine<Error = AllocError>>(
+    fn read_next<R: AsNfa, B: Engine<Error = AllocError>>(
         &mut self,
-        regex: &mut Regex<Lazy<'_, N, A>, B>,
+        regex: &mut Regex<LazyDfa<R, A>, B>,
         piece: &mut &[u8],
     ) -> Result<Option<Match>, AllocError>
         ensures read { IsSearching regex.old.nfa self.old → IsAdvance regex.old.nfa
@@ -414,9 +414,9 @@ impl<A: Allocator + Copy> Pieces<A> {
     ///
     /// Returns `AllocError` as `feed` does. The piece is then what is left after the blocks that
     /// were read. To continue, call it again with what is left, through a `Regex` as `feed` needs.
-    pub fn advance<N: Allocator, B: Engine<Error = AllocError>>(
+    pub fn advance<R: AsNfa, B: Engine<Error = AllocError>>(
         &mut self,
-        regex: &mut Regex<Lazy<'_, N, A>, B>,
+        regex: &mut Regex<LazyDfa<R, A>, B>,
         piece: &mut &[u8],
     ) -> Result<Option<Match>, AllocError>
         ensures read { IsSearching regex.old.nfa self.old → IsAdvance regex.old.nfa
@@ -454,9 +454,9 @@ impl<A: Allocator + Copy> Pieces<A> {
     }
 
     /// Reads the next bytes, and adds each match that is certain.
-    fn read_block<N: Allocator, B: Engine<Error = AllocError>, C: Allocator>(
+    fn read_block<R: AsNfa, B: Engine<Error = AllocError>, C: Allocator>(
         &mut self,
-        regex: &mut Regex<Lazy<'_, N, A>, B>,
+        regex: &mut Regex<LazyDfa<R, A>, B>,
         block: &[u8],
         found: &mut Vec<Match, C>,
     ) -> Result<(), AllocError>
@@ -488,9 +488,9 @@ impl<A: Allocator + Copy> Pieces<A> {
     /// were fed through a `Regex` of another NFA and this is seen. The first bytes of the piece may
     /// have been read (`bytes_read`), and matches added. To continue, feed the rest, through a
     /// `Regex` of the NFA of the pieces before.
-    pub fn feed<N: Allocator, B: Engine<Error = AllocError>, C: Allocator>(
+    pub fn feed<R: AsNfa, B: Engine<Error = AllocError>, C: Allocator>(
         &mut self,
-        regex: &mut Regex<Lazy<'_, N, A>, B>,
+        regex: &mut Regex<LazyDfa<R, A>, B>,
         piece: &[u8],
         found: &mut Vec<Match, C>,
     ) -> Result<(), AllocError>
@@ -509,9 +509,9 @@ impl<A: Allocator + Copy> Pieces<A> {
     }
 
     /// Adds the matches that are left, if the text ends here.
-    fn add_rest<N: Allocator, B: Engine<Error = AllocError>, C: Allocator>(
+    fn add_rest<R: AsNfa, B: Engine<Error = AllocError>, C: Allocator>(
         &self,
-        regex: &mut Regex<Lazy<'_, N, A>, B>,
+        regex: &mut Regex<LazyDfa<R, A>, B>,
         found: &mut Vec<Match, C>,
     ) -> Result<(), AllocError>
         ensures finished { OnOk result (IsFinished regex.old.nfa self.now
@@ -532,9 +532,9 @@ impl<A: Allocator + Copy> Pieces<A> {
     ///
     /// Returns `AllocError` if an allocation fails or a cache would need more than 16647160 states.
     /// Then nothing is added, and it may be called again.
-    pub fn finish<N: Allocator, B: Engine<Error = AllocError>, C: Allocator>(
+    pub fn finish<R: AsNfa, B: Engine<Error = AllocError>, C: Allocator>(
         &self,
-        regex: &mut Regex<Lazy<'_, N, A>, B>,
+        regex: &mut Regex<LazyDfa<R, A>, B>,
         found: &mut Vec<Match, C>,
     ) -> Result<(), AllocError>
         ensures finished { OnOk result (IsFinished regex.old.nfa self.now

@@ -1,24 +1,19 @@
-//! The leftmost match by one anchored search after another, and all matches by it.
+//! The leftmost match by one anchored search after another.
 //!
-//! These calls accept any NFA that reads forward, with a prefix or without, and need no second one.
-//! An input may be read once from each index of its range, or only from its start if it is
-//! anchored. [`Plain`] takes any engine. The functions borrow a [`Lazy`], and say what is unchanged
-//! of it.
+//! It takes any NFA that reads forward, with a prefix or without, and no second one. An input may
+//! be read once from each index of its range, or only from its start if it is anchored.
 
 ghost use Rattle.std.specs.Prelude.{◌≡◌, ◌≤◌, cond, false, true, None, IfOk};
 ghost use Rattle.std.specs.Option.{IfSome};
 ghost use Rattle.determinize_below.specs.declared.search.MatchKind.TheVariants as kinds;
-ghost use Rattle.determinize_engine.specs.Searches.{has_start};
 ghost use Rattle.determinize_find.specs.LeftmostIn as inputs;
 ghost use Rattle.determinize_find.specs.LeftmostIn.{IsLeftmostIn};
-ghost use Rattle.determinize_find.specs.Matches.{AreMatches, IsNext};
 ghost use Rattle.determinize_find.specs.Private.BestAt.{IsBestIn};
 
 use crate::finder::Finder;
-use crate::iter::further;
 use determinize_below::{Anchored, Input, Match, NFA};
-use determinize_lazy::{Engine, Lazy};
-use std::alloc::{AllocError, Allocator, Global};
+use determinize_lazy::Engine;
+use std::alloc::{Allocator, Global};
 use std::marker::Model;
 
 /// A search for the leftmost match by one engine, which searches from each index of a range in
@@ -53,6 +48,13 @@ impl<'n, E: Engine, N: Allocator> Plain<'n, E, N> {
     {
         Plain { nfa, engine }
     }
+
+    /// Returns the engine, with all that its cache holds.
+    pub fn into_engine(self) -> E
+        ensures { E.engine result ≡ self.entry }
+    {
+        self.engine
+    }
 }
 
 impl<'n, E: Engine, N: Allocator> Finder for Plain<'n, E, N> {
@@ -70,9 +72,11 @@ fn latest_start<N: Allocator>(nfa: &NFA<N>, input: &Input<'_>) -> usize
     ensures { result ≡ cond (inputs.is_anchored nfa.now input.now.anchored)
         input.now.start input.now.end }
 {
-    match input.get_anchored() {
-        Anchored::No if nfa.start_unanchored() != nfa.start_anchored() => input.end(),
-        _ => input.start(),
+    let has_one_start = nfa.start_unanchored() == nfa.start_anchored();
+    if has_one_start || input.get_anchored().is_anchored() {
+        input.start()
+    } else {
+        input.end()
     }
 }
 
@@ -92,9 +96,7 @@ fn find_at<E: Engine>(
         (λ m. (m.start ≡ at) × (at ≤ m.end) × (m.end ≤ input.now.end))) }
     ensures same { E.engine engine.new ≡ E.engine engine.old }
 {
-    let from = Input::new(input.haystack())
-        .range(at..input.end())
-        .anchored(Anchored::Yes);
+    let from = input.from_index(at).anchored(Anchored::Yes);
     let Some(found) = engine.search_input(&from)? else {
         return Ok(None);
     };
@@ -120,94 +122,14 @@ fn find_in_turn<E: Engine, N: Allocator>(
         (input.now.start ≤ m.start) × (m.start ≤ m.end) × (m.end ≤ input.now.end))) }
     ensures same { E.engine engine.new ≡ E.engine engine.old }
 {
-    let (start, end) = (input.start(), input.end());
-    if start > end {
+    if input.is_done() {
         return Ok(None);
     }
     let latest = latest_start(nfa, input);
-    for at in start..latest {
+    for at in input.start()..latest {
         if let Some(found) = find_at(engine, input, at)? {
             return Ok(Some(found));
         }
     }
     find_at(engine, input, latest)
-}
-
-/// Returns the leftmost match of an input, if any: no match begins before it, and of those that
-/// begin at the same index it is the most preferred. Its ends are indices into the haystack.
-///
-/// The cache must be for `MatchKind::LeftmostFirst`, and its NFA must read forward. The bytes next
-/// to the range are seen by assertions.
-pub fn find<N: Allocator, A: Allocator + Copy>(
-    lazy: &mut Lazy<'_, N, A>,
-    input: &Input<'_>,
-) -> Result<Option<Match>, AllocError>
-    requires forward { lazy.old.nfa.reverse ≡ false }
-    requires kind { lazy.old.kind ≡ kinds.LeftmostFirst }
-    requires start { has_start input.now.anchored ≡ true }
-    ensures leftmost { IfOk result (λ found. IsLeftmostIn lazy.old.nfa input.now found) }
-    ensures within { IfOk result (λ found. IfSome found (λ m.
-        (input.now.start ≤ m.start) × (m.start ≤ m.end) × (m.end ≤ input.now.end))) }
-    ensures nfa { lazy.new.nfa ≡ lazy.old.nfa }
-    ensures kind { lazy.new.kind ≡ lazy.old.kind }
-    ensures limit { lazy.new.limit ≡ lazy.old.limit }
-{
-    let nfa = lazy.nfa();
-    find_in_turn(nfa, lazy, input)
-}
-
-/// Returns the match of an input that follows a match which ended at `before`, where the range
-/// starts. If `before` is `None`, returns the first match.
-///
-/// It is the leftmost match of the range. But an empty match where the one before ended is skipped,
-/// and the next match is then the leftmost one from one byte further on. The cache must be for
-/// `MatchKind::LeftmostFirst`, and its NFA must read forward.
-pub fn next_match<N: Allocator, A: Allocator + Copy>(
-    lazy: &mut Lazy<'_, N, A>,
-    input: &Input<'_>,
-    before: Option<usize>,
-) -> Result<Option<Match>, AllocError>
-    requires forward { lazy.old.nfa.reverse ≡ false }
-    requires kind { lazy.old.kind ≡ kinds.LeftmostFirst }
-    requires start { has_start input.now.anchored ≡ true }
-    ensures next { IfOk result (λ found. IsNext lazy.old.nfa input.now before found) }
-    ensures nfa { lazy.new.nfa ≡ lazy.old.nfa }
-    ensures kind { lazy.new.kind ≡ lazy.old.kind }
-    ensures limit { lazy.new.limit ≡ lazy.old.limit }
-{
-    let first = find(lazy, input)?;
-    match further(input, before, &first) {
-        Some(rest) => find(lazy, &rest),
-        None => Ok(first),
-    }
-}
-
-/// Returns all matches of an input, in their order: each is the [`next_match`] after the one before
-/// it. The cache must be for `MatchKind::LeftmostFirst`, and its NFA must read forward.
-pub fn find_all<N: Allocator, A: Allocator + Copy, B: Allocator>(
-    alloc: B,
-    lazy: &mut Lazy<'_, N, A>,
-    input: &Input<'_>,
-) -> Result<Vec<Match, B>, AllocError>
-    requires forward { lazy.old.nfa.reverse ≡ false }
-    requires kind { lazy.old.kind ≡ kinds.LeftmostFirst }
-    requires start { has_start input.now.anchored ≡ true }
-    ensures all { IfOk result (λ found. AreMatches lazy.old.nfa input.now None found.items) }
-    ensures nfa { lazy.new.nfa ≡ lazy.old.nfa }
-    ensures kind { lazy.new.kind ≡ lazy.old.kind }
-    ensures limit { lazy.new.limit ≡ lazy.old.limit }
-{
-    let mut found = Vec::new(alloc);
-    let (mut start, mut before) = (input.start(), None);
-    loop {
-        let rest = Input::new(input.haystack())
-            .range(start..input.end())
-            .anchored(input.get_anchored());
-        let Some(next) = next_match(lazy, &rest, before)? else {
-            return Ok(found);
-        };
-        start = next.end;
-        before = Some(next.end);
-        found.push(next)?;
-    }
 }

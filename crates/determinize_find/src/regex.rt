@@ -1,9 +1,11 @@
 //! The leftmost match by two searches: one forward for its end, and one backward for its start.
 
 ghost use Rattle.std.specs.Prelude.{◌≡◌, ◌+◌, ◌++◌, ◌-◌, ◌<◌, ◌≤◌, ℕ, List, None, Option, [], drop};
-ghost use Rattle.std.specs.Prelude.{All, false, length, true, IfOk, IsSome, Ok, OnErr, OnOk};
+ghost use Rattle.std.specs.Prelude.{false, length, min, true, IfErr, IfOk, IsSome, Ok, OnErr, OnOk};
 ghost use Rattle.std.specs.Bool.{Decides};
 ghost use Rattle.std.specs.Option.{IfNone, IfSome};
+ghost use Rattle.determinize_below.specs.Edges.{pattern_count};
+ghost use Rattle.determinize_below.specs.Nfa.{IsAccepted};
 ghost use Rattle.determinize_below.specs.Search.{is_done};
 ghost use Rattle.determinize_below.specs.declared.search.MatchKind.TheVariants as kinds;
 ghost use Rattle.determinize_start.specs.StartKinds.{byte_before};
@@ -14,34 +16,40 @@ ghost use Rattle.determinize_find.specs.LeftmostIn.{IsLeftmostIn};
 ghost use Rattle.determinize_find.specs.Matches.{AreMatches};
 ghost use Rattle.determinize_nfa.specs.Prefix.{HasPrefix, HasPrefixApart};
 ghost use Rattle.determinize_find.specs.Endings.{IsEnding};
-ghost use Rattle.determinize_find.specs.Private.Begins.{IsBeginOf, IsEndOf, asked_of};
+ghost use Rattle.determinize_find.specs.FullMatches.{IsFullMatch};
+ghost use Rattle.determinize_find.specs.Private.Begins.{IsBeginOf, IsEndOf};
 ghost use Rattle.determinize_find.specs.Private.Windows.{IsCertain, IsFresh, IsInside};
-ghost use Rattle.determinize_nfa.specs.Reversal.{IsReverseOf};
+ghost use Rattle.determinize_nfa.specs.Reversal.{IsReverseOf, IsTooLarge, most_states};
 ghost use Rattle.determinize_find.specs.Streams.{IsEndScan};
+ghost use Rattle.determinize_lazy.specs.MostBytes.{most_bytes};
+ghost use Rattle.determinize_table.specs.CacheBytes.{cache_bytes};
 
 use crate::certain::certain_match;
 use crate::finder::Finder;
 use crate::idle::is_idle;
 use crate::iter::find_all;
+use crate::laws::input_law;
 use crate::prefix::has_prefix_apart;
-use determinize_below::{Anchored, HalfMatch, Input, Match, MatchKind, NFA};
-use determinize_lazy::{Engine, Lazy, Scan};
-use std::alloc::{AllocError, Allocator, Global};
+use crate::reversal::reversed;
+use determinize_below::nfa::BuildError;
+use determinize_below::{Anchored, AsNfa, HalfMatch, Input, Match, MatchKind, NFA};
+use determinize_core::start::byte_before;
+use determinize_lazy::{Engine, LazyDfa, Scan};
+use std::alloc::{AllocError, Allocator};
 use std::marker::Model;
-use std::ops::Range;
 
 /// A search for the leftmost match: a DFA that finds its end, and one that reads backward and finds
 /// its start. Either may be lazy, or built in advance (`determinize_dense`).
+///
+/// Over two lazy DFAs that own their NFAs (`from_nfa`) a function can return it, and a struct can
+/// hold it. Others may borrow the NFAs of that one (`borrowed`).
 #[derive(Drop)]
 pub struct Regex<F: Engine, B: Engine<Error = F::Error>> {
-    pub(crate) forward: F,
-    pub(crate) backward: B,
-    // Whether the prefix of the NFA is apart (`has_prefix_apart`), if that is known.
-    is_apart: Option<bool>,
+    forward: F,
+    backward: B,
+    // Whether it is known that the prefix of the NFA is apart (`has_prefix_apart`).
+    is_apart: bool,
 }
-
-/// A search for the leftmost match by two lazy DFAs.
-pub type LazyRegex<'n, N = Global, B = Global, A = Global> = Regex<Lazy<'n, N, A>, Lazy<'n, B, A>>;
 
 impl<F: Engine, B: Engine<Error = F::Error>> Model for Regex<F, B> {
     ghost use Rattle.determinize_find.specs.Regexes.{RegexValue};
@@ -57,26 +65,6 @@ impl<F: Engine, B: Engine<Error = F::Error>> Model for Regex<F, B> {
     } };
 
     ghost invariant = { λ r. IsPair (F.engine r.forward) (B.engine r.backward) r.is_apart };
-}
-
-/// Returns the byte before an index, if any.
-fn look_behind(haystack: &[u8], index: usize) -> Option<u8>
-    ensures { result ≡ byte_before haystack.now index }
-{
-    match index {
-        0 => None,
-        index => haystack.get(index - 1).copied(),
-    }
-}
-
-/// Returns the input of a range of a haystack.
-fn input_of<'h>(haystack: &'h [u8], range: Range<usize>, anchored: Anchored) -> Input<'h>
-    requires in_haystack { range.end ≤ length haystack.now }
-    requires near { range.start ≤ range.end + 1 }
-    ensures value { result ≡ asked_of haystack.now range.start range.end anchored }
-    ensures bytes { All (λ b. b < 256) haystack.now }
-{
-    Input::new(haystack).range(range).anchored(anchored)
 }
 
 impl<F: Engine, B: Engine<Error = F::Error>> Regex<F, B> {
@@ -102,7 +90,7 @@ impl<F: Engine, B: Engine<Error = F::Error>> Regex<F, B> {
         Regex {
             forward,
             backward,
-            is_apart: None,
+            is_apart: false,
         }
     }
 
@@ -151,28 +139,8 @@ impl<F: Engine, B: Engine<Error = F::Error>> Regex<F, B> {
             (λ m. (input.now.start ≤ m.offset) × (m.offset ≤ input.now.end))) }
         ensures same { self.new ≡ self.old }
     {
-        let range = input.start()..input.end();
-        self.find_end(input.haystack(), range, input.get_anchored())
-    }
-
-    /// Returns the pattern and the end of the leftmost match of a range of a haystack, if any.
-    fn find_end(
-        &mut self,
-        haystack: &[u8],
-        range: Range<usize>,
-        anchored: Anchored,
-    ) -> Result<Option<HalfMatch>, F::Error>
-        requires in_haystack { range.end ≤ length haystack.now }
-        requires near { range.start ≤ range.end + 1 }
-        requires start { has_start anchored ≡ true }
-        ensures end { IfOk result (λ found.
-            IsEnding self.old.nfa (asked_of haystack.now range.start range.end anchored) found) }
-        ensures within { IfOk result (λ found. IfSome found
-            (λ m. (range.start ≤ m.offset) × (m.offset ≤ range.end))) }
-        ensures same { self.new ≡ self.old }
-    {
-        let input = input_of(haystack, range, anchored);
-        self.forward.search_input(&input)
+        input_law(input);
+        self.forward.search_input(input)
     }
 
     /// Returns the farthest index, not before `start`, at which a match begins that has this end.
@@ -229,9 +197,9 @@ impl<F: Engine, B: Engine<Error = F::Error>> Regex<F, B> {
             (input.now.start ≤ m.start) × (m.start ≤ m.end) × (m.end ≤ input.now.end))) }
         ensures same { self.new ≡ self.old }
     {
+        input_law(input);
         let (haystack, first) = (input.haystack(), input.start());
-        let range = first..input.end();
-        let Some(found) = self.find_end(haystack, range, input.get_anchored())? else {
+        let Some(found) = self.search_half(input)? else {
             return Ok(None);
         };
         let start = match input.get_anchored() {
@@ -256,9 +224,26 @@ impl<F: Engine, B: Engine<Error = F::Error>> Regex<F, B> {
         ensures done { is_done input.now ≡ true → result ≡ Ok false }
         ensures same { self.new ≡ self.old }
     {
-        let range = input.start()..input.end();
-        let whole = input_of(input.haystack(), range, input.get_anchored());
-        self.forward.is_match(&whole)
+        input_law(input);
+        self.forward.is_match(input)
+    }
+
+    /// Returns whether the whole range of an input is a match of some pattern, preferred or not:
+    /// some run from the anchored start reads all of it and accepts. This is so for any anchored
+    /// mode of the input. If the range starts past its end, the result is `Ok(false)`.
+    ///
+    /// Reads the range once, backward.
+    pub fn is_full_match(&mut self, input: &Input<'_>) -> Result<bool, F::Error>
+        ensures found { IfOk result
+            (λ found. Decides found (IsFullMatch self.old.nfa input.now)) }
+        ensures same { self.new ≡ self.old }
+    {
+        input_law(input);
+        let range = input.from_index(input.start()).anchored(Anchored::Yes);
+        let Some(begin) = self.backward.search_input(&range)? else {
+            return Ok(false);
+        };
+        Ok(begin.offset == input.start())
     }
 
     /// Returns all matches of an input, in their order. Only the list is allocated from `alloc`.
@@ -286,40 +271,142 @@ impl<F: Engine, B: Engine<Error = F::Error>> Finder for Regex<F, B> {
     }
 }
 
-impl<'n, N: Allocator, B: Allocator, A: Allocator + Copy> LazyRegex<'n, N, B, A> {
+impl<R: AsNfa, Q: AsNfa, A: Allocator + Copy> Regex<LazyDfa<R, A>, LazyDfa<Q, A>> {
     /// Returns a search with two empty caches of at most `limit` states each, as
-    /// `Lazy::new_by_class` makes them. Does not allocate. Searches allocate from `alloc`.
+    /// `LazyDfa::new_by_class` makes them. Does not allocate. Searches allocate from `alloc`.
     ///
     /// The NFA must read forward and have the usual prefix (`has_prefix`), and `backward` must be
-    /// its reverse, as `reversed` returns it.
-    pub fn new(
-        alloc: A,
-        nfa: &'n NFA<N>,
-        backward: &'n NFA<B>,
-        limit: usize,
-    ) -> LazyRegex<'n, N, B, A>
-        requires forward { nfa.now.reverse ≡ false }
-        requires prefix { HasPrefix nfa.now }
-        requires reverse { IsReverseOf backward.now nfa.now }
+    /// its reverse, as `reversed` returns it. Each is an NFA or a reference to one.
+    pub fn new(alloc: A, nfa: R, backward: Q, limit: usize) -> Regex<LazyDfa<R, A>, LazyDfa<Q, A>>
+        requires forward { (R.nfa nfa).reverse ≡ false }
+        requires prefix { HasPrefix (R.nfa nfa) }
+        requires reverse { IsReverseOf (Q.nfa backward) (R.nfa nfa) }
         ensures { result ≡ record {
-          nfa = nfa.now;
-          backward = backward.now;
+          nfa = R.nfa nfa;
+          backward = Q.nfa backward;
           limit = limit;
           limit_backward = limit;
         } }
     {
+        let is_apart = has_prefix_apart(nfa.nfa());
         Regex {
-            forward: Lazy::new_by_class(alloc, nfa, MatchKind::LeftmostFirst, limit),
-            backward: Lazy::new_by_class(alloc, backward, MatchKind::All, limit),
-            is_apart: Some(has_prefix_apart(nfa)),
+            forward: LazyDfa::new_by_class(alloc, nfa, MatchKind::LeftmostFirst, limit),
+            backward: LazyDfa::new_by_class(alloc, backward, MatchKind::All, limit),
+            is_apart,
         }
+    }
+
+    /// Returns a search that borrows the NFAs of this one, with two empty caches of at most `limit`
+    /// states each. Does not allocate. Takes the classes of bytes, and whether the prefix is apart,
+    /// from this search. Searches allocate from `alloc`.
+    pub fn borrowed<C: Allocator + Copy>(
+        &self,
+        alloc: C,
+        limit: usize,
+    ) -> Regex<LazyDfa<&NFA<R::N>, C>, LazyDfa<&NFA<Q::N>, C>>
+        ensures value { result ≡ record {
+          nfa = self.now.nfa;
+          backward = self.now.backward;
+          limit = limit;
+          limit_backward = limit;
+        } }
+        ensures accepted { IsAccepted self.now.nfa }
+    {
+        Regex {
+            forward: self
+                .forward
+                .borrowed(alloc, MatchKind::LeftmostFirst, limit),
+            backward: self.backward.borrowed(alloc, MatchKind::All, limit),
+            is_apart: self.is_apart,
+        }
+    }
+
+    /// Returns the NFA.
+    pub fn nfa(&self) -> &NFA<R::N>
+        ensures value { result.now ≡ self.now.nfa }
+        ensures accepted { IsAccepted self.now.nfa }
+        ensures forward { self.now.nfa.reverse ≡ false }
+        ensures prefix { HasPrefix self.now.nfa }
+    {
+        self.forward.nfa()
+    }
+
+    /// Returns the reverse of the NFA.
+    pub fn reverse(&self) -> &NFA<Q::N>
+        ensures value { result.now ≡ self.now.backward }
+        ensures reverse { IsReverseOf result.now self.now.nfa }
+    {
+        self.backward.nfa()
+    }
+
+    /// Returns the heap memory of the cached states of both DFAs, in bytes: the value of
+    /// `cached_memory_usage`. It is at most what the limits and the NFAs give.
+    pub fn memory_usage(&self) -> usize
+        ensures { result ≤ most_bytes self.now.limit self.now.nfa
+            + most_bytes self.now.limit_backward self.now.backward }
+    {
+        cached_memory_usage(&self.forward, &self.backward)
+    }
+
+    /// Clears both caches, and keeps their memory.
+    pub fn clear(&mut self)
+        ensures { self.new ≡ self.old }
+    {
+        self.forward.clear();
+        self.backward.clear();
+    }
+
+    /// Clears both caches, and frees their memory and the working memory.
+    pub fn reset(&mut self)
+        ensures { self.new ≡ self.old }
+    {
+        self.forward.reset();
+        self.backward.reset();
     }
 }
 
-impl<'n, N: Allocator, A: Allocator + Copy, B: Engine<Error = AllocError>> Regex<
-    Lazy<'n, N, A>,
-    B,
-> {
+impl<A: Allocator + Copy> Regex<LazyDfa<NFA<A>, A>, LazyDfa<NFA<A>, A>> {
+    /// Returns a search that owns its NFAs, with two empty caches as `new` makes them. The NFA and
+    /// its reverse, which is made here, are allocated from `alloc`, and so are the caches later.
+    ///
+    /// The NFA must read forward and have the usual prefix (`has_prefix`). The errors are those of
+    /// `reversed`.
+    pub fn from_nfa(
+        alloc: A,
+        nfa: NFA<A>,
+        limit: usize,
+    ) -> Result<Regex<LazyDfa<NFA<A>, A>, LazyDfa<NFA<A>, A>>, BuildError>
+        requires forward { nfa.reverse ≡ false }
+        requires prefix { HasPrefix nfa }
+        ensures nfa { IfOk result (λ regex. regex.nfa ≡ nfa) }
+        ensures reverse { IfOk result (λ regex. IsReverseOf regex.backward nfa) }
+        ensures limit { IfOk result (λ regex. regex.limit ≡ limit) }
+        ensures limit_backward { IfOk result (λ regex. regex.limit_backward ≡ limit) }
+        ensures size { IfOk result (λ regex. length regex.backward.states ≤ most_states nfa) }
+        ensures pattern { IfOk result (λ regex. pattern_count regex.backward ≡ 1) }
+        ensures err { IfErr result (λ e. IsTooLarge (most_states nfa) e) }
+    {
+        let backward = reversed(alloc, &nfa)?;
+        Ok(Regex::new(alloc, nfa, backward, limit))
+    }
+}
+
+/// Returns the heap memory of the cached states of both DFAs of a `Regex`, in bytes: of
+/// `regex.forward()` and `regex.backward()`.
+pub fn cached_memory_usage<R: AsNfa, Q: AsNfa, A: Allocator + Copy>(
+    forward: &LazyDfa<R, A>,
+    backward: &LazyDfa<Q, A>,
+) -> usize
+    ensures value { result
+        ≡ min (cache_bytes forward.now.states + cache_bytes backward.now.states) usize.MAX }
+    ensures most { result ≤ most_bytes forward.now.limit forward.now.nfa
+        + most_bytes backward.now.limit backward.now.nfa }
+{
+    let usage = forward.cached_memory_usage();
+    usage.saturating_add(backward.cached_memory_usage())
+}
+
+impl<R: AsNfa, A: Allocator + Copy, B: Engine<Error = AllocError>> Regex<LazyDfa<R, A>, B> {
     /// Returns the search for the end of the leftmost match of a haystack from an index on, after
     /// all of its bytes. More pieces of the text may follow.
     #[inline(always)]
@@ -331,7 +418,7 @@ impl<'n, N: Allocator, A: Allocator + Copy, B: Engine<Error = AllocError>> Regex
         ensures same { self.new ≡ self.old }
     {
         let unanchored = self.forward.nfa().start_unanchored();
-        let behind = look_behind(haystack, start);
+        let behind = byte_before(haystack, start);
         self.forward
             .scan_text(unanchored, behind, &haystack[start..])
     }
@@ -393,10 +480,7 @@ impl<'n, N: Allocator, A: Allocator + Copy, B: Engine<Error = AllocError>> Regex
     fn is_apart(&self) -> bool
         ensures { Decides result (HasPrefixApart self.now.nfa) }
     {
-        match self.is_apart {
-            Some(is_apart) => is_apart,
-            None => has_prefix_apart(self.forward.nfa()),
-        }
+        self.is_apart || has_prefix_apart(self.forward.nfa())
     }
 
     /// Returns whether the search of the bytes of a haystack from an index on has read some of
@@ -411,12 +495,9 @@ impl<'n, N: Allocator, A: Allocator + Copy, B: Engine<Error = AllocError>> Regex
             → start < length haystack.now → result ≡ true }
         ensures some { result ≡ true → start < length haystack.now }
     {
-        if !self.is_apart() {
-            return false;
-        }
         if start == haystack.len() {
             return false;
         }
-        is_idle(self.forward.nfa(), scan)
+        is_idle(self.forward.nfa(), scan) && self.is_apart()
     }
 }

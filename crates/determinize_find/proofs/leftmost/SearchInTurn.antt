@@ -3,7 +3,7 @@
 -- Used by: `plain::find_at` and `find_in_turn`, all on leftmost matches, and searches in turn of `determinize_linear`.
 -- Idea: the text from a later index is the rest of the text, where runs keep their choices (Shifts), and the first
 -- index with a match is the least one where a run accepts.
-use Rattle.determinize_find.proofs.Common.{Accepts, AcceptsFrom, ap, arith, Asked, asked_of, before_at, between}
+use Rattle.determinize_find.proofs.Common.{Accepts, AcceptsFrom, ap, arith, Asked, before_at, between}
 use Rattle.determinize_find.proofs.Common.{by_cases, byte_before, cases_lt, cond, drop, drop-drop, drop-take}
 use Rattle.determinize_find.proofs.Common.{each_run_moves, each_run_reads_forward, false, from, HalfMatch, is_anchored}
 use Rattle.determinize_find.proofs.Common.{IsLeftmost, IsLeftmostIn, IsLeftmostMatch, IsSearchResult, latest, le-ltb}
@@ -100,7 +100,7 @@ module _ (nfa : Nfa) (asked : Asked) (at : ℕ) (forward : nfa.reverse ≡ false
   base = at - asked.start
 
   abbrev own : Asked
-  own = asked_of asked.haystack at asked.end Yes
+  own = record (from asked at) { anchored = Yes }
 
   text_is : text_of nfa.reverse own ≡ since (text_of false asked) base
   text_is = rw forward (text-since asked own base refl (omega arith) refl (omega arith))

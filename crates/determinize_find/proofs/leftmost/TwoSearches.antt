@@ -4,7 +4,7 @@
 -- Idea: runs of any pattern that end where the leftmost match ends begin where it does or later, so the farthest
 -- backward is its start.
 use Rattle.determinize_find.proofs.Common.{Accepts, AcceptsFrom, All, All-drop, All-from_get_or, All-take, arith, Asked}
-use Rattle.determinize_find.proofs.Common.{asked_of, between, Bool, by_cases, by_test, cases_lt, cond, end_of, false}
+use Rattle.determinize_find.proofs.Common.{between, Bool, by_cases, by_test, cases_lt, cond, end_of, false}
 use Rattle.determinize_find.proofs.Common.{false≢true, Fits, HalfMatch, has_start, HasMatch, HasPrefix, IfOk}
 use Rattle.determinize_find.proofs.Common.{in_haystack, is_anchored, is_done, IsEnded, IsEnding, IsLeftmost}
 use Rattle.determinize_find.proofs.Common.{IsLeftmostIn, IsReverseOf, IsSearchResult, last_in, le-ltb, LeftmostFirst}
@@ -48,7 +48,7 @@ module _ (nfa : Nfa) (text : Text) (has : HasPrefix nfa) (small : All (λ b. b <
   begins_somewhere (Pattern k) cs i y s acc = cc
 
 -- a search of an input of bytes, by an engine that reads forward
-module _ {forward backward : EngineValue} {flag : Option Bool} (pair : IsPair forward backward flag) (asked : Asked)
+module _ {forward backward : EngineValue} {flag : Bool} (pair : IsPair forward backward flag) (asked : Asked)
     (start : has_start asked.anchored ≡ true) (within : asked.end ≤ length asked.haystack)
     (bytes : All (λ b. b < 256) asked.haystack) where
   abbrev nfa : Nfa
@@ -113,9 +113,13 @@ module _ {forward backward : EngineValue} {flag : Option Bool} (pair : IsPair fo
           (λ l. let e = ending_of l None (λ cs i y acc. false≢true
           (sym f ∙ (d (le-ltb _ _ l)).1 (cs, i, y, rw text_is acc))) in grind arith)
 
+-- what a search backward from the end of a match reads
+abbrev pub before_end : List ℕ → ℕ → ℕ → Asked
+before_end haystack start end = record { haystack = haystack; start = start; end = end; anchored = Yes }
+
 -- the start of a range up to a match, in reverse, is the text up to there in the other direction
-text-back : (asked : Asked) (j : ℕ) → asked.start + j ≤ asked.end → asked.end ≤ length asked.haystack
-    → text_of true (asked_of asked.haystack asked.start (asked.start + j) Yes) ≡ turned (upto (text_of false asked) j)
+pub text-back : (asked : Asked) (j : ℕ) → asked.start + j ≤ asked.end → asked.end ≤ length asked.haystack
+    → text_of true (before_end asked.haystack asked.start (asked.start + j)) ≡ turned (upto (text_of false asked) j)
 text-back asked j l within =
     grind (arith, take-take, slice_get-take, slice_get-drop, or_some, slice_get_past, length-take, length-drop)
 
@@ -145,9 +149,9 @@ module _ {nfa : Nfa} {haystack : List ℕ} {start end : ℕ} {asked : Asked} {m 
     reads_back : backward.reverse ≡ true
     reads_back = rw (is.direction, forward)
 
-    back_is : text_of backward.reverse (asked_of haystack start end Yes) ≡ back
+    back_is : text_of backward.reverse (before_end haystack start end) ≡ back
     back_is =
-        let same : asked_of haystack start end Yes ≡ asked_of asked.haystack asked.start (asked.start + n.end) Yes
+        let same : before_end haystack start end ≡ before_end asked.haystack asked.start (asked.start + n.end)
         = cc (e.same, e.starts, e.ends, own.end) in
         rw (same, reads_back) (text-back asked n.end (omega (arith, own.end, lie.high)) (rw e.same e.within))
 
@@ -158,7 +162,7 @@ module _ {nfa : Nfa} {haystack : List ℕ} {start end : ℕ} {asked : Asked} {m 
         (own.leftmost.choices, n.pattern, own.leftmost.accepts)
 
     -- so a search backward finds one
-    pub some_found : IsSearchResult backward kinds.All (asked_of haystack start end Yes) None → ⊥
+    pub some_found : IsSearchResult backward kinds.All (before_end haystack start end) None → ⊥
     some_found s =
         let (cs, y, acc) = accepts_back in s.none (le-ltb _ _ ended_within.0) (cs, n.end - n.start, y, rw back_is acc)
 
@@ -178,7 +182,7 @@ module _ {nfa : Nfa} {haystack : List ℕ} {start end : ℕ} {asked : Asked} {m 
         omega (arith, lie.order, own.start, own.end, far ds (n.end - n.start) y acc))
 
     -- and it is where the match begins
-    pub begin_found : (h : HalfMatch) → IsSearchResult backward kinds.All (asked_of haystack start end Yes) (Some h)
+    pub begin_found : (h : HalfMatch) → IsSearchResult backward kinds.All (before_end haystack start end) (Some h)
         → m.start ≡ h.offset
     begin_found h s =
         let (i, offset, far) = s.farthest refl in

@@ -2,14 +2,8 @@
 use Rattle.std.specs.Prelude.{◌≡◌, ◌≤◌, ℕ, List, Some, length}
 use Rattle.determinize_below.specs.Semantics.{Nfa}
 use Rattle.determinize_below.specs.Search.{Asked}
-use Rattle.determinize_below.specs.declared.search.Anchored.{Anchored}
 use Rattle.determinize_below.specs.declared.search.Match.{Match}
 use Rattle.determinize_find.specs.LeftmostIn.{IsLeftmostIn}
-
--- the range of a haystack
-abbrev pub asked_of : List ℕ → ℕ → ℕ → Anchored → Asked
-asked_of haystack start end anchored =
-    record { haystack = haystack; start = start; end = end; anchored = anchored }
 
 -- the match is the leftmost one of some range that starts at this index, and has this end
 pub record IsEnded (nfa : Nfa) (haystack : List ℕ) (start end : ℕ) (asked : Asked) (m : Match)

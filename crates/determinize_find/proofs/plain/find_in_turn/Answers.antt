@@ -1,4 +1,4 @@
-use Rattle.determinize_find.proofs.Common.{ap, arith, IfOk-weaker, None, rules, Some, ◌≡◌}
+use Rattle.determinize_find.proofs.Common.{ap, arith, IfOk-weaker, ltb-false, None, rules, Some, sym, ◌∙◌, ◌≡◌}
 use Rattle.determinize_find.proofs.leftmost.SearchInTurn.{found_here, found_last, IsLatest, latest_is, more_nothing}
 use Rattle.determinize_find.proofs.plain.find_in_turn.Given.{Over}
 use Rattle.determinize_find.proofs.plain.find_in_turn.Goals.{After-latest_start-latest}
@@ -8,7 +8,7 @@ use Rattle.determinize_find.proofs.plain.find_in_turn.Goals as goal
 latest : (g : Over) (c : After-latest_start-latest g)
     → IsLatest (g.E.Engine.engine c.args.engine.now).nfa c.args.input.now c.latest_start-latest.result
 latest g c = latest_is _ c.args.input.now c.latest_start-latest.result c.args.nfa.now
-    (omega (arith, c.if-start-end.false, c.start-start.ensures.value, c.end-end.ensures.value)) c.requires.nfa
+    (omega (arith, ltb-false _ _ (sym c.is_done.ensures ∙ c.if-is_done.false))) c.requires.nfa
     c.latest_start-latest.ensures
 
 pub returns-in-Some-clause-leftmost : goal.returns-in-Some-clause-leftmost
@@ -17,7 +17,7 @@ returns-in-Some-clause-leftmost g c =
     found_here _ _ c.args.input.now c.loop-at.at c.latest_start-latest.result c.in-Some.found
     (ap (λ v. v.nfa) c.loop-at.invariant.same)
     (latest g (goal.at.returns-in-Some-clause-leftmost g c).After-latest_start-latest)
-    (omega (arith, c.start-start.ensures.value)) (omega arith) c.loop-at.invariant.nothing
+    (omega (arith, c.start-at.ensures.value)) (omega arith) c.loop-at.invariant.nothing
     (rw is at c.in_ok-found.ensures.best)
 
 pub loop-at-preserved : goal.loop-at-preserved
@@ -25,7 +25,7 @@ loop-at-preserved g c =
     let is : c.in_ok-found.field-0 ≡ None = search rules in record {
       same = search rules;
       nothing = more_nothing _ _ c.args.input.now c.loop-at.at (ap (λ v. v.nfa) c.loop-at.invariant.same)
-          (omega (arith, c.start-start.ensures.value)) c.loop-at.invariant.nothing
+          (omega (arith, c.start-at.ensures.value)) c.loop-at.invariant.nothing
           (rw is at c.in_ok-found.ensures.best);
     }
 

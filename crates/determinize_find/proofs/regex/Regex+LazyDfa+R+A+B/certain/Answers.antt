@@ -2,9 +2,9 @@ use Rattle.determinize_find.proofs.Common.{arith, byte_before, drop, false≢tru
 use Rattle.determinize_find.proofs.Common.{rules, sym, ◌+◌, ◌∙◌, ◌≡◌, ◌≤◌}
 use Rattle.determinize_find.proofs.leftmost.TwoSearches.{all_bytes}
 use Rattle.determinize_find.proofs.streams.Certain.{certain_is, HasCertain, is_ended}
-use Rattle.determinize_find.proofs.regex.Regex+Lazy+N+A+B.certain.Given.{Over}
-use Rattle.determinize_find.proofs.regex.Regex+Lazy+N+A+B.certain.Goals.{In-Some, In-Some-2}
-use Rattle.determinize_find.proofs.regex.Regex+Lazy+N+A+B.certain.Goals as goal
+use Rattle.determinize_find.proofs.regex.Regex+LazyDfa+R+A+B.certain.Given.{Over}
+use Rattle.determinize_find.proofs.regex.Regex+LazyDfa+R+A+B.certain.Goals.{In-Some, In-Some-2}
+use Rattle.determinize_find.proofs.regex.Regex+LazyDfa+R+A+B.certain.Goals as goal
 
 -- the match of which the scan gives the end
 has : (g : Over) (c : In-Some g) → IsEndScan c.args.self.now.nfa (byte_before c.args.haystack.now c.args.start)
