@@ -1,6 +1,6 @@
 -- What a search over the NFA of patterns finds is what the patterns match.
--- Main statements: each_leftmost_in_is_of, each_matches_are_of.
--- Used by: `laws::matches_of_law`.
+-- Main statements: next_by, each_leftmost_in_is_of, each_matches_are_of.
+-- Used by: `laws::matches_of_law`, FoundByRegex.
 -- Idea: after the usual prefix the two starts differ, so the last position where a match may begin depends on the input
 -- only; all matches are those of one relation for one input, so equal relations have equal lists.
 use Rattle.std.proofs.Common.{◌≡◌, ◌∷◌, ℕ, List, None, Option, Some, [], cond, refl}
@@ -27,7 +27,7 @@ module _ (IsFirst IsOther : Asked → Option Match → Type 0)
   taken_by asked before None found t = t
   taken_by asked before (Some m) found t = (λ e. all (from asked _) found (t.0 e), t.1)
 
-  next_by : (asked : Asked) (before : Option ℕ) (found : Option Match) → IsNextBy IsFirst asked before found
+  pub next_by : (asked : Asked) (before : Option ℕ) (found : Option Match) → IsNextBy IsFirst asked before found
       → IsNextBy IsOther asked before found
   next_by asked before found n = (n.0, all asked n.0 n.1, taken_by asked before n.0 found n.2)
 

@@ -1,9 +1,9 @@
 -- What a walk under `All` lists over the NFA of patterns is what the patterns match.
--- Main statements: each_anchored_list_is_of, each_list_is_of.
--- Used by: `laws::patterns_at_law`.
+-- Main statements: accepted_is, each_anchored_list_is_of, each_list_is_of.
+-- Used by: `laws::patterns_at_law`, `RegexSet`.
 -- Idea: a run from the unanchored start skips bytes and is then one from the anchored start; fewer skipped bytes are
 -- preferred, and of the runs from one position those that accept an earlier pattern.
-use Rattle.std.specs.Prelude.{All, Contains}
+use Rattle.std.specs.Prelude.{◌↔◌, All, Contains}
 use Rattle.std.proofs.Common.{◌≡◌, ◌<◌, ◌≤◌, ◌+◌, ◌⊎◌, ◌∷◌, ℕ, List, ap, arith, inl, inr, length, suc, sym, zero}
 use Rattle.std.proofs.lemmas.Bool.{cases_lt}
 use Rattle.determinize_below.specs.Edges.{pattern_in}
@@ -100,6 +100,15 @@ module _ (res : List Re) (nfa : Nfa) (is : IsNfaOf res nfa) (text : Text) where
           accepts = (a.0, rw z at s.run, a.2);
         }
 
+    -- a run accepts a pattern exactly if the pattern has a match with this end
+    pub accepted_is : (i x : ℕ) → ((cs : List ℕ) × Accepts nfa text nfa.start_unanchored cs i x)
+        ↔ ((k : ℕ) × (k ≤ length text.bytes) × Contains (found k) (x, i))
+    accepted_is i x = (
+      λ a. let s = skipped a.0 i x a.1 in (s.over, s.within, (is.each text s.over i x).0 (s.then, s.accepts)),
+      λ c. let r = (is.each text c.0 i x).1 c.2 in
+          (skip c.0 r.0, from_start nfa text has small c.0 r.0 i x c.1 r.1),
+    )
+
     -- a run of pattern x that is before one of y from position k began earlier, or there, with x < y
     begun_first : (i x y : ℕ) (cs : List ℕ) (s : Skipped cs i x) → ¬ (x ≡ y) → (k : ℕ) (es : List ℕ)
         → AcceptsFrom nfa text k nfa.start_anchored es i y → Before cs (skip k es)
@@ -141,10 +150,8 @@ module _ (res : List Re) (nfa : Nfa) (is : IsNfaOf res nfa) (text : Text) where
         → ArePatternsAt nfa.terminator res text (length text.bytes) i xs
     list_is_of i xs h = record {
       accepted = λ x. (
-        λ c. let a = (h.accepted x).0 c in
-            let s = skipped a.0 i x a.1 in (s.over, s.within, (is.each text s.over i x).0 (s.then, s.accepts)),
-        λ c. let r = (is.each text c.0 i x).1 c.2 in
-            (h.accepted x).1 (skip c.0 r.0, from_start nfa text has small c.0 r.0 i x c.1 r.1),
+        λ c. (accepted_is i x).0 ((h.accepted x).0 c),
+        λ c. (h.accepted x).1 ((accepted_is i x).1 c),
       );
       best_first = pairs_from (IsBetterAt nfa.terminator res text (length text.bytes) i) xs (λ j k x y l p q.
           let b = pairs_at (AreBestRuns nfa text nfa.start_unanchored i) xs h.best_first j k x y l p q in

@@ -1,17 +1,21 @@
 -- A text is cut at one match after another, and other bytes are put in their places.
--- Main statements: kept_apart, one_part, last_part, one_replaced, last_replaced, each_replaced_is_joined.
--- Used by: `whole_matches_in`, `split_at`, `replace`, and `laws::parts_law`.
+-- Main statements: kept_apart, one_part, last_part, called_more, one_more_match, one_of_each,
+-- last_of_each, one_replaced, last_replaced, each_replaced_is_joined.
+-- Used by: `whole_matches_in`, `split_at`, `replace`, `replace_each`, and `laws::parts_law`.
 -- Idea: what is made of the matches so far, and then of the rest from their end on, is what is made of all.
-use Rattle.std.specs.List.{flat_map, join_by}
+use Rattle.std.specs.Borrow.{Bor}
+use Rattle.std.specs.List.{FoldsTo, flat_map, join_by}
 use Rattle.std.specs.Prelude.{filter, slice_range}
-use Rattle.std.proofs.Common.{◌≡◌, ◌<◌, ◌≤◌, ◌++◌, ◌∙◌, ◌∷◌, ℕ, Bool, List, Option, Some, [], append-nil, append_assoc, arith, drop, map, refl, sym}
+use Rattle.std.proofs.Common.{◌≡◌, ◌<◌, ◌≤◌, ◌++◌, ◌∙◌, ◌∷◌, ℕ, Bool, List, Option, Some, [], ap, append-nil, append_assoc, arith, drop}
+use Rattle.std.proofs.Common.{◌+◌, get_or, length, map, refl, sym, take}
 use Rattle.std.proofs.lemmas.Bool.{cond_both}
-use Rattle.std.proofs.lemmas.List.{map-append}
+use Rattle.std.proofs.lemmas.Fn.{FoldsTo-push}
+use Rattle.std.proofs.lemmas.List.{map-append, take_more}
 use Rattle.determinize_below.proofs.Moved.{one_more}
 use Rattle.determinize_below.specs.declared.search.Match.{Match}
 use Rattle.determinize_find.specs.Matches.{AreApart}
 use Rattle.determinize_regex.specs.Laws.{EachReplacedIsJoined}
-use Rattle.determinize_regex.specs.Parts.{parts, replaced}
+use Rattle.determinize_regex.specs.Parts.{parts, replaced, replaced_each}
 
 -- the matches that are left lie in the text from an index on
 pub record AreLeft (text_size at : ℕ) (found : List Match) : Type 0 where
@@ -71,6 +75,42 @@ module _ {X : Type 0} (bytes : X → List ℕ) (text : List ℕ) where
   last_part cut more p all at found none part is h =
       let so_far : map bytes cut ++ (drop at text ∷ []) ≡ all = rw none at h in
       rw (is, map-append bytes cut (p ∷ []), part) so_far
+
+-- one more call of a function, for the match that it was shown
+pub called_more : {F : Type 0} (Step : F → Bor Match → Bor (List ℕ) → F → Type 0) (first : F)
+    (each : List (Match × Bor (List ℕ))) (last : F) (shown : Bor Match) (by : Bor (List ℕ)) (next : F)
+    → FoldsTo (λ p x q. (s : Bor Match) × (s.now ≡ x.0) × Step p s x.1 q) first each last → Step last shown by next
+    → FoldsTo (λ p x q. (s : Bor Match) × (s.now ≡ x.0) × Step p s x.1 q) first (each ++ (shown.now, by) ∷ []) next
+called_more Step first each last shown by next calls call =
+    FoldsTo-push (λ p x q. (s : Bor Match) × (s.now ≡ x.0) × Step p s x.1 q) first each last (shown.now, by) next calls
+    (shown, refl, call)
+
+-- the matches so far, and the next one
+pub one_more_match : (each : List (Match × Bor (List ℕ))) (x : Match × Bor (List ℕ)) (found : List Match) (i : ℕ)
+    → i < length found → x.0 ≡ get_or found i x.0 → map (λ x. x.0) each ≡ take i found
+    → map (λ x. x.0) (each ++ x ∷ []) ≡ take (i + 1) found
+one_more_match each x found i l e so_far = map-append (λ x. x.0) each (x ∷ []) ∙ ap (λ l. l ++ x.0 ∷ []) so_far
+    ∙ ap (λ m. take i found ++ m ∷ []) e ∙ sym (take_more found i x.0 l)
+
+module _ (text : List ℕ) where
+  -- the bytes so far, before the rest of the text with some more replaced matches, are the text with all of them
+  abbrev pub IsNewOfEach : ℕ → List (Match × Bor (List ℕ)) → List ℕ → Type 0
+  IsNewOfEach at each new = (more : List (Match × Bor (List ℕ)))
+      → new ++ replaced_each text at more ≡ replaced_each text 0 (each ++ more)
+
+  pub one_of_each : (new mid later : List ℕ) (at : ℕ) (each : List (Match × Bor (List ℕ))) (x : Match × Bor (List ℕ))
+      → mid ≡ new ++ slice_range text at x.0.start → later ≡ mid ++ x.1.now → IsNewOfEach at each new
+      → IsNewOfEach x.0.end (each ++ x ∷ []) later
+  one_of_each new mid later at each x first is h more =
+      let so_far : new ++ (slice_range text at x.0.start ++ x.1.now ++ replaced_each text x.0.end more)
+      ≡ replaced_each text 0 (each ++ x ∷ more) = h (x ∷ more) in
+      rw (is, first) (simp append_assoc (simp append_assoc at so_far))
+
+  pub last_of_each : (new later : List ℕ) (at : ℕ) (each : List (Match × Bor (List ℕ)))
+      → later ≡ new ++ drop at text → IsNewOfEach at each new → later ≡ replaced_each text 0 each
+  last_of_each new later at each is h =
+      let so_far : new ++ drop at text ≡ replaced_each text 0 (each ++ []) = h [] in
+      rw (append-nil each) at (is ∙ so_far)
 
 module _ (by text : List ℕ) where
   -- the bytes so far, before those that are left, are all

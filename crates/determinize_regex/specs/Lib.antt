@@ -1,3 +1,4 @@
+pub mod Errors
 pub mod Laws
 pub mod Parts
 pub mod PatternMatches
@@ -5,6 +6,7 @@ pub mod PatternsAt
 pub mod Private
 pub mod RegexBytes
 pub mod Regexes
+pub mod Sets
 pub mod Spelled
 pub mod Streams
 pub mod Utf8

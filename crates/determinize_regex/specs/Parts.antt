@@ -1,5 +1,7 @@
 -- The parts of a text between matches, and texts with other bytes in place of matches.
-use Rattle.std.specs.Prelude.{◌≡◌, ◌++◌, ◌∷◌, ℕ, List, [], drop, filter, slice_range}
+use Rattle.std.specs.Borrow.{Bor}
+use Rattle.std.specs.List.{FoldsTo}
+use Rattle.std.specs.Prelude.{◌≡◌, ◌++◌, ◌∷◌, ℕ, List, [], drop, filter, map, slice_range}
 use Rattle.determinize_below.specs.declared.search.Match.{Match}
 use Rattle.determinize_regex.specs.Regexes.{AreAllIn, RegexValue}
 use Rattle.determinize_regex.specs.Utf8.{is_whole}
@@ -38,3 +40,19 @@ pub record IsReplacedUtf8 (regex : RegexValue) (text by new : List ℕ) : Type 0
   pub matches : List Match
   pub all : AreAllIn regex text matches
   pub is : new ≡ replaced by text 0 (filter (is_whole text) matches)
+
+-- a text, from an index on, in which each match is replaced by the bytes paired with it
+abbrev pub replaced_each : List ℕ → ℕ → List (Match × Bor (List ℕ)) → List ℕ
+replaced_each text at [] = drop at text
+replaced_each text at (x ∷ xs) =
+    slice_range text at x.0.start ++ x.1.now ++ replaced_each text x.0.end xs
+
+-- this is a text in which each of these matches is replaced by what a function returned for it,
+-- called for one after the other, where `Call` says what a call for a match returns and leaves
+pub record IsReplacedBy {F : Type 0} (Call : F → Match × Bor (List ℕ) → F → Type 0) (first : F)
+    (found : List Match) (text new : List ℕ) : Type 0 where
+  pub each : List (Match × Bor (List ℕ))
+  pub last : F
+  pub calls : FoldsTo Call first each last
+  pub matches : map (λ x. x.0) each ≡ found
+  pub is : new ≡ replaced_each text 0 each

@@ -1,9 +1,15 @@
 -- What a regex is seen as, and what it finds.
-use Rattle.std.specs.Prelude.{ℕ, List, None, Option, Some, map}
+use Rattle.std.specs.Prelude.{◌≡◌, ◌-◌, ◌≤◌, ℕ, Contains, false, List, None, Option, Some, map}
 use Rattle.determinize_below.specs.Search.{Asked}
 use Rattle.determinize_below.specs.Semantics.{Nfa}
 use Rattle.determinize_below.specs.declared.search.Match.{Match}
+use Rattle.determinize_engine.specs.Searches.{text_of}
+use Rattle.determinize_find.specs.Cursors.{SearcherValue}
+use Rattle.determinize_find.specs.Matches.{IsNextBy}
 use Rattle.determinize_find.specs.Streams.{whole}
+use Rattle.determinize_nfa.specs.Prefix.{HasPrefix, HasPrefixApart}
+use Rattle.determinize_pattern.specs.Compiled.{IsNfaOf}
+use Rattle.determinize_pattern.specs.LeftmostOf.{all_ends}
 use Rattle.determinize_pattern.specs.Meaning.{Re}
 use Rattle.determinize_pattern.specs.Patterns.{meaning}
 use Rattle.determinize_pattern.specs.declared.pattern.Pattern.{Pattern}
@@ -21,6 +27,13 @@ pub record RegexValue : Type 0 where
 abbrev pub meanings : RegexValue → List Re
 meanings regex = map meaning regex.patterns
 
+-- the NFA is one of the patterns, with the usual prefix, which is apart
+pub record IsRegex (regex : RegexValue) : Type 0 where
+  pub means : IsNfaOf (meanings regex) regex.nfa
+  pub prefix : HasPrefix regex.nfa
+  pub apart : HasPrefixApart regex.nfa
+  pub ends : regex.nfa.terminator ≡ regex.terminator
+
 -- the leftmost match of the patterns in the input
 abbrev pub IsFirst : RegexValue → Asked → Option Match → Type 0
 IsFirst regex = IsLeftmostOfIn regex.terminator (meanings regex)
@@ -36,3 +49,13 @@ AreAllIn regex text = AreAll regex (whole text)
 -- the patterns have a match in the input
 abbrev pub HasFirst : RegexValue → Asked → Type 0
 HasFirst regex asked = (m : Match) × IsFirst regex asked (Some m)
+
+-- the match of the patterns that follows a cursor
+abbrev pub IsNextOf : RegexValue → SearcherValue → Option Match → Type 0
+IsNextOf regex s found = IsNextBy (IsFirst regex) s.asked s.before found
+
+-- some pattern matches the whole range of the input
+abbrev pub HasFull : RegexValue → Asked → Type 0
+HasFull regex asked = (asked.start ≤ asked.end) × (pattern : ℕ)
+    × Contains (all_ends regex.terminator (text_of false asked) 0 (meanings regex) 0)
+    (pattern, asked.end - asked.start)

@@ -1,7 +1,6 @@
 -- All matches of patterns in a text that comes in pieces.
 use Rattle.std.specs.Prelude.{◌≡◌, ◌+◌, ◌<◌, ◌≤◌, ◌++◌, ◌∷◌, ℕ, [], All, List, drop, length}
 use Rattle.std.specs.Prelude.{take}
-use Rattle.determinize_below.specs.Semantics.{Nfa}
 use Rattle.determinize_below.specs.declared.search.Match.{Match}
 use Rattle.determinize_find.specs.Matches.{from}
 use Rattle.determinize_find.specs.Streams.{IsKept, KeepsFew, KeptFewInBlocks, Streamed, before}
@@ -55,22 +54,20 @@ pub record IsFrontFedOf (old new : StreamValue) (piece rest : List ℕ) (found :
   pub cut : front ++ rest ≡ piece
   pub fed : IsFedOf old new front [] found
 
--- few bytes were kept at the end of each block of a piece, by an NFA of the patterns whose prefix
+-- few bytes were kept at the end of each block of a piece, by the NFA of the patterns, whose prefix
 -- is apart
 pub record KeptFewOf (old new : StreamValue) (piece : List ℕ) (list after : List Match)
     : Type 0 where
-  pub nfa : Nfa
-  pub means : IsNfaOf (meanings old.regex) nfa
-  pub apart : HasPrefixApart nfa
-  pub few : KeptFewInBlocks nfa old.pieces new.pieces piece list after
+  pub means : IsNfaOf (meanings old.regex) old.regex.nfa
+  pub apart : HasPrefixApart old.regex.nfa
+  pub few : KeptFewInBlocks old.regex.nfa old.pieces new.pieces piece list after
 
--- no match of the search under way is certain, and few bytes are kept, by an NFA of the patterns
+-- no match of the search under way is certain, and few bytes are kept, by the NFA of the patterns,
 -- whose prefix is apart
 pub record KeepsFewOf (s : StreamValue) : Type 0 where
-  pub nfa : Nfa
-  pub means : IsNfaOf (meanings s.regex) nfa
-  pub apart : HasPrefixApart nfa
-  pub few : KeepsFew nfa s.pieces
+  pub means : IsNfaOf (meanings s.regex) s.regex.nfa
+  pub apart : HasPrefixApart s.regex.nfa
+  pub few : KeepsFew s.regex.nfa s.pieces
 
 -- before the last bytes that were read, at most 4096, no match was certain and few bytes were kept;
 -- with them this match was found

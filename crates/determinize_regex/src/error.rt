@@ -4,12 +4,14 @@ ghost use Rattle.std.specs.Prelude.{◌≡◌};
 ghost use Rattle.determinize_below.specs.declared.nfa.BuildError.TheVariants.{OutOfMemory};
 ghost use Rattle.determinize_pattern.specs.declared.nfa.CompileError.TheVariants.{Build};
 ghost use Rattle.determinize_regex.specs.declared.error.Error.TheVariants.{Compile};
+ghost use Rattle.determinize_regex.specs.Errors.{is_out_of_memory};
 
 use determinize_below::BuildError;
 use determinize_pattern::CompileError;
-use determinize_syntax::ParseError;
+use determinize_syntax::{ErrorKind, ParseError};
 use std::alloc::{AllocError, AllocFailed};
-use std::{error, fmt};
+use std::io::Write;
+use std::{error, fmt, io};
 
 /// An error from the patterns of a regex.
 #[derive(Clone, Copy, Debug, PartialEq, Eq)]
@@ -30,6 +32,41 @@ impl fmt::Display for Error {
 }
 
 impl error::Error for Error {}
+
+impl Error {
+    /// Returns whether an allocation failed. If so, the patterns may be valid.
+    pub fn is_out_of_memory(&self) -> bool
+        ensures { result ≡ is_out_of_memory self.now }
+    {
+        matches!(
+            self,
+            Error::Parse {
+                error: ParseError {
+                    kind: ErrorKind::OutOfMemory,
+                    ..
+                },
+                ..
+            } | Error::Compile(CompileError::Build(BuildError::OutOfMemory))
+        )
+    }
+}
+
+/// Returns an error of kind `OutOfMemory`, or else of kind `InvalidInput` with this text, cut to 80
+/// bytes. So `?` works in a `main` that returns an `io::Result`.
+impl From<Error> for io::Error {
+    fn from(error: Error) -> io::Error {
+        if error.is_out_of_memory() {
+            return io::Error::from(io::ErrorKind::OutOfMemory);
+        }
+        let mut bytes = [0u8; 80];
+        let mut rest = bytes.as_mut_slice();
+        let _ = write!(rest, "{error}");
+        let left = rest.len();
+        let written = bytes.get(..bytes.len().saturating_sub(left)).unwrap_or(&[]);
+        let text = str::from_utf8(written).unwrap_or("the patterns are not valid");
+        io::Error::new(io::ErrorKind::InvalidInput, text)
+    }
+}
 
 impl From<CompileError> for Error {
     ghost from_gives = { λ error e. e ≡ Compile error };

@@ -1,7 +1,8 @@
 //! Patterns and their matches, from one crate: all that a program needs to search for patterns.
 //!
 //! A [`Regex`] is compiled once and then searches. A [`Matcher`] searches for the same patterns
-//! with separate caches, and a [`Stream`] in a text that comes in pieces.
+//! with separate caches, and a [`Stream`] in a text that comes in pieces. A [`RegexSet`] finds
+//! which of several patterns match.
 //!
 //! `compile` of `determinize_pattern` makes the NFA, and `determinize_find` searches it. The
 //! [`laws`] join their contracts: the leftmost match that a search finds is that of the patterns,
@@ -12,22 +13,26 @@
 //! `Anchored::Pattern`.
 #![tactic(auto)]
 
+pub mod as_patterns;
 pub mod error;
 pub mod laws;
-pub mod matcher;
 pub mod regex;
+mod search;
+mod set;
 mod split;
 pub mod stream;
 pub mod utf8;
 
+pub use as_patterns::AsPatterns;
 pub use determinize_below::{
-    Anchored, BuildError, Input, Look, LookMatcher, Match, NFA, PatternID,
+    Anchored, AsNfa, BuildError, Input, Look, LookMatcher, Match, NFA, PatternID,
 };
+pub use determinize_find::{Finder, Searcher};
 pub use determinize_pattern::{
     ClassBytes, ClassBytesRange, ClassUnicodeRange, CompileError, Config, Pattern,
 };
 pub use determinize_syntax::{ErrorKind, Flags, ParseError};
 pub use error::Error;
-pub use matcher::Matcher;
-pub use regex::{Regex, RegexConfig};
+pub use regex::{Matcher, Regex, RegexConfig};
+pub use set::RegexSet;
 pub use stream::Stream;

@@ -1,21 +1,109 @@
 //! Texts without the matches of patterns: the parts between them, or other bytes in their place.
 
-ghost use Rattle.std.specs.Prelude.{◌≡◌, IfOk, None, length, map};
+ghost use Rattle.std.specs.Prelude.{◌≡◌, IfOk, List, None, length, map};
+ghost use Rattle.determinize_below.specs.declared.search.Match.{Match as Found};
 ghost use Rattle.determinize_find.specs.Matches.{AreApart, AreMatches};
 ghost use Rattle.determinize_find.specs.Streams.{whole};
-ghost use Rattle.determinize_regex.specs.Parts.{parts, replaced};
+ghost use Rattle.determinize_regex.specs.Parts.{AreParts, AreUtf8Parts, IsReplaced, IsReplacedBy, IsReplacedUtf8, parts, replaced};
 ghost use Rattle.determinize_regex.specs.Private.Searched.{AreWholeMatches};
+ghost use Rattle.determinize_regex.specs.Regexes.{AreAllIn};
 
+use crate::as_patterns::AsPatterns;
+use crate::regex::Regex;
 use crate::utf8::retain_whole;
-use determinize_below::{Input, Match};
-use determinize_find::Regex;
+use determinize_below::{AsNfa, Input, Match};
+use determinize_find::Regex as Search;
 use determinize_lazy::Engine;
 use std::alloc::{AllocError, Allocator};
 
+impl<P: AsPatterns, R: AsNfa, A: Allocator + Copy> Regex<P, R, A> {
+    /// Returns the parts of a text between its matches, in their order: one more than there are
+    /// matches, and each may be empty. The list is allocated from `alloc`.
+    pub fn split<'h, C: Allocator + Copy>(
+        &mut self,
+        alloc: C,
+        haystack: &'h [u8],
+    ) -> Result<Vec<&'h [u8], C>, AllocError>
+        ensures parts { IfOk result
+            (λ cut. AreParts self.old haystack.now (map (λ part. part.now) cut.items)) }
+        ensures same { self.new ≡ self.old }
+    {
+        let found = matches_in(alloc, &mut self.search, haystack)?;
+        split_at(alloc, haystack, &found)
+    }
+
+    /// Returns a text with other bytes in place of each match. They are taken as they are: a `$1`
+    /// is no group, since there are no captures. The new text is allocated from `alloc`.
+    pub fn replace_all<C: Allocator + Copy>(
+        &mut self,
+        alloc: C,
+        haystack: &[u8],
+        replacement: &[u8],
+    ) -> Result<Vec<u8, C>, AllocError>
+        ensures replaced { IfOk result
+            (λ new. IsReplaced self.old haystack.now replacement.now new.items) }
+        ensures same { self.new ≡ self.old }
+    {
+        let found = matches_in(alloc, &mut self.search, haystack)?;
+        replace(alloc, haystack, &found, replacement)
+    }
+
+    /// Returns a text in which each match is replaced by the bytes that a function returns for it,
+    /// for instance by the number of its pattern. The function is called for one match after the
+    /// other. The new text is allocated from `alloc`.
+    pub fn replace_with<'t, C: Allocator + Copy, F: FnMut(&Match) -> &'t [u8]>(
+        &mut self,
+        alloc: C,
+        haystack: &[u8],
+        replacement: F,
+    ) -> Result<Vec<u8, C>, AllocError>
+        requires { F.IsAlwaysCallable replacement }
+        ensures replaced { IfOk result (λ new. (found : List Found)
+            × AreAllIn self.old haystack.now found × IsReplacedBy
+            (λ p x q. (shown : _) × (shown.now ≡ x.0) × F.step p shown x.1 q) replacement
+            found haystack.now new.items) }
+        ensures same { self.new ≡ self.old }
+    {
+        let found = matches_in(alloc, &mut self.search, haystack)?;
+        replace_each(alloc, haystack, &found, replacement)
+    }
+
+    /// Returns the parts of a text between its matches, as `split`, but does not cut the text at
+    /// the empty matches inside an encoded character. The text should be UTF-8.
+    pub fn split_utf8<'h, C: Allocator + Copy>(
+        &mut self,
+        alloc: C,
+        haystack: &'h [u8],
+    ) -> Result<Vec<&'h [u8], C>, AllocError>
+        ensures parts { IfOk result
+            (λ cut. AreUtf8Parts self.old haystack.now (map (λ part. part.now) cut.items)) }
+        ensures same { self.new ≡ self.old }
+    {
+        let found = whole_matches_in(alloc, &mut self.search, haystack)?;
+        split_at(alloc, haystack, &found)
+    }
+
+    /// Returns a text with other bytes in place of each match, as `replace_all`, but puts none
+    /// inside an encoded character for an empty match there. The text should be UTF-8.
+    pub fn replace_all_utf8<C: Allocator + Copy>(
+        &mut self,
+        alloc: C,
+        haystack: &[u8],
+        replacement: &[u8],
+    ) -> Result<Vec<u8, C>, AllocError>
+        ensures replaced { IfOk result
+            (λ new. IsReplacedUtf8 self.old haystack.now replacement.now new.items) }
+        ensures same { self.new ≡ self.old }
+    {
+        let found = whole_matches_in(alloc, &mut self.search, haystack)?;
+        replace(alloc, haystack, &found, replacement)
+    }
+}
+
 /// Returns all matches of a text, in their order.
-pub(crate) fn matches_in<F: Engine, B: Engine<Error = F::Error>, C: Allocator>(
+fn matches_in<F: Engine, B: Engine<Error = F::Error>, C: Allocator>(
     alloc: C,
-    regex: &mut Regex<F, B>,
+    regex: &mut Search<F, B>,
     text: &[u8],
 ) -> Result<Vec<Match, C>, AllocError>
     ensures all { IfOk result
@@ -27,9 +115,9 @@ pub(crate) fn matches_in<F: Engine, B: Engine<Error = F::Error>, C: Allocator>(
 }
 
 /// Returns all matches of a text but the empty ones inside an encoded character, in their order.
-pub(crate) fn whole_matches_in<F: Engine, B: Engine<Error = F::Error>, C: Allocator>(
+fn whole_matches_in<F: Engine, B: Engine<Error = F::Error>, C: Allocator>(
     alloc: C,
-    regex: &mut Regex<F, B>,
+    regex: &mut Search<F, B>,
     text: &[u8],
 ) -> Result<Vec<Match, C>, AllocError>
     ensures all { IfOk result
@@ -43,7 +131,7 @@ pub(crate) fn whole_matches_in<F: Engine, B: Engine<Error = F::Error>, C: Alloca
 }
 
 /// Returns the parts of a text between matches.
-pub(crate) fn split_at<'h, C: Allocator>(
+fn split_at<'h, C: Allocator>(
     alloc: C,
     text: &'h [u8],
     found: &[Match],
@@ -63,7 +151,7 @@ pub(crate) fn split_at<'h, C: Allocator>(
 }
 
 /// Returns a text with other bytes in place of each match.
-pub(crate) fn replace<C: Allocator>(
+fn replace<C: Allocator + Copy>(
     alloc: C,
     text: &[u8],
     found: &[Match],
@@ -77,6 +165,31 @@ pub(crate) fn replace<C: Allocator>(
     for next in found {
         new.extend_from_slice(&text[at..next.start])?;
         new.extend_from_slice(replacement)?;
+        at = next.end;
+    }
+    new.extend_from_slice(&text[at..])?;
+    Ok(new)
+}
+
+/// Returns a text with, in place of each match, the bytes that a function returns for it.
+fn replace_each<'t, C: Allocator, F: FnMut(&Match) -> &'t [u8]>(
+    alloc: C,
+    text: &[u8],
+    found: &[Match],
+    replacement: F,
+) -> Result<Vec<u8, C>, AllocError>
+    requires apart { AreApart 0 None (length text.now) found.now }
+    requires callable { F.IsAlwaysCallable replacement }
+    ensures { IfOk result (λ new. IsReplacedBy
+        (λ p x q. (shown : _) × (shown.now ≡ x.0) × F.step p shown x.1 q) replacement
+        found.now text.now new.items) }
+{
+    let mut call = replacement;
+    let mut new = Vec::new(alloc);
+    let mut at = 0;
+    for next in found {
+        new.extend_from_slice(&text[at..next.start])?;
+        new.extend_from_slice(call(next))?;
         at = next.end;
     }
     new.extend_from_slice(&text[at..])?;

@@ -4,15 +4,16 @@ ghost use Rattle.std.specs.Prelude.{◌≡◌, ◌<◌, ◌⊎◌, ◌↔◌, �
 ghost use Rattle.std.specs.Prelude.{IfOk, IsSome, OnErr, OnOk};
 ghost use Rattle.std.specs.List.{slice_range};
 ghost use Rattle.std.specs.Option.{IfNone, IfSome};
+ghost use Rattle.determinize_below.specs.Nfa.{IsAccepted};
 ghost use Rattle.determinize_find.specs.Streams.{IsKept, count_kept, count_read, left_in};
-ghost use Rattle.determinize_regex.specs.Private.Searched.{IsSearchOf};
+ghost use Rattle.determinize_regex.specs.Regexes.{IsRegex};
 ghost use Rattle.determinize_regex.specs.Streams.{IsFedOf, IsFinishedOf, IsFoundInBlockOf};
 ghost use Rattle.determinize_regex.specs.Streams.{IsFrontFedOf, IsPartFedOf, IsStreamOf};
 ghost use Rattle.determinize_regex.specs.Streams.{KeepsFewOf, KeptFewOf};
 
-use crate::regex::Regex;
+use crate::regex::Matcher;
 use determinize_below::Match;
-use determinize_find::{LazyRegex, OwnedRegex, Pieces};
+use determinize_find::Pieces;
 use std::alloc::{AllocError, Allocator, Global};
 use std::marker::Model;
 
@@ -26,8 +27,7 @@ use std::marker::Model;
 /// `determinize_find`.
 #[derive(Drop)]
 pub struct Stream<'r, A: Allocator + Copy = Global> {
-    regex: &'r Regex,
-    search: LazyRegex<'r, Global, Global, A>,
+    matcher: Matcher<'r, A>,
     pieces: Pieces<A>,
 }
 
@@ -41,40 +41,21 @@ impl<'r, A: Allocator + Copy> Model for Stream<'r, A> {
 
     ghost coded = { Prim.hlevel (codes, e.the_row.coded) };
 
-    ghost view = { λ s. record {
-      regex = record {
-        patterns = s.regex.now.patterns;
-        terminator = s.regex.now.terminator;
-        nfa = s.search.nfa;
-        limit = s.search.limit;
-      };
-      pieces = s.pieces;
-    } };
+    ghost view = { λ s. record { regex = s.matcher; pieces = s.pieces } };
 
-    ghost invariant = { λ s.
-        IsStreaming s.regex.now.patterns s.regex.now.terminator s.search s.pieces };
+    ghost invariant = { λ s. IsStreaming s.matcher s.pieces };
 }
 
 impl<'r, A: Allocator + Copy> Stream<'r, A> {
-    /// Returns a search that has read nothing yet, by the NFAs of the search of a regex.
-    pub(crate) fn new(
-        alloc: A,
-        regex: &'r Regex,
-        search: &'r OwnedRegex,
-        limit: usize,
-    ) -> Stream<'r, A>
-        requires { IsSearchOf regex.now.patterns regex.now.terminator search.now }
-        ensures regex { result.regex ≡ record {
-          patterns = regex.now.patterns;
-          terminator = regex.now.terminator;
-          nfa = search.now.nfa;
-          limit = limit;
-        } }
+    /// Returns a search by a matcher that has read nothing yet.
+    pub(crate) fn new(alloc: A, matcher: Matcher<'r, A>) -> Stream<'r, A>
+        requires is { IsRegex matcher }
+        requires accepted { IsAccepted matcher.nfa }
+        ensures regex { result.regex ≡ matcher.entry }
         ensures stream { IsStreamOf result [] [] }
     {
         Stream {
-            regex,
-            search: LazyRegex::new(alloc, search.nfa(), search.reverse(), limit),
+            matcher,
             pieces: Pieces::new(alloc),
         }
     }
@@ -111,7 +92,7 @@ impl<'r, A: Allocator + Copy> Stream<'r, A> {
             (KeptFewOf self.old self.new piece.now found.old.items found.new.items) }
         ensures same { self.new.regex ≡ self.old.regex }
     {
-        self.pieces.feed(&mut self.search, piece, found)
+        self.pieces.feed(&mut self.matcher.search, piece, found)
     }
 
     /// Reads a piece of the text until the next match is certain, and returns that match. The piece
@@ -135,7 +116,7 @@ impl<'r, A: Allocator + Copy> Stream<'r, A> {
             left_in piece.new.now self.new.pieces < left_in piece.old.now self.old.pieces)) }
         ensures same { self.new.regex ≡ self.old.regex }
     {
-        self.pieces.advance(&mut self.search, piece)
+        self.pieces.advance(&mut self.matcher.search, piece)
     }
 
     /// Returns the bytes of a match, if all of them are kept. Kept are the bytes since the last
@@ -161,6 +142,6 @@ impl<'r, A: Allocator + Copy> Stream<'r, A> {
         ensures failed { OnErr result (found.new.items ≡ found.old.items) }
         ensures same { self.new ≡ self.old }
     {
-        self.pieces.finish(&mut self.search, found)
+        self.pieces.finish(&mut self.matcher.search, found)
     }
 }

@@ -1,7 +1,7 @@
 //! The lines of a text, and what is printed of them.
 
 use crate::options::{Options, Shows};
-use determinize_regex::{Input, Match, Matcher};
+use determinize_regex::{Input, Match, Regex};
 use std::alloc::Global;
 use std::io::{self, BufRead, BufReader, Read, Write};
 
@@ -10,7 +10,7 @@ use std::io::{self, BufRead, BufReader, Read, Write};
 pub struct Lines<'a> {
     alloc: Global,
     options: &'a Options,
-    matcher: Matcher<'a>,
+    regex: Regex,
 }
 
 /// Where a line is in its text.
@@ -24,11 +24,11 @@ struct Place {
 
 impl<'a> Lines<'a> {
     /// Returns a search that has read nothing yet.
-    pub fn new(alloc: Global, options: &'a Options, matcher: Matcher<'a>) -> Lines<'a> {
+    pub fn new(alloc: Global, options: &'a Options, regex: Regex) -> Lines<'a> {
         Lines {
             alloc,
             options,
-            matcher,
+            regex,
         }
     }
 
@@ -83,7 +83,7 @@ impl<'a> Lines<'a> {
         place: Place,
         out: &mut W,
     ) -> io::Result<bool> {
-        let has_match = self.matcher.is_match(&Input::new(line))?;
+        let has_match = self.regex.is_match(&Input::new(line))?;
         if has_match == self.options.inverts {
             return Ok(false);
         }
@@ -103,9 +103,9 @@ impl<'a> Lines<'a> {
         place: Place,
         out: &mut W,
     ) -> io::Result<()> {
-        let found = self.matcher.find_all(self.alloc, &Input::new(line))?;
+        let found = self.regex.find_all(self.alloc, &Input::new(line))?;
         for found in &found {
-            let bytes = line.get(found.start..found.end).unwrap_or(&[]);
+            let bytes = found.bytes(line).unwrap_or(&[]);
             if !bytes.is_empty() {
                 let offset = place.bytes.saturating_add(found.start as u64);
                 self.print(name, place, offset, Some(found), bytes, out)?;

@@ -17,9 +17,6 @@ use std::io::{self, BufWriter, Write};
 use std::process::ExitCode;
 use std::{env, fs};
 
-/// The most states in a cache of a search.
-const LIMIT: usize = 10_000;
-
 const USAGE: &str = "usage: finder [-bcilnoqv] [-e PATTERN].. [PATTERN].. [FILE]..
 Prints the lines in which a pattern matches. As in grep, the first operand is a pattern unless -e
 gives one. Any other operand is a pattern too if it has one of the signs [(*+?|^${\\ and there is no
@@ -131,9 +128,9 @@ fn search_all<W: Write>(
 }
 
 /// Searches for the patterns, and returns the exit status.
-fn search(rt: &HostRuntime, options: &Options, regex: &Regex) -> io::Result<ExitCode> {
+fn search(rt: &HostRuntime, options: &Options, regex: Regex) -> io::Result<ExitCode> {
     let mut out = BufWriter::new(rt.alloc(), io::writer(rt))?;
-    let mut lines = Lines::new(rt.alloc(), options, regex.matcher(rt.alloc(), LIMIT));
+    let mut lines = Lines::new(rt.alloc(), options, regex);
     let outcome = search_all(rt, options, &mut lines, &mut out)?;
     out.flush()?;
     Ok(outcome.status(options.shows))
@@ -154,7 +151,7 @@ fn run(rt: &HostRuntime) -> Result<ExitCode, Error> {
         return Ok(ExitCode::SUCCESS);
     }
     let regex = options.regex(rt.alloc())?;
-    Ok(search(rt, &options, &regex)?)
+    Ok(search(rt, &options, regex)?)
 }
 
 fn main(rt: HostRuntime) -> ExitCode {

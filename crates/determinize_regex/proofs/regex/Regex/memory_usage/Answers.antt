@@ -8,7 +8,7 @@ use Rattle.determinize_regex.specs.Regexes.{RegexValue}
 use Rattle.determinize_regex.proofs.regex.Regex.memory_usage.Goals as goal
 
 pub returns : goal.returns
-returns c =
+returns g c =
     let s : Searched = c.self.inside.search in
     let one_limit = subst (λ (limit : ℕ). c.memory_usage.result
     ≤ most_bytes s.limit s.nfa + most_bytes limit s.backward) c.self.invariant.limits c.memory_usage.ensures in

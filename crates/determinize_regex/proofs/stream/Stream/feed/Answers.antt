@@ -1,26 +1,61 @@
-use Rattle.determinize_regex.proofs.StreamsOfPatterns.{fed_by, few_by, part_fed_by, streaming_by}
+use Rattle.std.proofs.Common.{◌≡◌, ◌∙◌, ap, refl, subst, sym}
+use Rattle.determinize_regex.specs.Private.Searched.{IsStreaming, value_of}
+use Rattle.determinize_regex.specs.Streams.{StreamValue}
+use Rattle.determinize_regex.proofs.StreamsOfPatterns.{fed_by, few_by, kept_by, part_fed_by, streaming_by}
 use Rattle.determinize_regex.proofs.stream.Stream.feed.Goals as goal
 
 pub invariant_of-self : goal.invariant_of-self
 invariant_of-self g c =
-    streaming_by c.self.inside.regex.now.patterns c.self.inside.regex.now.terminator c.self.inside.search
-    c.self.inside.pieces c.args.self.now c.self.view_is c.self.invariant c.feed.new.regex c.feed.new.self
-    c.feed.ensures.same c.args.piece.now c.args.found.now.items c.feed.new.found.items c.feed.result c.feed.ensures.read
+    let old : StreamValue = record {
+      regex = value_of c.self-inside.inside.0.0.patterns.now c.self-inside.inside.0.0.search;
+      pieces = c.self-inside.inside.0.1.0;
+    } in
+    let same : old ≡ c.args.self.now
+    = ap (λ i. record { regex = i.matcher; pieces = i.pieces }) c.self-inside.view_is ∙ c.self.view_is in
+    let is : IsStreaming old.regex old.pieces
+    = subst (λ i. IsStreaming i.matcher i.pieces) (sym c.self-inside.view_is) c.self.invariant in
+    streaming_by old.regex old.pieces c.args.self.now same is _ refl _ c.feed.new.self
+    (kept_by _ _ _ old.regex c.feed.ensures.same refl) c.args.piece.now c.args.found.now.items
+    c.feed.new.found.items c.feed.result c.feed.ensures.read
 
 pub returns-clause-fed : goal.returns-clause-fed
 returns-clause-fed g c =
-    fed_by c.self.inside.regex.now.patterns c.self.inside.regex.now.terminator c.self.inside.search
-    c.self.inside.pieces c.args.self.now c.self.view_is c.self.invariant c.feed.new.regex c.feed.new.self
-    c.feed.ensures.same c.args.piece.now c.args.found.now.items c.feed.new.found.items c.feed.result c.feed.ensures.read
+    let old : StreamValue = record {
+      regex = value_of c.self-inside.inside.0.0.patterns.now c.self-inside.inside.0.0.search;
+      pieces = c.self-inside.inside.0.1.0;
+    } in
+    let same : old ≡ c.args.self.now
+    = ap (λ i. record { regex = i.matcher; pieces = i.pieces }) c.self-inside.view_is ∙ c.self.view_is in
+    let is : IsStreaming old.regex old.pieces
+    = subst (λ i. IsStreaming i.matcher i.pieces) (sym c.self-inside.view_is) c.self.invariant in
+    fed_by old.regex old.pieces c.args.self.now same is _ refl _ c.feed.new.self
+    (kept_by _ _ _ old.regex c.feed.ensures.same refl) c.args.piece.now c.args.found.now.items
+    c.feed.new.found.items c.feed.result c.feed.ensures.read
 
 pub returns-clause-failed : goal.returns-clause-failed
 returns-clause-failed g c =
-    part_fed_by c.self.inside.regex.now.patterns c.self.inside.regex.now.terminator c.self.inside.search
-    c.self.inside.pieces c.args.self.now c.self.view_is c.self.invariant c.feed.new.regex c.feed.new.self
-    c.feed.ensures.same c.args.piece.now c.args.found.now.items c.feed.new.found.items c.feed.result c.feed.ensures.read
+    let old : StreamValue = record {
+      regex = value_of c.self-inside.inside.0.0.patterns.now c.self-inside.inside.0.0.search;
+      pieces = c.self-inside.inside.0.1.0;
+    } in
+    let same : old ≡ c.args.self.now
+    = ap (λ i. record { regex = i.matcher; pieces = i.pieces }) c.self-inside.view_is ∙ c.self.view_is in
+    let is : IsStreaming old.regex old.pieces
+    = subst (λ i. IsStreaming i.matcher i.pieces) (sym c.self-inside.view_is) c.self.invariant in
+    part_fed_by old.regex old.pieces c.args.self.now same is _ refl _ c.feed.new.self
+    (kept_by _ _ _ old.regex c.feed.ensures.same refl) c.args.piece.now c.args.found.now.items
+    c.feed.new.found.items c.feed.result c.feed.ensures.read
 
 pub returns-clause-few : goal.returns-clause-few
 returns-clause-few g c =
-    few_by c.self.inside.regex.now.patterns c.self.inside.regex.now.terminator c.self.inside.search
-    c.self.inside.pieces c.args.self.now c.self.view_is c.self.invariant c.feed.new.regex c.feed.new.self
-    c.feed.ensures.same c.args.piece.now c.args.found.now.items c.feed.new.found.items c.feed.result c.feed.ensures.few
+    let old : StreamValue = record {
+      regex = value_of c.self-inside.inside.0.0.patterns.now c.self-inside.inside.0.0.search;
+      pieces = c.self-inside.inside.0.1.0;
+    } in
+    let same : old ≡ c.args.self.now
+    = ap (λ i. record { regex = i.matcher; pieces = i.pieces }) c.self-inside.view_is ∙ c.self.view_is in
+    let is : IsStreaming old.regex old.pieces
+    = subst (λ i. IsStreaming i.matcher i.pieces) (sym c.self-inside.view_is) c.self.invariant in
+    few_by old.regex old.pieces c.args.self.now same is _ refl _ c.feed.new.self
+    (kept_by _ _ _ old.regex c.feed.ensures.same refl) c.args.piece.now c.args.found.now.items
+    c.feed.new.found.items c.feed.result c.feed.ensures.few

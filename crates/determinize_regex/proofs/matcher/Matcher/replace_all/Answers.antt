@@ -1,9 +1,0 @@
-use Rattle.std.proofs.lemmas.Result.{IfOk-weaker}
-use Rattle.determinize_regex.proofs.FoundByRegex.{replaced_in}
-use Rattle.determinize_regex.proofs.matcher.Matcher.replace_all.Goals as goal
-
-pub returns-clause-replaced : goal.returns-clause-replaced
-returns-clause-replaced g c =
-    IfOk-weaker c.replace.result _ _ (λ new made. replaced_in c.self.inside.search _ c.args.self.now c.self.view_is
-    c.self.invariant c.args.haystack.now _ c.in_ok-found.ensures.all c.args.replacement.now _ made)
-    (rw c.deref.ensures.value at c.replace.ensures)
