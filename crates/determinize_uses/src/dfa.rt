@@ -6,30 +6,30 @@ ghost use Rattle.determinize_below.specs.declared.search.MatchKind.TheVariants a
 ghost use Rattle.determinize_core.specs.Walk.{ListsAccepted};
 ghost use Rattle.determinize_dense.specs.Least.{IsLeast};
 
-use determinize_below::{Anchored, MatchKind, NFA, PatternID};
+use determinize_below::{Anchored, AsNfa, MatchKind, PatternID};
 use determinize_dense::{Dfa, DfaError};
 use std::alloc::Allocator;
 
 /// Returns the smallest DFA of an NFA, in the sense of `Dfa::minimize`. Building it takes up to
-/// `limit` states.
-pub fn smallest<'n, N: Allocator, A: Allocator + Copy>(
+/// `limit` states. The DFA owns the NFA if it is passed by value, and else borrows it.
+pub fn smallest<R: AsNfa, A: Allocator + Copy>(
     alloc: A,
-    nfa: &'n NFA<N>,
+    nfa: R,
     kind: MatchKind,
     limit: usize,
-) -> Result<Dfa<'n, N, A>, DfaError>
-    ensures nfa { IfOk result (λ dfa. dfa.nfa ≡ nfa.now) }
+) -> Result<Dfa<R, A>, DfaError>
+    ensures nfa { IfOk result (λ dfa. dfa.nfa ≡ R.nfa nfa) }
     ensures kind { IfOk result (λ dfa. dfa.kind ≡ kind) }
     ensures least { IfOk result (λ dfa. IsLeast dfa.nfa dfa.table) }
 {
     let dfa = Dfa::build(alloc, nfa, kind, limit)?;
-    Ok(dfa.minimize(alloc)?)
+    Ok(dfa.into_minimized(alloc)?)
 }
 
 /// Returns the patterns with a match that ends at an offset of the haystack and begins anywhere
 /// before, most preferred first. Does not allocate.
-pub fn patterns_at<'d, N: Allocator, A: Allocator + Copy>(
-    dfa: &'d Dfa<'_, N, A>,
+pub fn patterns_at<'d, R: AsNfa, A: Allocator + Copy>(
+    dfa: &'d Dfa<R, A>,
     haystack: &[u8],
     offset: usize,
 ) -> &'d [PatternID]

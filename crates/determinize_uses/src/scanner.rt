@@ -5,7 +5,7 @@ ghost use Rattle.determinize_below.specs.declared.search.Anchored.TheVariants.{N
 ghost use Rattle.determinize_find.specs.Matches.{AreMatches};
 
 use determinize_below::{Input, MatchKind, NFA};
-use determinize_find::{Match, plain};
+use determinize_find::{Match, Plain, find_all};
 use determinize_lazy::Lazy;
 use std::alloc::{AllocError, Allocator};
 
@@ -23,6 +23,6 @@ pub fn matches<N: Allocator, A: Allocator + Copy>(
       anchored = No;
     } None found.items) }
 {
-    let mut lazy = Lazy::new(alloc, nfa, MatchKind::LeftmostFirst, 1000);
-    plain::find_all(alloc, &mut lazy, &Input::new(haystack))
+    let lazy = Lazy::new(alloc, nfa, MatchKind::LeftmostFirst, 1000);
+    find_all(alloc, &mut Plain::new(nfa, lazy), &Input::new(haystack))
 }

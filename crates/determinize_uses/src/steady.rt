@@ -6,14 +6,14 @@ ghost use Rattle.determinize_below.specs.declared.search.Anchored.TheVariants.{N
 ghost use Rattle.determinize_find.specs.Cursors.{after_match};
 ghost use Rattle.determinize_find.specs.Matches.{AreMatches, IsNext};
 
-use determinize_below::Input;
+use determinize_below::{AsNfa, Input};
 use determinize_dense::Dfa;
 use determinize_find::{Match, Regex, Searcher};
 use std::alloc::{AllocError, Allocator};
 
 /// Returns the next match, and moves the cursor behind it. Does not allocate, and cannot fail.
-pub fn next<N: Allocator, B: Allocator, A: Allocator + Copy>(
-    scanner: &mut Regex<&Dfa<'_, N, A>, &Dfa<'_, B, A>>,
+pub fn next<F: AsNfa, B: AsNfa, A: Allocator + Copy>(
+    scanner: &mut Regex<&Dfa<F, A>, &Dfa<B, A>>,
     searcher: &mut Searcher<'_>,
 ) -> Option<Match>
     ensures next { IsNext scanner.old.nfa searcher.old.asked searcher.old.before result }
@@ -25,9 +25,9 @@ pub fn next<N: Allocator, B: Allocator, A: Allocator + Copy>(
 }
 
 /// Returns all matches of a haystack. Only the list is allocated.
-pub fn matches<N: Allocator, B: Allocator, A: Allocator + Copy>(
+pub fn matches<F: AsNfa, B: AsNfa, A: Allocator + Copy>(
     alloc: A,
-    scanner: &mut Regex<&Dfa<'_, N, A>, &Dfa<'_, B, A>>,
+    scanner: &mut Regex<&Dfa<F, A>, &Dfa<B, A>>,
     haystack: &[u8],
 ) -> Result<Vec<Match, A>, AllocError>
     ensures all { IfOk result (λ found. AreMatches scanner.old.nfa record {

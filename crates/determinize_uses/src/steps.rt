@@ -5,14 +5,14 @@ ghost use Rattle.determinize_below.specs.Semantics.{between};
 ghost use Rattle.determinize_below.specs.declared.search.MatchKind.TheVariants as kinds;
 ghost use Rattle.determinize_core.specs.Walk.{ListsAccepted};
 
-use determinize_below::{Anchored, HalfMatch, PatternID};
+use determinize_below::{Anchored, AsNfa, HalfMatch, NFA, PatternID};
 use determinize_core::start::Config;
 use determinize_dense::Dfa;
 use std::alloc::{AllocError, Allocator, Global};
 
 /// Returns the patterns that match a whole text, most preferred first.
-pub fn patterns_of<'d, N: Allocator, A: Allocator + Copy>(
-    dfa: &'d Dfa<'_, N, A>,
+pub fn patterns_of<'d, R: AsNfa, A: Allocator + Copy>(
+    dfa: &'d Dfa<R, A>,
     text: &[u8],
 ) -> &'d [PatternID]
     requires { dfa.now.kind ≡ kinds.All }
@@ -29,7 +29,7 @@ pub fn patterns_of<'d, N: Allocator, A: Allocator + Copy>(
 /// Returns the ends of all matches in a haystack, with their patterns, wherever they begin.
 pub fn all_ends(
     alloc: Global,
-    dfa: &Dfa<'_>,
+    dfa: &Dfa<&NFA>,
     haystack: &[u8],
 ) -> Result<Vec<HalfMatch>, AllocError> {
     let mut ends = Vec::new(alloc);

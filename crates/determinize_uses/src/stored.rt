@@ -2,7 +2,7 @@
 //! hand.
 
 use crate::dfa::smallest;
-use determinize_below::{Anchored, MatchKind, PatternID};
+use determinize_below::{Anchored, MatchKind, NFA, PatternID};
 use determinize_core::start::Config as Start;
 use determinize_dense::{Dfa, DfaError};
 use determinize_draw::DfaGraph;
@@ -25,7 +25,7 @@ pub enum Error {
 }
 
 /// Prints the graph of a DFA, as text for Graphviz.
-fn print_graph(dfa: &Dfa<'_>, output: &impl Print) -> io::Result<()> {
+fn print_graph(dfa: &Dfa<&NFA>, output: &impl Print) -> io::Result<()> {
     let graph = DfaGraph::new(dfa);
     print!(output; "{graph}")
 }

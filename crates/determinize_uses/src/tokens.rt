@@ -7,17 +7,14 @@ ghost use Rattle.determinize_below.specs.declared.search.MatchKind.TheVariants a
 ghost use Rattle.determinize_linear.specs.Tokens.{AreTokens};
 
 use crate::dfa::smallest;
-use determinize_below::{Input, Match, MatchKind, NFA};
+use determinize_below::{AsNfa, Input, Match, MatchKind};
 use determinize_dense::{Dfa, DfaError};
 use determinize_linear::lexer;
 use std::alloc::{AllocError, Allocator};
 
 /// Returns a DFA for the tokens of an NFA, which has a pattern for each kind of token.
-pub fn lexer_of<'n, N: Allocator, A: Allocator + Copy>(
-    alloc: A,
-    nfa: &'n NFA<N>,
-) -> Result<Dfa<'n, N, A>, DfaError>
-    ensures nfa { IfOk result (λ dfa. dfa.nfa ≡ nfa.now) }
+pub fn lexer_of<R: AsNfa, A: Allocator + Copy>(alloc: A, nfa: R) -> Result<Dfa<R, A>, DfaError>
+    ensures nfa { IfOk result (λ dfa. dfa.nfa ≡ R.nfa nfa) }
     ensures kind { IfOk result (λ dfa. dfa.kind ≡ kinds.All) }
 {
     smallest(alloc, nfa, MatchKind::All, 10_000)
@@ -25,9 +22,9 @@ pub fn lexer_of<'n, N: Allocator, A: Allocator + Copy>(
 
 /// Returns the tokens of a text, each of which begins where the one before it ends. They end with
 /// the text, or where no token of at least one byte begins.
-pub fn tokens<N: Allocator, M: Allocator + Copy, A: Allocator + Copy>(
+pub fn tokens<R: AsNfa, M: Allocator + Copy, A: Allocator + Copy>(
     alloc: A,
-    dfa: &Dfa<'_, N, M>,
+    dfa: &Dfa<R, M>,
     text: &[u8],
 ) -> Result<Vec<Match, A>, AllocError>
     requires kind { dfa.now.kind ≡ kinds.All }

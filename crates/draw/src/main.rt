@@ -103,13 +103,13 @@ fn print_nfa(rt: &impl Print, nfa: &NFA) -> io::Result<()> {
 }
 
 /// Prints the graph of a DFA.
-fn print_dfa(rt: &impl Print, dfa: &Dfa<'_>) -> io::Result<()> {
+fn print_dfa(rt: &impl Print, dfa: &Dfa<&NFA>) -> io::Result<()> {
     let graph = DfaGraph::new(dfa);
     print!(rt; "{graph}")
 }
 
 /// Prints the graph of the part of a DFA that unanchored searches enter.
-fn print_search(rt: &impl Print, alloc: Global, dfa: &Dfa<'_>) -> io::Result<()> {
+fn print_search(rt: &impl Print, alloc: Global, dfa: &Dfa<&NFA>) -> io::Result<()> {
     let graph = SearchGraph::new(alloc, dfa, Anchored::No)?;
     print!(rt; "{graph}")
 }
@@ -122,13 +122,13 @@ fn args(rt: &HostRuntime) -> io::Result<Args> {
 }
 
 /// Returns the DFA of an NFA with the fewest states.
-fn smallest(alloc: Global, nfa: &NFA) -> Result<Dfa<'_>, Error> {
+fn smallest(alloc: Global, nfa: &NFA) -> Result<Dfa<&NFA>, Error> {
     let dfa = Dfa::build(alloc, nfa, MatchKind::LeftmostFirst, LIMIT)?;
     Ok(dfa.minimize(alloc)?)
 }
 
 /// Prints each graph that the arguments name before the patterns.
-fn print_graphs(rt: &HostRuntime, nfa: &NFA, dfa: &Dfa<'_>) -> io::Result<()> {
+fn print_graphs(rt: &HostRuntime, nfa: &NFA, dfa: &Dfa<&NFA>) -> io::Result<()> {
     for arg in args(rt)? {
         match Graph::from_name(arg.as_str()) {
             Some(graph) => print_graph(rt, graph, nfa, dfa)?,
@@ -139,7 +139,7 @@ fn print_graphs(rt: &HostRuntime, nfa: &NFA, dfa: &Dfa<'_>) -> io::Result<()> {
 }
 
 /// Prints a graph.
-fn print_graph(rt: &HostRuntime, graph: Graph, nfa: &NFA, dfa: &Dfa<'_>) -> io::Result<()> {
+fn print_graph(rt: &HostRuntime, graph: Graph, nfa: &NFA, dfa: &Dfa<&NFA>) -> io::Result<()> {
     match graph {
         Graph::Nfa => print_nfa(rt, nfa),
         Graph::Dfa => print_dfa(rt, dfa),

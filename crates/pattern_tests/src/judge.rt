@@ -8,7 +8,8 @@ use crate::error::JobError;
 use crate::head::Head;
 use crate::notation;
 use determinize_below::{BuildError, Input, NFA};
-use determinize_find::{LazyRegex, Match, Regex};
+use determinize_find::{Match, Regex};
+use determinize_lazy::Lazy;
 use determinize_nfa::reversed;
 use determinize_pattern::{CompileError, Pattern, compile};
 use example_walks::values;
@@ -178,7 +179,7 @@ impl Judged {
     fn judge_line(
         &mut self,
         alloc: Global,
-        regex: &mut LazyRegex<'_>,
+        regex: &mut Regex<Lazy<'_>, Lazy<'_>>,
         line: &str,
     ) -> Result<(), JobError> {
         let Some((text, wanted)) = line.split_once(' ') else {
@@ -210,7 +211,7 @@ impl Judged {
 /// Returns all matches of the bytes of a text.
 fn matches_of(
     alloc: Global,
-    regex: &mut LazyRegex<'_>,
+    regex: &mut Regex<Lazy<'_>, Lazy<'_>>,
     text: &str,
 ) -> Result<Vec<Match>, JobError> {
     let bytes = values::bytes(alloc, text)?;

@@ -28,6 +28,7 @@ mod strings;
 mod tokens;
 mod trial;
 mod uses;
+mod which;
 
 use determinize_below::{HalfMatch, PatternID};
 use std::fmt::{Debug, Display};

@@ -197,7 +197,7 @@ const REST: Call<'static> = Call::Walk(None, b"uartz", None, Some(5));
 
 /// The text of a cache after a walk over `quartz`, with three states and seven transitions.
 const TEXT: Call<'static> = Call::Text(
-    "Lazy { match_kind: LeftmostFirst, limit: 16, states_kept: 3, computed: 7, .. }",
+    "LazyDfa { match_kind: LeftmostFirst, limit: 16, states_kept: 3, computed: 7, .. }",
 );
 
 #[test]

@@ -114,7 +114,7 @@ pub fn dfa<'n, R: Abort + AllocGlobal>(
     nfa: &'n NFA,
     kind: MatchKind,
     limit: usize,
-) -> Dfa<'n>
+) -> Dfa<&'n NFA>
     ensures nfa { result.nfa ≡ nfa.now }
     ensures kind { result.kind ≡ kind }
 {
@@ -122,7 +122,7 @@ pub fn dfa<'n, R: Abort + AllocGlobal>(
 }
 
 /// Returns the smallest DFA that lists the same as another one.
-pub fn least<'n, R: Abort + AllocGlobal>(rt: &R, dfa: &Dfa<'n>) -> Dfa<'n>
+pub fn least<'n, R: Abort + AllocGlobal>(rt: &R, dfa: &Dfa<&'n NFA>) -> Dfa<&'n NFA>
     ensures nfa { result.nfa ≡ dfa.now.nfa }
     ensures kind { result.kind ≡ dfa.now.kind }
 {
@@ -188,7 +188,7 @@ pub struct Around<'t> {
 /// Asserts that a search of a text has this match, and that these patterns match where it ends.
 fn expect_found<R: Abort + AllocGlobal>(
     rt: &R,
-    dfa: &Dfa<'_>,
+    dfa: &Dfa<&NFA>,
     around: &Around<'_>,
     last: &str,
     patterns: &[PatternID],
@@ -351,7 +351,7 @@ fn dense_size_and_text(rt: HostRuntime) {
 fn minimize<R: Abort, A: Allocator + Copy>(
     rt: &R,
     alloc: A,
-    dfa: &Dfa<'_, Global, A>,
+    dfa: &Dfa<&NFA, A>,
     wanted: Counts,
 ) -> Result<(), AllocError> {
     match dfa.minimize(alloc) {
@@ -382,7 +382,7 @@ pub fn build_and_minimize<R: Abort + AllocGlobal, A: Allocator + Copy>(
 }
 
 /// Searches by a DFA of `\b\w+\b` in each way, and compares what they find.
-fn expect_searches<R: Abort, A: Allocator + Copy>(rt: &R, dfa: &Dfa<'_, Global, A>) {
+fn expect_searches<R: Abort, A: Allocator + Copy>(rt: &R, dfa: &Dfa<&NFA, A>) {
     let input = Input::new(b"ab c").anchored(Anchored::Yes);
     same(
         rt,

@@ -5,7 +5,7 @@ ghost use Rattle.determinize_below.specs.declared.search.MatchKind.TheVariants a
 
 use crate::tests::dense::{FOO_OR_BAR, nfa};
 use crate::tests::{ended, same};
-use determinize_below::{Anchored, HalfMatch, MatchKind, StateID};
+use determinize_below::{Anchored, HalfMatch, MatchKind, NFA, StateID};
 use determinize_dense::Dfa;
 use determinize_uses::dfa::{patterns_at, smallest};
 use std::process::Abort;
@@ -52,7 +52,7 @@ pub fn expect_end<R: Abort>(rt: &R, found: Option<HalfMatch>, end: Option<usize>
 }
 
 /// Returns the match of a search of a text, anchored or not.
-fn search(dfa: &Dfa<'_>, is_anchored: bool, text: &str) -> Option<HalfMatch> {
+fn search(dfa: &Dfa<&NFA>, is_anchored: bool, text: &str) -> Option<HalfMatch> {
     if is_anchored {
         dfa.search(Anchored::Yes, None, text.as_bytes(), None)
     } else {
@@ -61,14 +61,19 @@ fn search(dfa: &Dfa<'_>, is_anchored: bool, text: &str) -> Option<HalfMatch> {
 }
 
 /// Searches the texts, and compares the ends of the matches.
-fn expect_ends<R: Abort>(rt: &R, dfa: &Dfa<'_>, is_anchored: bool, ends: &[(&str, Option<usize>)]) {
+fn expect_ends<R: Abort>(
+    rt: &R,
+    dfa: &Dfa<&NFA>,
+    is_anchored: bool,
+    ends: &[(&str, Option<usize>)],
+) {
     for &(text, end) in ends {
         expect_end(rt, search(dfa, is_anchored, text), end);
     }
 }
 
 /// Compares how many patterns match at each position of `barfoo1`.
-fn expect_counts<R: Abort>(rt: &R, dfa: &Dfa<'_>)
+fn expect_counts<R: Abort>(rt: &R, dfa: &Dfa<&NFA>)
     requires { dfa.now.kind ≡ kinds.All }
 {
     for (offset, count) in COUNTS.iter().enumerate() {

@@ -1,5 +1,5 @@
-//! The leftmost match and all matches, with both ends: by `plain`, by a `Regex` over two caches or
-//! over two whole DFAs, and of a text in pieces.
+//! The leftmost match and all matches, with both ends: by a `Plain`, by a `Regex` over two caches
+//! or over two whole DFAs, and of a text in pieces.
 
 ghost use Rattle.std.specs.Prelude.{◌≡◌, ◌<◌, false, true};
 ghost use Rattle.determinize_below.specs.declared.search.MatchKind.TheVariants as kinds;
@@ -11,7 +11,7 @@ use crate::tests::kept::{self, Calls};
 use crate::tests::trial::{Trial, build_error, fail_each_in_turn, succeed_if};
 use crate::tests::{dense, ended, holds, same};
 use determinize_below::{BuildError, HalfMatch, Input, MatchKind, NFA, StateID};
-use determinize_find::{LazyRegex, Match, Regex, Searcher, has_prefix, plain, reversed};
+use determinize_find::{Finder, Match, Plain, Regex, Searcher, find_all, has_prefix, reversed};
 use determinize_lazy::Lazy;
 use determinize_uses::steady;
 use std::alloc::{AllocError, Allocator, Global};
@@ -196,12 +196,12 @@ fn matches_if_ok<R: Abort, A: Allocator>(
     }
 }
 
-/// A search by `plain`.
+/// A search by a `Plain`.
 pub enum PlainSearch {
     /// For the first match.
     Find,
-    /// For the next match after none.
-    NextMatch,
+    /// For the first match, by a cursor.
+    Advance,
     /// For all matches.
     FindAll,
 }
@@ -223,10 +223,10 @@ pub enum Search {
     Bytes(usize),
 }
 
-/// Each search by `plain`.
+/// Each search by a `Plain`.
 static PLAIN_SEARCHES: [PlainSearch; 3] = [
     PlainSearch::Find,
-    PlainSearch::NextMatch,
+    PlainSearch::Advance,
     PlainSearch::FindAll,
 ];
 
@@ -239,7 +239,7 @@ static SEARCHES: [Search; 5] = [
     Search::Halves,
 ];
 
-/// Finds the matches of a row by `plain`, through a new cache of this limit.
+/// Finds the matches of a row by a `Plain`, through a new cache of this limit.
 pub fn search_plain<R: Abort + AllocGlobal, A: Allocator + Copy>(
     rt: &R,
     alloc: A,
@@ -249,14 +249,15 @@ pub fn search_plain<R: Abort + AllocGlobal, A: Allocator + Copy>(
 ) -> Result<(), AllocError> {
     let (input, wanted) = (Input::new(row.haystack), row.matches.first().copied());
     let nfa = nfa(rt, row.states);
-    let mut lazy = Lazy::new(alloc, &nfa, MatchKind::LeftmostFirst, limit);
+    let lazy = Lazy::new(alloc, &nfa, MatchKind::LeftmostFirst, limit);
+    let mut plain = Plain::new(&nfa, lazy);
     match *search {
-        PlainSearch::Find => match_if_ok(rt, plain::find(&mut lazy, &input), wanted),
-        PlainSearch::NextMatch => {
-            match_if_ok(rt, plain::next_match(&mut lazy, &input, None), wanted)
+        PlainSearch::Find => match_if_ok(rt, plain.find(&input), wanted),
+        PlainSearch::Advance => {
+            match_if_ok(rt, Searcher::new(input).advance(&mut plain), wanted)
         }
         PlainSearch::FindAll => {
-            matches_if_ok(rt, plain::find_all(alloc, &mut lazy, &input), row.matches)
+            matches_if_ok(rt, find_all(alloc, &mut plain, &input), row.matches)
         }
     }
 }
@@ -265,7 +266,7 @@ pub fn search_plain<R: Abort + AllocGlobal, A: Allocator + Copy>(
 fn has_advanced<R: Abort, A: Allocator + Copy>(
     rt: &R,
     searcher: &mut Searcher<'_>,
-    regex: &mut LazyRegex<'_, Global, A, A>,
+    regex: &mut Regex<Lazy<'_, Global, A>, Lazy<'_, A, A>>,
     wanted: Option<Ends>,
 ) -> bool {
     match_if_ok(rt, searcher.advance(regex), wanted).is_ok()
@@ -274,7 +275,7 @@ fn has_advanced<R: Abort, A: Allocator + Copy>(
 /// Moves a cursor over the matches of a row and past the last one, and again where that fails.
 fn advance_over<R: Abort, A: Allocator + Copy>(
     rt: &R,
-    regex: &mut LazyRegex<'_, Global, A, A>,
+    regex: &mut Regex<Lazy<'_, Global, A>, Lazy<'_, A, A>>,
     row: &Row,
 ) -> Result<(), AllocError> {
     let mut searcher = Searcher::new(Input::new(row.haystack));
@@ -295,7 +296,7 @@ fn advance_over<R: Abort, A: Allocator + Copy>(
 fn find_by_regex<R: Abort + AllocGlobal, A: Allocator + Copy>(
     rt: &R,
     alloc: A,
-    regex: &mut LazyRegex<'_, Global, A, A>,
+    regex: &mut Regex<Lazy<'_, Global, A>, Lazy<'_, A, A>>,
     row: &Row,
     search: &Search,
 ) -> Result<(), AllocError> {
@@ -332,7 +333,7 @@ pub fn search_regex<R: Abort + AllocGlobal, A: Allocator + Copy>(
 }
 
 /// Feeds a haystack in all ways in three pieces, and in pieces of 1, 2 and 3 bytes.
-fn expect_cuts<R: Abort + AllocGlobal>(rt: &R, regex: &mut LazyRegex<'_>, row: &Row) {
+fn expect_cuts<R: Abort + AllocGlobal>(rt: &R, regex: &mut Regex<Lazy<'_>, Lazy<'_>>, row: &Row) {
     for second in 0..row.haystack.len() + 1 {
         let (head, last) = row.haystack.split_at(second);
         for first in 0..head.len() + 1 {
@@ -383,21 +384,16 @@ fn all_matches(rt: HostRuntime) {
 
 const TEXT: &[u8] = b"abcd e";
 
-/// Finds the leftmost word of a range of the text, by `plain`.
+/// Finds the leftmost word of a range of the text, by a `Plain`.
 fn expect_word<R: Abort>(
     rt: &R,
-    lazy: &mut Lazy<'_>,
+    plain: &mut Plain<'_, Lazy<'_>>,
     start: usize,
     end: usize,
     wanted: Option<Ends>,
-)
-    requires forward { lazy.old.nfa.reverse ≡ false }
-    requires kind { lazy.old.kind ≡ kinds.LeftmostFirst }
-    ensures nfa { lazy.new.nfa ≡ lazy.old.nfa }
-    ensures kind { lazy.new.kind ≡ lazy.old.kind }
-{
+) {
     assert!(rt; start <= end && end <= TEXT.len());
-    let found = plain::find(lazy, &Input::new(TEXT).range(start..end));
+    let found = plain.find(&Input::new(TEXT).range(start..end));
     expect_match(rt, found.expect(rt, "memory"), wanted);
 }
 
@@ -409,10 +405,12 @@ static BEGINS: [(usize, usize, usize); 2] = [(0, 4, 0), (1, 6, 5)];
 #[test]
 fn words_of_ranges(rt: HostRuntime) {
     let nfa = nfa(&rt, WORDS);
-    let mut lazy = Lazy::new(rt.alloc(), &nfa, MatchKind::LeftmostFirst, 100);
-    expect_word(&rt, &mut lazy, 0, 4, Some((0, 0, 4)));
-    expect_word(&rt, &mut lazy, 1, 4, None);
-    expect_word(&rt, &mut lazy, 1, 6, Some((0, 5, 6)));
+    let lazy = Lazy::new(rt.alloc(), &nfa, MatchKind::LeftmostFirst, 100);
+    let mut plain = Plain::new(&nfa, lazy);
+    expect_word(&rt, &mut plain, 0, 4, Some((0, 0, 4)));
+    expect_word(&rt, &mut plain, 1, 4, None);
+    expect_word(&rt, &mut plain, 1, 6, Some((0, 5, 6)));
+    holds(&rt, plain.into_engine().states_kept() > 0);
     let backward = backward_of(&rt, &nfa);
     let mut lazy = Lazy::new(rt.alloc(), &backward, MatchKind::All, 100);
     for &(start, end, begin) in &BEGINS {

@@ -13,7 +13,7 @@ use crate::tests::{dense, holds, same};
 use determinize_below::{Anchored, Input, MatchKind, NFA, StateID};
 use determinize_dense::Dfa;
 use determinize_engine::WithAllocError;
-use determinize_find::{Finder, Match, OwnedRegex, Plain, Regex, find_all};
+use determinize_find::{Finder, Match, Plain, Regex, find_all};
 use determinize_lazy::Lazy;
 use std::process::Abort;
 
@@ -39,7 +39,7 @@ fn expect_all<R: Abort + AllocGlobal, F: Finder>(
 /// one, and in a linear number of steps.
 fn expect_by_one<R: Abort + AllocGlobal>(
     rt: &R,
-    whole: &Dfa<'_>,
+    whole: &Dfa<&NFA>,
     input: &Input<'_>,
     wanted: &[Match],
 )
@@ -58,8 +58,8 @@ fn expect_by_one<R: Abort + AllocGlobal>(
 /// the second the starts, and by each of them with a lazy one.
 fn expect_by_two<R: Abort + AllocGlobal>(
     rt: &R,
-    ends: &Dfa<'_>,
-    starts: &Dfa<'_>,
+    ends: &Dfa<&NFA>,
+    starts: &Dfa<&NFA>,
     input: &Input<'_>,
     wanted: &[Match],
 )
@@ -109,17 +109,54 @@ fn one_start(rt: HostRuntime) {
 }
 
 /// Compares the memory of both caches of a `Regex` after a search with that of each, and once they
-/// are cleared.
+/// are cleared, or given back.
 #[test]
 fn memory_of_both_caches(rt: HostRuntime) {
-    let made = OwnedRegex::from_nfa(rt.alloc(), nfa(&rt, WORDS), 100);
+    let made = Regex::from_nfa(rt.alloc(), nfa(&rt, WORDS), 100);
     let mut regex = made.expect(&rt, "a regex");
     let found = regex.find(&Input::new(b"abcd e"));
     holds(&rt, found.expect(&rt, "memory").is_some());
-    let forward = regex.forward().memory_usage();
-    let backward = regex.backward().memory_usage();
+    let forward = regex.forward().cached_memory_usage();
+    let backward = regex.backward().cached_memory_usage();
     holds(&rt, forward > 0 && backward > 0);
     same(&rt, regex.memory_usage(), forward.saturating_add(backward));
+    same(&rt, regex.borrowed(rt.alloc(), 100).memory_usage(), 0);
     regex.clear();
     same(&rt, regex.memory_usage(), 0);
+    regex.reset();
+    same(&rt, regex.forward().memory_usage(), 0);
+}
+
+/// Parts of a text, and whether each is a whole word.
+static PARTS: [(usize, usize, bool); 5] = [
+    (0, 4, true),
+    (0, 3, false),
+    (1, 4, false),
+    (0, 6, false),
+    (5, 6, true),
+];
+
+/// `a|ab`.
+const A_OR_AB: &str = "BU:2,1 B:00-ff>0 BU:3,4 B:61-61>6 B:61-61>5 B:62-62>6 M:0";
+
+/// A full match is one of the whole range, preferred or not: of `a|ab` over `ab` `a` is preferred.
+#[test]
+fn full_matches(rt: HostRuntime) {
+    let owned = Regex::from_nfa(rt.alloc(), nfa(&rt, WORDS), 100).expect(&rt, "a regex");
+    let mut words = owned.borrowed(rt.alloc(), 100);
+    let text = Input::new(b"abcd e");
+    for &(start, end, wanted) in &PARTS {
+        assert!(rt; start <= end && end <= 6);
+        same(
+            &rt,
+            words.is_full_match(&text.from_index(start).range(start..end)),
+            Ok(wanted),
+        );
+    }
+    same(&rt, words.is_full_match(&text.range(5..4)), Ok(false));
+    let regex = Regex::from_nfa(rt.alloc(), nfa(&rt, A_OR_AB), 100);
+    let found = regex
+        .expect(&rt, "a regex")
+        .is_full_match(&Input::new(b"ab"));
+    same(&rt, found, Ok(true));
 }

@@ -6,7 +6,8 @@ use crate::tests::patterns::regex_of;
 use crate::tests::trial::{Trial, fail_each_in_turn, succeed_if};
 use crate::tests::{holds, same};
 use determinize_below::PatternID;
-use determinize_find::{LazyRegex, Match, Pieces};
+use determinize_find::{Match, Pieces, Regex};
+use determinize_lazy::Lazy;
 use determinize_regex::Stream;
 use std::alloc::{AllocError, Allocator, Global};
 use std::process::Abort;
@@ -53,7 +54,7 @@ pub enum Calls {
 /// was not read.
 fn feed_piece<A: Allocator + Copy>(
     stream: &mut Pieces<A>,
-    regex: &mut LazyRegex<'_, Global, A, A>,
+    regex: &mut Regex<Lazy<'_, Global, A>, Lazy<'_, A, A>>,
     piece: &[u8],
     found: &mut Vec<Match, A>,
     is_sound: &mut bool,
@@ -72,7 +73,7 @@ fn feed_piece<A: Allocator + Copy>(
 fn read_piece<R: Abort, A: Allocator + Copy>(
     rt: &R,
     stream: &mut Pieces<A>,
-    regex: &mut LazyRegex<'_, Global, A, A>,
+    regex: &mut Regex<Lazy<'_, Global, A>, Lazy<'_, A, A>>,
     text: &[u8],
     mut piece: &[u8],
     found: &mut Vec<Match, A>,
@@ -97,7 +98,7 @@ fn read_piece<R: Abort, A: Allocator + Copy>(
 fn finish<R: Abort, A: Allocator + Copy>(
     rt: &R,
     stream: &Pieces<A>,
-    regex: &mut LazyRegex<'_, Global, A, A>,
+    regex: &mut Regex<Lazy<'_, Global, A>, Lazy<'_, A, A>>,
     text: &[u8],
     found: &mut Vec<Match, A>,
     is_sound: &mut bool,
@@ -118,7 +119,7 @@ fn finish<R: Abort, A: Allocator + Copy>(
 fn read_all<R: Abort, A: Allocator + Copy>(
     rt: &R,
     stream: &mut Pieces<A>,
-    regex: &mut LazyRegex<'_, Global, A, A>,
+    regex: &mut Regex<Lazy<'_, Global, A>, Lazy<'_, A, A>>,
     row: &Row,
     pieces: &[&[u8]],
     calls: &Calls,
@@ -140,7 +141,7 @@ fn read_all<R: Abort, A: Allocator + Copy>(
 pub fn read<R: Abort, A: Allocator + Copy>(
     rt: &R,
     alloc: A,
-    regex: &mut LazyRegex<'_, Global, A, A>,
+    regex: &mut Regex<Lazy<'_, Global, A>, Lazy<'_, A, A>>,
     row: &Row,
     pieces: &[&[u8]],
     calls: &Calls,
@@ -153,7 +154,7 @@ pub fn read<R: Abort, A: Allocator + Copy>(
 pub fn read_chunks<R: Abort + AllocGlobal, A: Allocator + Copy>(
     rt: &R,
     alloc: A,
-    regex: &mut LazyRegex<'_, Global, A, A>,
+    regex: &mut Regex<Lazy<'_, Global, A>, Lazy<'_, A, A>>,
     row: &Row,
     size: usize,
     calls: &Calls,
@@ -177,7 +178,7 @@ fn bytes_of_each_match(rt: HostRuntime) {
 
 /// Reads 1500 words in one piece of three blocks, of which never more than one and the beginning of
 /// a word are kept. The bytes of the first word are then dropped.
-pub fn expect_sevens<R: Abort + AllocGlobal>(rt: &R, regex: &mut LazyRegex<'_>) {
+pub fn expect_sevens<R: Abort + AllocGlobal>(rt: &R, regex: &mut Regex<Lazy<'_>, Lazy<'_>>) {
     let text = b"seven, ".repeat(rt.alloc(), 1500).expect(rt, "memory");
     let (mut stream, mut piece) = (Pieces::new(rt.alloc()), text.as_slice());
     let mut count = 0usize;

@@ -7,7 +7,7 @@ ghost use Rattle.determinize_engine.specs.Searches.{has_start};
 use crate::tests::find::{Ends, expect_matches, expect_same, same_match};
 use crate::tests::patterns::regex_of;
 use crate::tests::{dense, same};
-use determinize_below::{Anchored, MatchKind};
+use determinize_below::{Anchored, MatchKind, NFA};
 use determinize_dense::Dfa;
 use determinize_find::Match;
 use determinize_linear::{dense as by_dfa, find_all};
@@ -89,7 +89,7 @@ static ANCHORED: [Case; 4] = [
 /// and one at a time, and then none, and so does its NFA.
 pub fn expect_linear<R: Abort + AllocGlobal>(
     rt: &R,
-    dfa: &Dfa<'_>,
+    dfa: &Dfa<&NFA>,
     input: &Input<'_>,
     wanted: &[Match],
 )

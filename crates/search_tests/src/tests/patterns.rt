@@ -1,10 +1,12 @@
 //! Patterns from their texts: all matches, also in pieces, whether there is one, the parts between
-//! them, other bytes in their place, which text is in error, and how errors are written.
+//! them, other bytes in their place, which patterns match, which text is in error, and how errors
+//! are written.
 
 use crate::tests::find::{Ends, expect_found, expect_matches};
 use crate::tests::{expect_text, holds, same};
 use determinize_regex::{
-    Error, ErrorKind, Input, Match, Matcher, ParseError, Regex, RegexConfig, Stream,
+    Anchored, Error, ErrorKind, Input, Match, Matcher, ParseError, PatternID, Regex, RegexConfig,
+    RegexSet, Searcher, Stream,
 };
 use determinize_uses::words;
 use std::process::Abort;
@@ -27,6 +29,52 @@ fn numbers_and_names(rt: HostRuntime) {
     holds(&rt, regex.memory_usage() > 0);
     regex.clear();
     same(&rt, regex.memory_usage(), 0);
+    regex.reset();
+    let found = words::find_all(rt.alloc(), &mut regex, b"In 1984 Ada");
+    expect_found(&rt, found, &FOUND);
+}
+
+/// The same matches one after another, and in a linear number of steps.
+#[test]
+fn numbers_and_names_in_turn(rt: HostRuntime) {
+    let mut regex = words::words(rt.alloc()).expect(&rt, "patterns");
+    let input = Input::new(b"In 1984 Ada");
+    expect_found(&rt, regex.find_all_linear(rt.alloc(), &input), &FOUND);
+    let mut searcher = Searcher::new(input);
+    for wanted in &FOUND {
+        let found = regex.next_match(&mut searcher).expect(&rt, "memory");
+        expect_matches(&rt, found.as_slice(), &[*wanted]);
+    }
+    same(&rt, regex.next_match(&mut searcher), Ok(None));
+}
+
+/// Whether a text is a match of `a|ab` as a whole, as Python's `re.fullmatch` says.
+#[test]
+fn whole_texts(rt: HostRuntime) {
+    let mut regex = regex_of(&rt, &["a|ab"]);
+    same(&rt, regex.is_full_match(&Input::new(b"ab")), Ok(true));
+    same(&rt, regex.is_full_match(&Input::new(b"abb")), Ok(false));
+}
+
+/// The routes of a server: which of them are a path as a whole, and which match at its end.
+#[test]
+fn routes_of_a_path(rt: HostRuntime) {
+    let routes = ["/[a-z]+", "/[a-z]+/[0-9]+", "[0-9]+"];
+    let made = RegexSet::new(rt.alloc(), &routes, RegexConfig::new());
+    let mut set = made.expect(&rt, "patterns");
+    let path = Input::new(b"/user/12");
+    let ends = set.matches_at_end(&path).expect(&rt, "memory");
+    same(
+        &rt,
+        ends.as_slice(),
+        [PatternID::must(1), PatternID::must(2)].as_slice(),
+    );
+    let whole = set.matches_at_end(&path.anchored(Anchored::Yes));
+    same(
+        &rt,
+        whole.expect(&rt, "memory").as_slice(),
+        [PatternID::must(1)].as_slice(),
+    );
 }
 
 /// Compares whether a `Regex` of `a|ab` has a match in two texts, and the first match.
@@ -89,8 +137,25 @@ fn expect_accented<R: Abort + AllocGlobal>(rt: &R, regex: &mut Regex) {
     same(rt, text.expect(rt, "memory").as_slice(), DASHED);
 }
 
+/// Replaces numbers by `#`, and names by `A`.
+fn expect_replaced<R: Abort + AllocGlobal>(rt: &R, regex: &mut Regex) {
+    let text = regex.replace_with(rt.alloc(), b"In 1984 Ada", |found| {
+        if found.pattern == PatternID::ZERO {
+            b"#"
+        } else {
+            b"A"
+        }
+    });
+    same(
+        rt,
+        text.expect(rt, "memory").as_slice(),
+        b"A # A".as_slice(),
+    );
+}
+
 #[test]
 fn split_and_replace(rt: HostRuntime) {
+    expect_replaced(&rt, &mut words::words(rt.alloc()).expect(&rt, "patterns"));
     expect_list(&rt, &mut regex_of(&rt, &["[ ,]+"]));
     expect_accented(&rt, &mut regex_of(&rt, &["b*"]));
 }

@@ -4,7 +4,7 @@ use crate::tests::find::{Ends, WORDS, backward_of, expect_matches, nfa, same_end
 use crate::tests::{dense, ended, holds, same};
 use determinize_below::MatchKind;
 use determinize_engine::WithAllocError;
-use determinize_find::{LazyRegex, Match, Pieces, Regex};
+use determinize_find::{Match, Pieces, Regex};
 use determinize_lazy::{Engine, Lazy};
 use std::alloc::AllocError;
 use std::process::Abort;
@@ -53,7 +53,7 @@ pub fn end<R: Abort, B: Engine<Error = AllocError>>(
 fn count_matches<R: Abort>(
     rt: &R,
     stream: &mut Pieces,
-    regex: &mut LazyRegex<'_>,
+    regex: &mut Regex<Lazy<'_>, Lazy<'_>>,
     block: &[u8],
     found: &mut Vec<Match>,
 ) -> usize {
@@ -69,7 +69,7 @@ fn count_matches<R: Abort>(
 }
 
 /// Feeds 1024 times the ten words 1600 times, and counts the words.
-fn expect_words<R: Abort + AllocGlobal>(rt: &R, regex: &mut LazyRegex<'_>) {
+fn expect_words<R: Abort + AllocGlobal>(rt: &R, regex: &mut Regex<Lazy<'_>, Lazy<'_>>) {
     let block = TEN_WORDS.repeat(rt.alloc(), 1024).expect(rt, "memory");
     let (mut stream, mut found) = (Pieces::new(rt.alloc()), Vec::new(rt.alloc()));
     let count = count_matches(rt, &mut stream, regex, block.as_slice(), &mut found);

@@ -5,13 +5,13 @@ ghost use Rattle.determinize_below.specs.declared.search.MatchKind.TheVariants a
 
 use crate::tests::dense::{TOKENS, WORD, dfa, expect_patterns, least, nfa};
 use crate::tests::{expect_debug, expect_text, same};
-use determinize_below::{HalfMatch, MatchKind, PatternID, StateID};
+use determinize_below::{HalfMatch, MatchKind, NFA, PatternID, StateID};
 use determinize_dense::{Dfa, RowId};
 use determinize_uses::steps::{all_ends, patterns_of};
 use std::process::Abort;
 
 /// Patterns of texts, and all matches of one.
-fn expect_words<R: Abort + AllocGlobal>(rt: &R, dfa: &Dfa<'_>)
+fn expect_words<R: Abort + AllocGlobal>(rt: &R, dfa: &Dfa<&NFA>)
     requires { dfa.now.kind ≡ kinds.All }
 {
     expect_patterns(rt, patterns_of(dfa, b"ab"), &[0]);
@@ -30,7 +30,7 @@ fn expect_words<R: Abort + AllocGlobal>(rt: &R, dfa: &Dfa<'_>)
 
 /// Of the four rows of the smallest DFA one lists a pattern: that after a word. It comes first
 /// after the dead row.
-fn expect_rows<R: Abort>(rt: &R, dfa: &Dfa<'_>) {
+fn expect_rows<R: Abort>(rt: &R, dfa: &Dfa<&NFA>) {
     let mut count = 0usize;
     for row in dfa.rows() {
         same(rt, row.as_usize(), count);
@@ -41,7 +41,7 @@ fn expect_rows<R: Abort>(rt: &R, dfa: &Dfa<'_>) {
 }
 
 /// The id of a row that a DFA does not have lists nothing, and the dead row follows it.
-fn expect_nothing<R: Abort>(rt: &R, dfa: &Dfa<'_>, row: RowId) {
+fn expect_nothing<R: Abort>(rt: &R, dfa: &Dfa<&NFA>, row: RowId) {
     same(rt, dfa.match_len(row), 0);
     same(rt, dfa.match_pattern(row, 0), None);
     same(rt, dfa.next_state(row, b'a'), RowId::DEAD);

@@ -1,8 +1,5 @@
 //! Calls of a `Builder` that no other test makes, and sizes above those of the other tests.
 
-ghost use Rattle.std.specs.Prelude.{◌≡◌, false};
-ghost use Rattle.determinize_below.specs.declared.search.MatchKind.TheVariants as kinds;
-
 use crate::tests::find::{WORDS, backward_of, expect_same, nfa, same_end};
 use crate::tests::kept::expect_sevens;
 use crate::tests::pieces::{end, put};
@@ -10,7 +7,7 @@ use crate::tests::uses::over;
 use crate::tests::{dense, ended, holds, same};
 use determinize_below::{Anchored, HalfMatch, Input, Look, MatchKind, NFA, StateID};
 use determinize_dense::Dfa;
-use determinize_find::{Builder, LazyRegex, Pieces, Regex, plain};
+use determinize_find::{Builder, Finder, Pieces, Plain, Regex, find_all};
 use determinize_lazy::Lazy;
 use std::alloc::Global;
 use std::process::Abort;
@@ -103,7 +100,7 @@ const TENTH: &str = "BU:1,2 B:30-31>0 B:31>3 B:30-31>4 B:30-31>5 B:30-31>6 B:30-
 
 /// Compares searches of a whole DFA of `TENTH`: a match ends after ten `1`, and none after ten `0`
 /// more.
-fn expect_tenth<R: Abort>(rt: &R, dfa: &Dfa) {
+fn expect_tenth<R: Abort>(rt: &R, dfa: &Dfa<&NFA>) {
     let found = dfa.search(Anchored::Yes, None, b"1111111111", None);
     same(rt, found, ended(10));
     let found = dfa.patterns_after(Anchored::Yes, None, b"11111111110000000000", None);
@@ -128,14 +125,11 @@ fn long_text<R: Abort + AllocGlobal>(rt: &R) -> Vec<u8> {
     text
 }
 
-/// Finds 100 words by `plain`, and none in spaces.
-fn expect_plain<R: Abort + AllocGlobal>(rt: &R, lazy: &mut Lazy<'_>, text: &[u8])
-    requires forward { lazy.old.nfa.reverse ≡ false }
-    requires kind { lazy.old.kind ≡ kinds.LeftmostFirst }
-{
-    let some = plain::find_all(rt.alloc(), lazy, &Input::new(text)).expect(rt, "memory");
+/// Finds 100 words by a `Plain`, and none in spaces.
+fn expect_plain<R: Abort + AllocGlobal>(rt: &R, plain: &mut Plain<'_, Lazy<'_>>, text: &[u8]) {
+    let some = find_all(rt.alloc(), plain, &Input::new(text)).expect(rt, "memory");
     same(rt, some.len(), 100);
-    same(rt, plain::find(lazy, &Input::new(&[b' '; 40])), Ok(None));
+    same(rt, plain.find(&Input::new(&[b' '; 40])), Ok(None));
 }
 
 /// Scans a text by a scan that begins before it and by one of it all, and walks over it.
@@ -152,7 +146,11 @@ fn expect_scans<R: Abort>(rt: &R, lazy: &mut Lazy<'_>, text: &[u8]) {
 
 /// Finds all words of a long text by an NFA and its reverse: whole, and in one piece, of which the
 /// last word is kept until the text ends.
-fn expect_regex<R: Abort + AllocGlobal>(rt: &R, regex: &mut LazyRegex<'_>, text: &[u8]) {
+fn expect_regex<R: Abort + AllocGlobal>(
+    rt: &R,
+    regex: &mut Regex<Lazy<'_>, Lazy<'_>>,
+    text: &[u8],
+) {
     let all = regex.find_all(rt.alloc(), &Input::new(text));
     let all = all.expect(rt, "memory");
     same(rt, all.len(), 20_001);
@@ -174,7 +172,8 @@ fn long_texts(rt: HostRuntime) {
         &mut Regex::new(rt.alloc(), &nfa, &backward, 100),
         &text,
     );
-    let mut lazy = Lazy::new(rt.alloc(), &nfa, MatchKind::LeftmostFirst, 100);
-    expect_plain(&rt, &mut lazy, text.get(..300).unwrap_or(&[]));
-    expect_scans(&rt, &mut lazy, &text);
+    let lazy = Lazy::new(rt.alloc(), &nfa, MatchKind::LeftmostFirst, 100);
+    let mut plain = Plain::new(&nfa, lazy);
+    expect_plain(&rt, &mut plain, text.get(..300).unwrap_or(&[]));
+    expect_scans(&rt, &mut plain.into_engine(), &text);
 }

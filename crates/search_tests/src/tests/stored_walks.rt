@@ -2,7 +2,6 @@
 //! anchored search after another, by an NFA and its reverse, and as the original found them.
 
 ghost use Rattle.std.specs.Prelude.{◌≡◌, false, true};
-ghost use Rattle.determinize_below.specs.declared.search.MatchKind.TheVariants as kinds;
 ghost use Rattle.determinize_find.specs.Prefix.{HasPrefix};
 ghost use Rattle.determinize_find.specs.Reversal.{IsReverseOf};
 ghost use Rattle.determinize_engine.specs.Searches.{has_start};
@@ -12,7 +11,7 @@ use crate::tests::finders::expect_input;
 use crate::tests::{expect_text, holds, same};
 use determinize_below::nfa::State;
 use determinize_below::{Anchored, HalfMatch, Input, MatchKind, NFA, StateID, Transition};
-use determinize_find::{LazyRegex, Match, Regex, plain, prefix};
+use determinize_find::{Finder, Match, Plain, Regex, find_all, prefix};
 use determinize_lazy::Lazy;
 use determinize_replay::job::Job;
 use example_walks::examples::examples;
@@ -137,20 +136,16 @@ pub fn prefixed<R: Abort + AllocGlobal>(rt: &R, fields: &Fields<'_>) -> NFA
 /// after it.
 fn leftmost<R: Abort + AllocGlobal>(
     rt: &R,
-    lazy: &mut Lazy<'_>,
-    regex: &mut LazyRegex<'_>,
+    plain: &mut Plain<'_, Lazy<'_>>,
+    regex: &mut Regex<Lazy<'_>, Lazy<'_>>,
     input: &Input<'_>,
 ) -> Option<Match>
-    requires forward { lazy.old.nfa.reverse ≡ false }
-    requires kind { lazy.old.kind ≡ kinds.LeftmostFirst }
     requires start { has_start input.now.anchored ≡ true }
-    ensures nfa { lazy.new.nfa ≡ lazy.old.nfa }
-    ensures kind { lazy.new.kind ≡ lazy.old.kind }
 {
     let found = regex.find(input).expect(rt, "memory");
-    same_match(rt, plain::find(lazy, input).expect(rt, "memory"), found);
+    same_match(rt, plain.find(input).expect(rt, "memory"), found);
     same(rt, regex.is_match(input), Ok(found.is_some()));
-    let all = plain::find_all(rt.alloc(), lazy, input).expect(rt, "memory");
+    let all = find_all(rt.alloc(), plain, input).expect(rt, "memory");
     same_match(rt, all.first().copied(), found);
     expect_same(rt, regex.find_all(rt.alloc(), input), all.as_slice());
     found
@@ -173,10 +168,11 @@ fn expect_finders<R: Abort + AllocGlobal>(
     let anchored = place.input(rt, Anchored::Yes);
     expect_input(rt, nfa, backward, &input);
     expect_input(rt, nfa, backward, &anchored);
-    let mut lazy = Lazy::new(rt.alloc(), nfa, MatchKind::LeftmostFirst, 50);
+    let lazy = Lazy::new(rt.alloc(), nfa, MatchKind::LeftmostFirst, 50);
+    let mut plain = Plain::new(nfa, lazy);
     let mut regex = Regex::new(rt.alloc(), nfa, backward, 50);
-    let anywhere = leftmost(rt, &mut lazy, &mut regex, &input);
-    let first = leftmost(rt, &mut lazy, &mut regex, &anchored);
+    let anywhere = leftmost(rt, &mut plain, &mut regex, &input);
+    let first = leftmost(rt, &mut plain, &mut regex, &anchored);
     if first.is_some() {
         same_match(rt, anywhere, first);
     }

@@ -11,7 +11,7 @@ use std::process::Abort;
 pub enum Trial<'r> {
     /// Builds NFAs.
     Build,
-    /// Finds the matches of a row by `plain`, through a cache of this limit.
+    /// Finds the matches of a row by a `Plain`, through a cache of this limit.
     SearchPlain(&'r find::Row, usize, &'r find::PlainSearch),
     /// Finds the matches of a row by a `Regex`, through caches of this limit.
     Search(&'r find::Row, usize, &'r find::Search),
