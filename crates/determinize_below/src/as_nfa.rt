@@ -1,4 +1,4 @@
-//! An NFA that is owned or borrowed, for types that work with either.
+//! An NFA, owned or borrowed, for types that work over either.
 
 ghost use Rattle.std.specs.Prelude.{◌≡◌};
 ghost use Rattle.determinize_below.specs.Semantics as semantics;
@@ -6,7 +6,7 @@ ghost use Rattle.determinize_below.specs.Semantics as semantics;
 use crate::nfa::NFA;
 use std::alloc::Allocator;
 
-/// An NFA, or a reference to one: what a DFA has of its NFA.
+/// An NFA, owned or borrowed.
 ///
 /// A DFA over an `NFA` owns it, so a function can return it and a struct can hold it. Several DFAs
 /// may borrow one NFA, each by a reference.

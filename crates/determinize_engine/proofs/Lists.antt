@@ -1,6 +1,6 @@
 -- The patterns that match where a text ends, in words of runs.
 -- Main statements: lists_at_end.
--- Used by: `patterns_after` of both DFAs.
+-- Used by: `patterns_after` of both DFAs, and the listings of a whole one.
 -- Idea: the last value of a walk is that over the unit ahead. Under `LeftmostFirst` it lists a pattern exactly if the
 -- last match of the walk, which is the preferred one, ends with the text.
 use Rattle.determinize_core.proofs.Common.{[], Accepts, after_at, All, arith, chain, ended_at, future, HalfMatch}

@@ -26,7 +26,7 @@ AreSplit f old new = AreLeast (AreTogether old f) new
 abbrev pub ArePartition : List ℕ → Type 0
 ArePartition least = AreLeast (λ b c. slice_index least b ≡ slice_index least c) least
 
--- no byte is above the bound that stands at the least byte of its class
+-- no byte is above the bound of its class, which is at the class's least byte
 abbrev pub IsBound : List ℕ → List ℕ → Type 0
 IsBound least bounds = (b : ℕ) → b < 256 → b ≤ slice_index bounds (slice_index least b)
 

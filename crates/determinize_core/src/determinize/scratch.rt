@@ -1,4 +1,4 @@
-//! The working memory of steps: of any NFA, one after another.
+//! The working memory of steps. One serves any NFA, and several in turn.
 
 ghost use Rattle.std.specs.Prelude.{◌≡◌, ◌<◌, ◌≤◌, length, IfOk, IfSome, IsSome, OnOk};
 ghost use Rattle.determinize_below.specs.Nfa.{AllResolve, IsAccepted};
@@ -107,7 +107,8 @@ impl<A: Allocator + Copy> Scratch<A> {
             .saturating_add(self.empty_builder.capacity())
     }
 
-    /// Returns the state before the first unit, as `Stepper::start`.
+    /// Returns the state before the first unit, as [`start_state`] does: from the NFA state
+    /// `start`, behind the byte before the text in reading order, `None` at an end of the haystack.
     pub fn start<N: Allocator>(
         &mut self,
         nfa: &NFA<N>,
@@ -123,7 +124,9 @@ impl<A: Allocator + Copy> Scratch<A> {
         self.start_of(nfa, start, start_kind_of(terminator, look_behind))
     }
 
-    /// Returns the state before the first unit for a kind of start, as `Stepper::start_of`.
+    /// Returns the state before the first unit for a kind of start: the one that `start` returns
+    /// for each byte of this kind. For a kind that does not occur (`Start::occurs`) it is some
+    /// state.
     pub fn start_of<N: Allocator>(
         &mut self,
         nfa: &NFA<N>,
@@ -144,7 +147,7 @@ impl<A: Allocator + Copy> Scratch<A> {
         self.finish(builder)
     }
 
-    /// Returns the state after a state over a unit of input, as `Stepper::next`.
+    /// Returns the state after a state of this NFA over a unit of input, as [`next`] does.
     pub fn next<N: Allocator>(
         &mut self,
         nfa: &NFA<N>,
@@ -163,8 +166,8 @@ impl<A: Allocator + Copy> Scratch<A> {
         self.finish(builder)
     }
 
-    /// Returns the state that `next` returns, in the memory of the builder, as
-    /// `Stepper::next_lent`.
+    /// Returns the state that `next` returns, in the memory of the builder and not in a copy. Given
+    /// back by `take_back`, the memory is used again by the next call.
     pub fn next_lent<N: Allocator>(
         &mut self,
         nfa: &NFA<N>,
