@@ -49,7 +49,7 @@ pub enum BuildError {
     BadDense(usize),
     /// The pattern of this `Match` state is also that of an earlier state.
     RepeatedPattern(usize),
-    /// A builder was to set a target of this state, which has none that can be set.
+    /// A builder was to set a target of this state, which is not there or has none to set.
     NotPatchable(usize),
     /// An allocation failed.
     OutOfMemory,

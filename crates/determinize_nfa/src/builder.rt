@@ -192,11 +192,10 @@ impl<A: Allocator + Copy> Builder<A> {
 
     /// Sets the target of a state that has one target, or adds a last alternate to a union.
     ///
-    /// `from` must be below `len()`, and `to` may be any id. Returns `NotPatchable` for a sparse
-    /// state, a match state and a fail state. To patch a sparse state, give it an empty state as
-    /// its target and patch that.
+    /// `to` may be any id. Returns `NotPatchable` if `from` is the id of no state, or of a sparse
+    /// state, a match state or a fail state. To patch a sparse state, give it an empty state as its
+    /// target and patch that.
     pub fn patch(&mut self, from: StateID, to: StateID) -> Result<(), BuildError>
-        requires { from < length self.old.states }
         ensures patched { OnOk result (self.new ≡ patched self.old from to) }
         ensures patchable { OnOk result
             (is_patchable (slice_index_or self.old.states from nodes.Fail) ≡ true) }
@@ -206,13 +205,15 @@ impl<A: Allocator + Copy> Builder<A> {
             IsNotSet (is_patchable (slice_index_or self.old.states from nodes.Fail)) from e) }
     {
         let index = from.as_usize();
+        if index >= self.states.len() {
+            return Err(BuildError::NotPatchable(index));
+        }
         redirect(&mut self.states[index], to, index)
     }
 
     /// Gives a union without alternates, as `add_union(&[])` adds it, these alternates, in order of
-    /// preference. `union` must be below `len()`. Returns `NotPatchable` for any other state.
+    /// preference. Returns `NotPatchable` for the id of any other state, or of none.
     pub fn close(&mut self, union: StateID, alternates: &[StateID]) -> Result<(), BuildError>
-        requires { union < length self.old.states }
         ensures closed { OnOk result (self.new ≡ closed self.old union alternates.now) }
         ensures place { OnOk result
             (is_place (slice_index_or self.old.states union nodes.Fail) ≡ true) }
@@ -222,6 +223,9 @@ impl<A: Allocator + Copy> Builder<A> {
             IsNotSet (is_place (slice_index_or self.old.states union nodes.Fail)) union e) }
     {
         let index = union.as_usize();
+        if index >= self.states.len() {
+            return Err(BuildError::NotPatchable(index));
+        }
         if !is_empty_union(&self.states[index]) {
             return Err(BuildError::NotPatchable(index));
         }

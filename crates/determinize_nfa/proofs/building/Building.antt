@@ -1,5 +1,5 @@
 -- What a builder adds, and that the prefix which it puts before a start is the usual one.
--- Main statements: index_within, node_is, same_node, has_prefix_apart, is_ahead, none_ahead, unfit_too_many,
+-- Main statements: node_is, same_node, has_prefix_apart, is_ahead, none_ahead, unfit_too_many,
 -- unfit_memory.
 -- Used by: `patch`, `close`, `build_with_prefix` and `push_state` of the module `builder`.
 -- Idea: no state before the prefix has a transition to it, so only the skip has one to its start.
@@ -23,12 +23,9 @@ use Rattle.std.specs.Prelude.{IfErr, IsErrAnd}
 -- the states that a builder is seen as, of which the program looks at one
 module _ {V : Type 0} (f : V → Node) (xs : List V) {patterns terminator : ℕ} {b : BuilderValue}
     (is : ◌≡◌ {A = BuilderValue} record { states = map f xs; patterns = patterns; terminator = terminator } b)
-    {i s : ℕ} (e : i ≡ s) (l : s < length b.states) where
-  pub index_within : i < length xs
-  index_within = let k : s < length (map f xs) = rw (← is) at l in omega (arith, length-map xs f, e)
-
+    {i s : ℕ} (e : i ≡ s) (l : i < length xs) where
   pub node_is : (x : V) → x ≡ get_or xs i x → get_or b.states s Fail ≡ f x
-  node_is x h = rw (← is, ← e, get_or-map f xs i x Fail index_within, ← h) refl
+  node_is x h = rw (← is, ← e, get_or-map f xs i x Fail l, ← h) refl
 
   pub same_node : (x y : V) → x ≡ get_or xs i x → y ≡ get_or xs i y → f x ≡ f y
   same_node x y h k = sym (node_is x h) ∙ node_is y k

@@ -1,5 +1,5 @@
 use Rattle.determinize_nfa.proofs.Common.{IfErr-weaker, IfOk-weaker, Nfa, ap, arith, by_cases, if_err_and, inl, length}
-use Rattle.determinize_nfa.proofs.Common.{looks_of, map, most_states, node_of, not, refl, suc, ◌+◌, ◌∙◌, ◌≡◌}
+use Rattle.determinize_nfa.proofs.Common.{looks_of, map, most_states, node_of, not, refl, suc, ◌+◌, ◌≡◌}
 use Rattle.determinize_nfa.proofs.Limits.{too_many}
 use Rattle.determinize_nfa.proofs.reversing.BothWays.{IsMadeOf, made_reverse}
 use Rattle.determinize_nfa.proofs.reversing.Counts.{larger, most}

@@ -1,15 +1,12 @@
 use Rattle.determinize_nfa.proofs.Common.{NotPatchable, ap, arith, inl, inr, length-map, length-set}
 use Rattle.determinize_nfa.proofs.Common.{if_err_and, map-set, node_of, refl, sym, ◌∙◌}
-use Rattle.determinize_nfa.proofs.building.Building.{index_within, node_is, same_node}
+use Rattle.determinize_nfa.proofs.building.Building.{node_is, same_node}
 use Rattle.determinize_nfa.proofs.builder.Builder.close.Goals as goal
-
-pub index-requires : goal.index-requires
-index-requires g c =
-    omega (arith, index_within _ _ c.self.view_is c.as_usize-index.ensures.value c.requires, c.self.inside.states.ok.0)
 
 pub returns-then-not-is_empty_union-clause-err : goal.returns-then-not-is_empty_union-clause-err
 returns-then-not-is_empty_union-clause-err g c = inl (
-  rw (node_is _ _ c.self.view_is c.as_usize-index.ensures.value c.requires c.index.result.now c.index.ensures)
+  rw (node_is _ _ c.self.view_is c.as_usize-index.ensures.value
+      (omega (arith, c.if-index-len.false, c.len.ensures, c.self.inside.states.ok.0)) c.index.result.now c.index.ensures)
       (sym c.is_empty_union.ensures ∙ c.if-not-is_empty_union.true),
   ap NotPatchable c.as_usize-index.ensures.value,
 )
@@ -18,13 +15,10 @@ pub returns-in_err-alternates-clause-err : goal.returns-in_err-alternates-clause
 returns-in_err-alternates-clause-err g c =
     if_err_and c.from_residual.result _ _ (λ e h. inr h) c.from_residual.ensures.1
 
-pub index_mut-requires : goal.index_mut-requires
-index_mut-requires g c =
-    omega (arith, index_within _ _ c.self.view_is c.as_usize-index.ensures.value c.requires, c.self.inside.states.ok.0)
-
 pub set_alternates-requires : goal.set_alternates-requires
 set_alternates-requires g c =
-    rw (same_node _ _ c.self.view_is c.as_usize-index.ensures.value c.requires c.index_mut.result.now c.index.result.now
+    rw (same_node _ _ c.self.view_is c.as_usize-index.ensures.value
+    (omega (arith, c.if-index-len.false, c.len.ensures, c.self.inside.states.ok.0)) c.index_mut.result.now c.index.result.now
     c.index_mut.ensures.value c.index.ensures) (sym c.is_empty_union.ensures ∙ c.if-not-is_empty_union.false)
 
 pub invariant_of-self : goal.invariant_of-self
@@ -42,7 +36,8 @@ returns-clause-closed g c =
 
 pub returns-clause-place : goal.returns-clause-place
 returns-clause-place g c =
-    rw (node_is _ _ c.self.view_is c.as_usize-index.ensures.value c.requires c.index.result.now c.index.ensures)
+    rw (node_is _ _ c.self.view_is c.as_usize-index.ensures.value
+    (omega (arith, c.if-index-len.false, c.len.ensures, c.self.inside.states.ok.0)) c.index.result.now c.index.ensures)
     (sym c.is_empty_union.ensures ∙ c.if-not-is_empty_union.false)
 
 pub returns-clause-count : goal.returns-clause-count

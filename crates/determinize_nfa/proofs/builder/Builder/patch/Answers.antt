@@ -2,20 +2,17 @@ use Rattle.determinize_nfa.proofs.Common.{ap, arith, length-map, length-set}
 use Rattle.determinize_nfa.proofs.Common.{map-set, node_of, on_ok_weaker, refl, ◌∙◌, ◌≡◌}
 use Rattle.std.proofs.Math.Seq.{map-set_same}
 use Rattle.std.proofs.lemmas.Result.{on_err_weaker}
-use Rattle.determinize_nfa.proofs.building.Building.{index_within, node_is}
+use Rattle.determinize_nfa.proofs.building.Building.{node_is}
 use Rattle.determinize_nfa.specs.Builder.{redirected}
 use Rattle.determinize_nfa.proofs.builder.Builder.patch.Goals as goal
-
-pub index_mut-requires : goal.index_mut-requires
-index_mut-requires g c =
-    omega (arith, index_within _ _ c.self.view_is c.as_usize-index.ensures.value c.requires, c.self.inside.states.ok.0)
 
 pub invariant_of-self : goal.invariant_of-self
 invariant_of-self g c = simp length-set c.self.invariant
 
 pub returns-clause-patched : goal.returns-clause-patched
 returns-clause-patched g c =
-    let node = node_is _ _ c.self.view_is c.as_usize-index.ensures.value c.requires c.index_mut.result.now
+    let node = node_is _ _ c.self.view_is c.as_usize-index.ensures.value
+    (omega (arith, c.if-index-len.false, c.len.ensures, c.self.inside.states.ok.0)) c.index_mut.result.now
     c.index_mut.ensures.value in
     on_ok_weaker c.redirect.result
     (λ (n : node_of c.redirect.new.state ≡ redirected c.args.to (node_of c.index_mut.result.now)). rw (
@@ -29,7 +26,8 @@ returns-clause-patched g c =
 
 pub returns-clause-patchable : goal.returns-clause-patchable
 returns-clause-patchable g c =
-    rw (node_is _ _ c.self.view_is c.as_usize-index.ensures.value c.requires c.index_mut.result.now
+    rw (node_is _ _ c.self.view_is c.as_usize-index.ensures.value
+    (omega (arith, c.if-index-len.false, c.len.ensures, c.self.inside.states.ok.0)) c.index_mut.result.now
     c.index_mut.ensures.value) c.redirect.ensures.patchable
 
 pub returns-clause-failed : goal.returns-clause-failed
@@ -47,7 +45,8 @@ returns-clause-count g c = rw (← c.self.view_is) (simp (length-map, length-set
 pub returns-clause-err : goal.returns-clause-err
 returns-clause-err g c =
     rw (
-      node_is _ _ c.self.view_is c.as_usize-index.ensures.value c.requires c.index_mut.result.now
+      node_is _ _ c.self.view_is c.as_usize-index.ensures.value
+          (omega (arith, c.if-index-len.false, c.len.ensures, c.self.inside.states.ok.0)) c.index_mut.result.now
           c.index_mut.ensures.value,
       ← c.as_usize-index.ensures.value,
     ) c.redirect.ensures.err
