@@ -116,6 +116,20 @@ impl<'h> Input<'h> {
         }
     }
 
+    /// Returns the input with this range, or `None` if the range does not end within the haystack
+    /// or starts more than one past its end.
+    pub fn try_range(self, range: Range<usize>) -> Option<Input<'h>>
+        ensures some { IfSome result
+            (λ i. i ≡ record self.entry { start = range.start; end = range.end }) }
+        ensures fits { IsSome result
+            ↔ ((range.end ≤ length self.entry.haystack) × (range.start ≤ range.end + 1)) }
+    {
+        if range.end > self.haystack.len() || range.start > range.end + 1 {
+            return None;
+        }
+        Some(self.range(range))
+    }
+
     /// Returns the input with this anchored mode.
     pub fn anchored(self, anchored: Anchored) -> Input<'h>
         ensures { result ≡ record self.entry { anchored = anchored } }
