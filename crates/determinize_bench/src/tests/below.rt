@@ -1,9 +1,11 @@
-//! Ids and units: texts. Dense states with too few targets, and too many.
+//! Ids and units: texts. Dense states with too few targets, and too many. Ids and ranges that do
+//! not fit.
 
 use crate::tests::texts::expect_text;
 use crate::tests::{joined, same, same_at};
 use determinize_below::nfa::{DenseTransitions, State};
-use determinize_below::{BuildError, LookMatcher, NFA, PatternID, StateID, Unit};
+use determinize_below::{BuildError, Input, LookMatcher, NFA, PatternID, StateID, Unit};
+use determinize_nfa::Builder;
 
 /// The debug texts of a state id, a pattern id, a byte and the end of input.
 const VALUES: &str = "\
@@ -42,5 +44,24 @@ fn rejects_a_short_table(rt: HostRuntime) {
         let states = vec![in rt.alloc(); dense].expect(&rt, "memory");
         let made = NFA::from_parts(rt.alloc(), states, start, start, false, LookMatcher::new());
         same_at(&rt, count, made.err(), error);
+    }
+}
+
+#[test]
+fn rejects_ids_and_ranges_that_do_not_fit(rt: HostRuntime) {
+    let mut builder = Builder::new(rt.alloc());
+    same(&rt, builder.add_empty(), Ok(StateID::ZERO));
+    let missing = StateID::must(7);
+    let refused = Err(BuildError::NotPatchable(7));
+    same(&rt, builder.patch(missing, StateID::ZERO), refused);
+    same(&rt, builder.close(missing, &[]), refused);
+    for (start, end, fits) in [
+        (0, 11, true),
+        (12, 11, true),
+        (0, 12, false),
+        (13, 11, false),
+    ] {
+        let input = Input::new(b"hello world").try_range(start..end);
+        same_at(&rt, start, input.is_some(), fits);
     }
 }

@@ -6,7 +6,8 @@ use Rattle.determinize_nfa.proofs.builder.Builder.close.Goals as goal
 pub returns-then-not-is_empty_union-clause-err : goal.returns-then-not-is_empty_union-clause-err
 returns-then-not-is_empty_union-clause-err g c = inl (
   rw (node_is _ _ c.self.view_is c.as_usize-index.ensures.value
-      (omega (arith, c.if-index-len.false, c.len.ensures, c.self.inside.states.ok.0)) c.index.result.now c.index.ensures)
+      (omega (arith, c.if-index-len.false, c.len.ensures, c.self.inside.states.ok.0))
+      c.index.result.now c.index.ensures)
       (sym c.is_empty_union.ensures ∙ c.if-not-is_empty_union.true),
   ap NotPatchable c.as_usize-index.ensures.value,
 )
@@ -18,8 +19,9 @@ returns-in_err-alternates-clause-err g c =
 pub set_alternates-requires : goal.set_alternates-requires
 set_alternates-requires g c =
     rw (same_node _ _ c.self.view_is c.as_usize-index.ensures.value
-    (omega (arith, c.if-index-len.false, c.len.ensures, c.self.inside.states.ok.0)) c.index_mut.result.now c.index.result.now
-    c.index_mut.ensures.value c.index.ensures) (sym c.is_empty_union.ensures ∙ c.if-not-is_empty_union.false)
+    (omega (arith, c.if-index-len.false, c.len.ensures, c.self.inside.states.ok.0))
+    c.index_mut.result.now c.index.result.now c.index_mut.ensures.value c.index.ensures)
+    (sym c.is_empty_union.ensures ∙ c.if-not-is_empty_union.false)
 
 pub invariant_of-self : goal.invariant_of-self
 invariant_of-self g c = simp length-set c.self.invariant
