@@ -1,11 +1,12 @@
-//! Ids and units: texts. Dense states with too few targets, and too many. Ids and ranges that do
-//! not fit.
+//! Ids and units: texts. Sparse sets of each size. Dense states with too few targets, and too many.
+//! Ids and ranges that do not fit.
 
 use crate::tests::texts::expect_text;
-use crate::tests::{joined, same, same_at};
+use crate::tests::{holds, joined, same, same_at};
 use determinize_below::nfa::{DenseTransitions, State};
-use determinize_below::{BuildError, Input, LookMatcher, NFA, PatternID, StateID, Unit};
+use determinize_below::{BuildError, Input, LookMatcher, NFA, PatternID, SparseSet, StateID, Unit};
 use determinize_nfa::Builder;
+use std::process::Abort;
 
 /// The debug texts of a state id, a pattern id, a byte and the end of input.
 const VALUES: &str = "\
@@ -29,6 +30,45 @@ fn texts_of_numbers_that_are_no_ids(rt: HostRuntime) {
     let state = StateID::new(2_147_483_647);
     let pattern = PatternID::new(3_000_000_000);
     expect_text(&rt, &(state, pattern), ERRORS);
+}
+
+/// Inserts every id below the capacity of a set, from the greatest down. Each must be new, or each
+/// must be in the set already.
+fn insert_down<R: Abort>(rt: &R, set: &mut SparseSet, is_new: bool) {
+    for number in (0..set.capacity()).rev() {
+        let id = StateID::new(number).expect(rt, "an id");
+        holds(rt, id.as_usize() < set.capacity());
+        same_at(rt, number, set.insert(id), is_new);
+    }
+}
+
+/// Returns an empty set for ids below the capacity.
+fn set_of<R: Abort + AllocGlobal>(rt: &R, capacity: usize) -> SparseSet {
+    holds(rt, capacity <= 128);
+    SparseSet::new(rt.alloc(), capacity).expect(rt, "memory")
+}
+
+#[test]
+fn sparse_sets(rt: HostRuntime) {
+    for capacity in [0, 1, 63, 64, 65, 128] {
+        let mut set = set_of(&rt, capacity);
+        insert_down(&rt, &mut set, true);
+        insert_down(&rt, &mut set, false);
+        same(&rt, set.len(), capacity);
+        for (id, number) in set.iter().zip((0..capacity).rev()) {
+            same(&rt, id.as_usize(), number);
+        }
+    }
+}
+
+#[test]
+fn cleared_sparse_sets(rt: HostRuntime) {
+    for capacity in [0, 1, 63, 64, 65, 128] {
+        let mut set = set_of(&rt, capacity);
+        insert_down(&rt, &mut set, true);
+        set.clear();
+        insert_down(&rt, &mut set, true);
+    }
 }
 
 #[test]

@@ -3,9 +3,20 @@
 use crate::tests::texts::text_of;
 use crate::tests::{same, same_at};
 use determinize_below::nfa::State;
-use determinize_below::{Look, LookMatcher, LookSet, NFA, StateID};
+use determinize_below::{BuildError, Look, LookMatcher, LookSet, NFA, StateID};
 use example_walks::states;
 use std::process::Abort;
+
+#[test]
+fn start_behind_the_last_state(rt: HostRuntime) {
+    let (first, behind) = (StateID::ZERO, StateID::must(2));
+    for (anchored, unanchored) in [(behind, first), (first, behind)] {
+        let states = states::states(rt.alloc(), "B:61>1 M:0").expect(&rt, "states");
+        let matcher = LookMatcher::new();
+        let made = NFA::from_parts(rt.alloc(), states, anchored, unanchored, false, matcher);
+        same(&rt, made.err(), Some(BuildError::UnresolvedStart));
+    }
+}
 
 /// Compares what the readers of an NFA return, which is for reverse scans.
 fn expect_readers<R: Abort + AllocGlobal>(rt: &R, nfa: &NFA, start: StateID) {
