@@ -5,8 +5,8 @@
 use crate::tests::find::{Ends, expect_found, expect_matches};
 use crate::tests::{expect_text, holds, same};
 use determinize_regex::{
-    Anchored, Error, ErrorKind, Input, Match, Matcher, ParseError, PatternID, Regex, RegexConfig,
-    RegexSet, Searcher, Stream,
+    Error, ErrorKind, Input, Match, Matcher, ParseError, PatternID, Regex, RegexConfig, RegexSet,
+    Searcher, Stream,
 };
 use determinize_uses::{patterns, words};
 use std::alloc::AllocError;
