@@ -1,5 +1,4 @@
 pub mod Boundaries
-pub mod FoundByRegex
 pub mod FoundOfPatterns
 pub mod LeftmostExists
 pub mod ListsOfPatterns

@@ -1,7 +1,7 @@
 -- A text is cut at one match after another, and other bytes are put in their places.
 -- Main statements: kept_apart, one_part, last_part, called_more, one_more_match, one_of_each,
--- last_of_each, one_replaced, last_replaced, each_replaced_is_joined.
--- Used by: `whole_matches_in`, `split_at`, `replace`, `replace_each`, and `laws::parts_law`.
+-- last_of_each, replaced_by, each_replaced_is_joined.
+-- Used by: `whole_matches_in`, `split_at`, `replace_each`, `replace_all`, and `laws::parts_law`.
 -- Idea: what is made of the matches so far, and then of the rest from their end on, is what is made of all.
 use Rattle.std.specs.Borrow.{Bor}
 use Rattle.std.specs.List.{FoldsTo, flat_map, join_by}
@@ -15,7 +15,7 @@ use Rattle.determinize_below.proofs.Moved.{one_more}
 use Rattle.determinize_below.specs.declared.search.Match.{Match}
 use Rattle.determinize_find.specs.Matches.{AreApart}
 use Rattle.determinize_regex.specs.Laws.{EachReplacedIsJoined}
-use Rattle.determinize_regex.specs.Parts.{parts, replaced, replaced_each}
+use Rattle.determinize_regex.specs.Parts.{IsReplacedBy, parts, replaced, replaced_each}
 
 -- the matches that are left lie in the text from an index on
 pub record AreLeft (text_size at : ℕ) (found : List Match) : Type 0 where
@@ -112,22 +112,22 @@ module _ (text : List ℕ) where
       let so_far : new ++ drop at text ≡ replaced_each text 0 (each ++ []) = h [] in
       rw (append-nil each) at (is ∙ so_far)
 
+-- where each call returns these bytes and changes nothing, they are in place of each match
+module _ {F : Type 0} (Call : F → Match × Bor (List ℕ) → F → Type 0) (first : F) (by text : List ℕ)
+    (same : (x : Match × Bor (List ℕ)) (next : F) → Call first x next → (x.1.now ≡ by) × (next ≡ first)) where
+  each_is : (each : List (Match × Bor (List ℕ))) (now last : F) (at : ℕ) → now ≡ first → FoldsTo Call now each last
+      → replaced_each text at each ≡ replaced by text at (map (λ x. x.0) each)
+  each_is [] now last at is calls = refl
+  each_is (x ∷ xs) now last at is calls =
+      let one = same x calls.0 (rw is at calls.1) in
+      rw (one.0, each_is xs calls.0 last x.0.end one.1 calls.2) refl
+
+  pub replaced_by : (found : List Match) (new : List ℕ) → IsReplacedBy Call first found text new
+      → new ≡ replaced by text 0 found
+  replaced_by found new h =
+      h.is ∙ each_is h.each first h.last 0 refl h.calls ∙ ap (replaced by text 0) h.matches
+
 module _ (by text : List ℕ) where
-  -- the bytes so far, before those that are left, are all
-  abbrev pub IsNew : ℕ → List Match → List ℕ → List ℕ → Type 0
-  IsNew at found new all = new ++ replaced by text at found ≡ all
-
-  pub one_replaced : (new mid more all : List ℕ) (at : ℕ) (m : Match) (ms found : List Match) → found ≡ m ∷ ms
-      → mid ≡ new ++ slice_range text at m.start → more ≡ mid ++ by → IsNew at found new all → IsNew m.end ms more all
-  one_replaced new mid more all at m ms found rest first is h =
-      let so_far : new ++ (slice_range text at m.start ++ by ++ replaced by text m.end ms) ≡ all = rw rest at h in
-      rw (is, first) (simp append_assoc (simp append_assoc at so_far))
-
-  pub last_replaced : (new more all : List ℕ) (at : ℕ) (found : List Match) → found ≡ []
-      → more ≡ new ++ drop at text → IsNew at found new all → more ≡ all
-  last_replaced new more all at found none is h =
-      let so_far : new ++ drop at text ≡ all = rw none at h in is ∙ so_far
-
   joined_rest : (at : ℕ) (found : List Match)
       → flat_map (λ (part : List ℕ). by ++ part) (parts text at found) ≡ by ++ replaced by text at found
   joined_rest at [] = append-nil (by ++ drop at text)

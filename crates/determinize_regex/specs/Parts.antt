@@ -16,30 +16,24 @@ abbrev pub replaced : List ℕ → List ℕ → ℕ → List Match → List ℕ
 replaced by text at [] = drop at text
 replaced by text at (m ∷ ms) = slice_range text at m.start ++ by ++ replaced by text m.end ms
 
--- these are the parts of a text that lie between all matches of the patterns
-pub record AreParts (regex : RegexValue) (text : List ℕ) (cut : List (List ℕ)) : Type 0 where
+-- these are all matches of the patterns in a text but the empty ones inside a character
+pub record AreWholeIn (regex : RegexValue) (text : List ℕ) (found : List Match) : Type 0 where
   pub matches : List Match
   pub all : AreAllIn regex text matches
+  pub kept : found ≡ filter (is_whole text) matches
+
+-- these are the parts of a text that lie between these matches
+pub record AreParts (AreThese : List Match → Type 0) (text : List ℕ) (cut : List (List ℕ))
+    : Type 0 where
+  pub matches : List Match
+  pub these : AreThese matches
   pub are : cut ≡ parts text 0 matches
 
--- this is a text with these bytes in place of each match of the patterns
-pub record IsReplaced (regex : RegexValue) (text by new : List ℕ) : Type 0 where
+-- this is a text with these bytes in place of each of these matches
+pub record IsReplaced (AreThese : List Match → Type 0) (text by new : List ℕ) : Type 0 where
   pub matches : List Match
-  pub all : AreAllIn regex text matches
+  pub these : AreThese matches
   pub is : new ≡ replaced by text 0 matches
-
--- these are the parts of a text that lie between all matches of the patterns but the empty ones
--- inside a character
-pub record AreUtf8Parts (regex : RegexValue) (text : List ℕ) (cut : List (List ℕ)) : Type 0 where
-  pub matches : List Match
-  pub all : AreAllIn regex text matches
-  pub are : cut ≡ parts text 0 (filter (is_whole text) matches)
-
--- this is a text with these bytes in place of each of the same matches
-pub record IsReplacedUtf8 (regex : RegexValue) (text by new : List ℕ) : Type 0 where
-  pub matches : List Match
-  pub all : AreAllIn regex text matches
-  pub is : new ≡ replaced by text 0 (filter (is_whole text) matches)
 
 -- a text, from an index on, in which each match is replaced by the bytes paired with it
 abbrev pub replaced_each : List ℕ → ℕ → List (Match × Bor (List ℕ)) → List ℕ

@@ -1,5 +1,6 @@
 -- What a regex is seen as, and what it finds.
-use Rattle.std.specs.Prelude.{◌≡◌, ◌-◌, ◌≤◌, ℕ, Contains, false, List, None, Option, Some, map}
+use Rattle.std.specs.Prelude.{◌≡◌, ◌+◌, ◌-◌, ◌≤◌, ℕ, Contains, List, None, Option, Some, false, length}
+use Rattle.std.specs.Prelude.{map}
 use Rattle.determinize_below.specs.Search.{Asked}
 use Rattle.determinize_below.specs.Semantics.{Nfa}
 use Rattle.determinize_below.specs.declared.search.Match.{Match}
@@ -14,6 +15,7 @@ use Rattle.determinize_pattern.specs.Meaning.{Re}
 use Rattle.determinize_pattern.specs.Patterns.{meaning}
 use Rattle.determinize_pattern.specs.declared.pattern.Pattern.{Pattern}
 use Rattle.determinize_regex.specs.PatternMatches.{AreMatchesOf, IsLeftmostOfIn}
+use Rattle.determinize_regex.specs.declared.regex.RegexConfig.{RegexConfig}
 
 -- the patterns, the line terminator of their assertions, their NFA, and the greatest number of
 -- states of each of the two caches
@@ -33,6 +35,21 @@ pub record IsRegex (regex : RegexValue) : Type 0 where
   pub prefix : HasPrefix regex.nfa
   pub apart : HasPrefixApart regex.nfa
   pub ends : regex.nfa.terminator ≡ regex.terminator
+
+-- this is its NFA, which reads forward
+pub record IsNfaIn (regex : RegexValue) (nfa : Nfa) : Type 0 where
+  pub value : nfa ≡ regex.nfa
+  pub means : IsNfaOf (meanings regex) nfa
+  pub forward : nfa.reverse ≡ false
+  pub prefix : HasPrefix nfa
+  pub separate : HasPrefixApart nfa
+  pub terminator : nfa.terminator ≡ regex.terminator
+
+-- it was made with these options
+pub record HasOptions (config : RegexConfig) (regex : RegexValue) : Type 0 where
+  pub terminator : regex.terminator ≡ config.compile.look_matcher
+  pub limit : regex.limit ≡ config.cache_limit
+  pub few : length regex.nfa.states ≤ config.compile.state_limit + 2
 
 -- the leftmost match of the patterns in the input
 abbrev pub IsFirst : RegexValue → Asked → Option Match → Type 0

@@ -1,10 +1,11 @@
 //! Errors of `Regex::new`.
 
+ghost use Rattle.std.specs.IoError.{error_kind};
 ghost use Rattle.std.specs.Prelude.{◌≡◌};
 ghost use Rattle.determinize_below.specs.declared.nfa.BuildError.TheVariants.{OutOfMemory};
 ghost use Rattle.determinize_pattern.specs.declared.nfa.CompileError.TheVariants.{Build};
 ghost use Rattle.determinize_regex.specs.declared.error.Error.TheVariants.{Compile};
-ghost use Rattle.determinize_regex.specs.Errors.{is_out_of_memory};
+ghost use Rattle.determinize_regex.specs.Errors.{io_kind, is_out_of_memory};
 
 use determinize_below::BuildError;
 use determinize_pattern::CompileError;
@@ -38,22 +39,18 @@ impl Error {
     pub fn is_out_of_memory(&self) -> bool
         ensures { result ≡ is_out_of_memory self.now }
     {
-        matches!(
-            self,
-            Error::Parse {
-                error: ParseError {
-                    kind: ErrorKind::OutOfMemory,
-                    ..
-                },
-                ..
-            } | Error::Compile(CompileError::Build(BuildError::OutOfMemory))
-        )
+        match self {
+            Error::Parse { error, .. } => matches!(error.kind, ErrorKind::OutOfMemory),
+            Error::Compile(error) => matches!(error, CompileError::Build(BuildError::OutOfMemory)),
+        }
     }
 }
 
 /// Returns an error of kind `OutOfMemory`, or else of kind `InvalidInput` with this text, cut to 80
 /// bytes. So `?` works in a `main` that returns an `io::Result`.
 impl From<Error> for io::Error {
+    ghost from_gives = { λ error e. error_kind e ≡ io_kind error };
+
     fn from(error: Error) -> io::Error {
         if error.is_out_of_memory() {
             return io::Error::from(io::ErrorKind::OutOfMemory);

@@ -13,7 +13,6 @@
 //! `Anchored::Pattern`.
 #![tactic(auto)]
 
-pub mod as_patterns;
 pub mod error;
 pub mod laws;
 pub mod regex;
@@ -23,11 +22,11 @@ mod split;
 pub mod stream;
 pub mod utf8;
 
-pub use as_patterns::AsPatterns;
 pub use determinize_below::{
     Anchored, AsNfa, BuildError, Input, Look, LookMatcher, Match, NFA, PatternID,
 };
 pub use determinize_find::{Finder, Searcher};
+pub use determinize_linear::Tries;
 pub use determinize_pattern::{
     ClassBytes, ClassBytesRange, ClassUnicodeRange, CompileError, Config, Pattern,
 };

@@ -1,27 +1,25 @@
 //! Patterns that are compiled once, and searched for.
 
-ghost use Rattle.std.specs.Prelude.{◌≡◌, ◌+◌, ◌<◌, ◌≤◌, ◌∷◌, [], Err, IfErr, IfOk, length, map, false, true};
-ghost use Rattle.determinize_nfa.specs.Prefix.{HasPrefix, HasPrefixApart};
-ghost use Rattle.determinize_pattern.specs.Compiled.{IsNfaOf};
+ghost use Rattle.std.specs.Prelude.{◌≡◌, ◌<◌, ◌≤◌, ◌∷◌, [], Err, IfErr, IfOk, length, map};
 ghost use Rattle.determinize_pattern.specs.Nesting.{deepest};
 ghost use Rattle.determinize_pattern.specs.Patterns.{meaning};
 ghost use Rattle.determinize_pattern.specs.declared.nfa.CompileError.TheVariants.{NestLimitExceeded};
 ghost use Rattle.determinize_below.specs.Nfa.{IsAccepted};
-ghost use Rattle.determinize_regex.specs.RegexBytes.{regex_bytes};
-ghost use Rattle.determinize_regex.specs.Regexes.{IsRegex};
+ghost use Rattle.determinize_regex.specs.RegexBytes.{AreBytesOf, regex_bytes};
+ghost use Rattle.determinize_regex.specs.Regexes.{HasOptions, IsNfaIn, IsRegex, meanings};
 ghost use Rattle.determinize_regex.specs.Spelled.{AreSpelled, IsRejected};
 ghost use Rattle.determinize_regex.specs.Streams.{IsStreamOf};
 ghost use Rattle.determinize_syntax.specs.Words.{no_flags};
 
-use crate::as_patterns::AsPatterns;
 use crate::error::Error;
 use crate::stream::Stream;
 use determinize_below::{AsNfa, NFA};
-use determinize_find::Regex as Search;
+use determinize_find::{Pieces, Regex as Search, cached_memory_usage};
 use determinize_lazy::LazyDfa;
 use determinize_pattern::{CompileError, Config, Pattern, compile};
 use determinize_syntax::{Flags, parse_with};
 use std::alloc::{Allocator, Global};
+use std::convert::AsSlice;
 use std::marker::Model;
 
 /// The options of a regex: its limits, its line terminator, and the flags that hold where a pattern
@@ -63,7 +61,11 @@ impl RegexConfig {
 ///
 /// `P` are the patterns, `R` are the NFA and its reverse, each owned or borrowed, and `A` is where
 /// the caches are allocated.
-pub struct Regex<P: AsPatterns = Vec<Pattern>, R: AsNfa = NFA, A: Allocator + Copy = Global> {
+pub struct Regex<
+    P: AsSlice<Pattern> + Drop = Vec<Pattern>,
+    R: AsNfa = NFA,
+    A: Allocator + Copy = Global,
+> {
     pub(crate) patterns: P,
     pub(crate) search: Search<LazyDfa<R, A>, LazyDfa<R, A>>,
 }
@@ -72,7 +74,7 @@ pub struct Regex<P: AsPatterns = Vec<Pattern>, R: AsNfa = NFA, A: Allocator + Co
 pub type Matcher<'r, A = Global> = Regex<&'r [Pattern], &'r NFA, A>;
 
 // Derived code is proved at each exit of each function that owns a regex.
-impl<P: AsPatterns, R: AsNfa, A: Allocator + Copy> Drop for Regex<P, R, A> {
+impl<P: AsSlice<Pattern> + Drop, R: AsNfa, A: Allocator + Copy> Drop for Regex<P, R, A> {
     fn drop(self) {
         let Regex {
             patterns: _,
@@ -81,7 +83,7 @@ impl<P: AsPatterns, R: AsNfa, A: Allocator + Copy> Drop for Regex<P, R, A> {
     }
 }
 
-impl<P: AsPatterns, R: AsNfa, A: Allocator + Copy> Model for Regex<P, R, A> {
+impl<P: AsSlice<Pattern> + Drop, R: AsNfa, A: Allocator + Copy> Model for Regex<P, R, A> {
     ghost use Rattle.std.specs.Coded.{codes};
     ghost use Rattle.determinize_pattern.specs.contracts.pattern.Pattern as e;
     ghost use Rattle.determinize_regex.specs.Private.Searched.{IsSearchOf, value_of};
@@ -91,9 +93,9 @@ impl<P: AsPatterns, R: AsNfa, A: Allocator + Copy> Model for Regex<P, R, A> {
 
     ghost coded = { Prim.hlevel (codes, e.the_row.coded) };
 
-    ghost view = { λ r. value_of (P.patterns r.patterns) r.search };
+    ghost view = { λ r. value_of (P.items r.patterns) r.search.nfa r.search.limit };
 
-    ghost invariant = { λ r. IsSearchOf (P.patterns r.patterns) r.search };
+    ghost invariant = { λ r. IsSearchOf (P.items r.patterns) r.search };
 }
 
 impl Regex {
@@ -103,7 +105,7 @@ impl Regex {
     /// those of `from_patterns`.
     pub fn new(alloc: Global, pattern: &str) -> Result<Regex, Error>
         ensures spelled { IfOk result
-            (λ regex. AreSpelled no_flags (map meaning regex.patterns) (pattern.now ∷ [])) }
+            (λ regex. AreSpelled no_flags (meanings regex) (pattern.now ∷ [])) }
         ensures rejected { IfErr result (λ e. IsRejected no_flags (pattern.now ∷ []) e) }
         ensures terminator { IfOk result (λ regex. regex.terminator ≡ 10) }
         ensures limit { IfOk result (λ regex. regex.limit ≡ 10000) }
@@ -118,14 +120,10 @@ impl Regex {
     /// errors are those of `from_patterns`.
     pub fn new_many(alloc: Global, patterns: &[&str], config: RegexConfig) -> Result<Regex, Error>
         ensures spelled { IfOk result (λ regex.
-            AreSpelled config.flags (map meaning regex.patterns) (map (λ t. t.now) patterns.now)) }
+            AreSpelled config.flags (meanings regex) (map (λ t. t.now) patterns.now)) }
         ensures rejected { IfErr result
             (λ e. IsRejected config.flags (map (λ t. t.now) patterns.now) e) }
-        ensures terminator { IfOk result
-            (λ regex. regex.terminator ≡ config.compile.look_matcher) }
-        ensures limit { IfOk result (λ regex. regex.limit ≡ config.cache_limit) }
-        ensures few { IfOk result
-            (λ regex. length regex.nfa.states ≤ config.compile.state_limit + 2) }
+        ensures options { IfOk result (λ regex. HasOptions config regex) }
     {
         let parsed = parse_all(alloc, patterns, config.flags)?;
         Ok(Regex::from_patterns(alloc, parsed, config)?)
@@ -140,11 +138,7 @@ impl Regex {
         config: RegexConfig,
     ) -> Result<Regex, CompileError>
         ensures patterns { IfOk result (λ regex. regex.patterns ≡ patterns.items) }
-        ensures terminator { IfOk result
-            (λ regex. regex.terminator ≡ config.compile.look_matcher) }
-        ensures limit { IfOk result (λ regex. regex.limit ≡ config.cache_limit) }
-        ensures few { IfOk result
-            (λ regex. length regex.nfa.states ≤ config.compile.state_limit + 2) }
+        ensures options { IfOk result (λ regex. HasOptions config regex) }
         ensures nested { config.compile.nest_limit < deepest patterns.items
             → result ≡ Err (NestLimitExceeded config.compile.nest_limit) }
     {
@@ -156,10 +150,7 @@ impl Regex {
     /// Returns a matcher of these patterns with two empty caches of at most `limit` states each.
     /// Does not allocate. Searches allocate from `alloc`.
     pub fn matcher<A: Allocator + Copy>(&self, alloc: A, limit: usize) -> Matcher<'_, A>
-        ensures patterns { result.patterns ≡ self.now.patterns }
-        ensures terminator { result.terminator ≡ self.now.terminator }
-        ensures nfa { result.nfa ≡ self.now.nfa }
-        ensures limit { result.limit ≡ limit }
+        ensures value { result ≡ record self.now { limit = limit } }
         ensures is { IsRegex result }
         ensures accepted { IsAccepted result.nfa }
     {
@@ -173,32 +164,28 @@ impl Regex {
     /// yet, with two empty caches of at most `limit` states each. Does not allocate. The search
     /// allocates from `alloc`.
     pub fn stream<A: Allocator + Copy>(&self, alloc: A, limit: usize) -> Stream<'_, A>
-        ensures patterns { result.regex.patterns ≡ self.now.patterns }
-        ensures terminator { result.regex.terminator ≡ self.now.terminator }
-        ensures nfa { result.regex.nfa ≡ self.now.nfa }
-        ensures limit { result.regex.limit ≡ limit }
+        ensures value { result.regex ≡ record self.now { limit = limit } }
         ensures stream { IsStreamOf result [] [] }
     {
-        Stream::new(alloc, self.matcher(alloc, limit))
+        Stream {
+            patterns: self.patterns.as_slice(),
+            search: self.search.borrowed(alloc, limit),
+            pieces: Pieces::new(alloc),
+        }
     }
 }
 
-impl<P: AsPatterns, R: AsNfa, A: Allocator + Copy> Regex<P, R, A> {
+impl<P: AsSlice<Pattern> + Drop, R: AsNfa, A: Allocator + Copy> Regex<P, R, A> {
     /// Returns the patterns.
     pub fn patterns(&self) -> &[Pattern]
         ensures { result.now ≡ self.now.patterns }
     {
-        self.patterns.patterns()
+        self.patterns.as_slice()
     }
 
     /// Returns the NFA of the patterns.
     pub fn nfa(&self) -> &NFA<R::N>
-        ensures value { result.now ≡ self.now.nfa }
-        ensures means { IsNfaOf (map meaning self.now.patterns) result.now }
-        ensures forward { result.now.reverse ≡ false }
-        ensures prefix { HasPrefix result.now }
-        ensures separate { HasPrefixApart result.now }
-        ensures terminator { result.now.terminator ≡ self.now.terminator }
+        ensures { IsNfaIn self.now result.now }
     {
         self.search.nfa()
     }
@@ -207,19 +194,22 @@ impl<P: AsPatterns, R: AsNfa, A: Allocator + Copy> Regex<P, R, A> {
     /// in bytes, without spare capacity and working memory. After `clear` it is 0, although the
     /// memory is kept; `reset` frees it.
     pub fn memory_usage(&self) -> usize
-        ensures { result ≤ regex_bytes self.now.limit self.now.nfa }
+        ensures cached { AreBytesOf self.now result }
+        ensures most { result ≤ regex_bytes self.now.limit self.now.nfa }
     {
-        self.search.memory_usage()
+        cached_memory_usage(self.search.forward(), self.search.backward())
     }
 
-    /// Clears both caches. Their memory is kept for the states that come.
+    /// Clears both caches. Their memory is kept for the states that come. Later results are the
+    /// same.
     pub fn clear(&mut self)
         ensures same { self.new ≡ self.old }
     {
         self.search.clear();
     }
 
-    /// Clears both caches, and frees their memory and the working memory of searches.
+    /// Clears both caches, and frees their memory and the working memory of searches. Later results
+    /// are the same.
     pub fn reset(&mut self)
         ensures same { self.new ≡ self.old }
     {

@@ -1,19 +1,24 @@
 //! Searches of a regex: the leftmost match, all matches, and whether there is one.
 
-ghost use Rattle.std.specs.Prelude.{◌≡◌, ◌≤◌, true, IfOk, OnErr};
+ghost use Rattle.std.specs.Prelude.{◌≡◌, ◌+◌, ◌-◌, ◌≤◌, All, false, true, IfOk, OnErr};
 ghost use Rattle.std.specs.Bool.{Decides};
 ghost use Rattle.std.specs.Option.{IfSome};
 ghost use Rattle.determinize_engine.specs.Searches.{has_start};
 ghost use Rattle.determinize_find.specs.Cursors.{after_match};
+ghost use Rattle.determinize_find.specs.LeftmostIn.{is_anchored};
+ghost use Rattle.determinize_linear.specs.Tries.{most_tries};
 ghost use Rattle.determinize_regex.specs.Regexes.{AreAll, HasFirst, HasFull, IsFirst, IsNextOf};
 
-use crate::as_patterns::AsPatterns;
 use crate::regex::Regex;
 use determinize_below::{AsNfa, Input, Match};
 use determinize_find::{Finder, Searcher};
+use determinize_linear::Tries;
+use determinize_pattern::Pattern;
 use std::alloc::{AllocError, Allocator};
+use std::convert::AsSlice;
+use std::sync::ledger::Ledger;
 
-impl<P: AsPatterns, R: AsNfa, A: Allocator + Copy> Regex<P, R, A> {
+impl<P: AsSlice<Pattern> + Drop, R: AsNfa, A: Allocator + Copy> Regex<P, R, A> {
     /// Returns the leftmost match of an input, if any: no match begins before it, and of those that
     /// begin at the same index it is the preferred one. Its ends are indices into the haystack.
     ///
@@ -69,6 +74,27 @@ impl<P: AsPatterns, R: AsNfa, A: Allocator + Copy> Regex<P, R, A> {
         determinize_linear::find_all(alloc, self.search.nfa(), input)
     }
 
+    /// Returns the same as `find_all_linear`, and counts the tries of the search, as
+    /// `find_all_counted` of `determinize_linear` does. On error too, they are linear in the length
+    /// of the range.
+    pub fn find_all_counted<C: Allocator + Copy, L: Ledger>(
+        &self,
+        alloc: C,
+        input: &Input<'_>,
+        tries: &mut Tries<L>,
+    ) -> Result<Vec<Match, C>, AllocError>
+        requires start { has_start input.now.anchored ≡ true }
+        ensures all { IfOk result (λ found. AreAll self.now input.now found.items) }
+        ensures linear { tries.new ≤ tries.old
+            + most_tries self.now.nfa (input.now.end - input.now.start) }
+        ensures counted { is_anchored self.now.nfa input.now.anchored ≡ false → IfOk result
+            (λ _. tries.old + (input.now.end + 1 - input.now.start) ≤ tries.new) }
+        ensures ends { IfOk result (λ found. All (λ m. tries.old
+            + (m.end + 1 - input.now.start) ≤ tries.new) found.items) }
+    {
+        determinize_linear::find_all_counted(alloc, self.search.nfa(), input, tries)
+    }
+
     /// Moves a cursor behind the next match of its input, and returns that match. After the last
     /// match the result is `Ok(None)`. If the result is `Ok(None)` or an error, the cursor does not
     /// move.
@@ -94,7 +120,7 @@ impl<P: AsPatterns, R: AsNfa, A: Allocator + Copy> Regex<P, R, A> {
     }
 }
 
-impl<P: AsPatterns, R: AsNfa, A: Allocator + Copy> Finder for Regex<P, R, A> {
+impl<P: AsSlice<Pattern> + Drop, R: AsNfa, A: Allocator + Copy> Finder for Regex<P, R, A> {
     type Error = AllocError;
 
     ghost nfa = { λ r. r.nfa };

@@ -1,12 +1,13 @@
 //! Which of several patterns match.
 
-ghost use Rattle.std.specs.Prelude.{◌≡◌, IfErr, IfOk, length, map, true};
+ghost use Rattle.std.specs.Prelude.{◌≡◌, ◌≤◌, ℕ, IfErr, IfOk, map, min, true};
 ghost use Rattle.determinize_engine.specs.Searches.{has_start};
-ghost use Rattle.determinize_pattern.specs.Patterns.{meaning};
+ghost use Rattle.determinize_lazy.specs.MostBytes.{most_bytes};
+ghost use Rattle.determinize_regex.specs.RegexBytes.{HasBytes};
+ghost use Rattle.determinize_regex.specs.Regexes.{HasOptions, IsNfaIn, meanings};
 ghost use Rattle.determinize_regex.specs.Sets.{AreAtEnd, AreMatching};
 ghost use Rattle.determinize_regex.specs.Spelled.{AreSpelled, IsRejected};
 
-use crate::as_patterns::AsPatterns;
 use crate::error::Error;
 use crate::regex::{Regex, RegexConfig, parse_all};
 use determinize_below::{AsNfa, Input, MatchKind, NFA, PatternID};
@@ -14,6 +15,7 @@ use determinize_find::laws::input_law;
 use determinize_lazy::LazyDfa;
 use determinize_pattern::{Pattern, compile};
 use std::alloc::{AllocError, Allocator, Global};
+use std::convert::AsSlice;
 use std::marker::Model;
 
 /// Several patterns, to find which of them match: all that do, not only the preferred one. The
@@ -21,13 +23,17 @@ use std::marker::Model;
 ///
 /// It has one cache, which is kept from one search to the next. `P`, `R` and `A` are as for a
 /// [`Regex`].
-pub struct RegexSet<P: AsPatterns = Vec<Pattern>, R: AsNfa = NFA, A: Allocator + Copy = Global> {
+pub struct RegexSet<
+    P: AsSlice<Pattern> + Drop = Vec<Pattern>,
+    R: AsNfa = NFA,
+    A: Allocator + Copy = Global,
+> {
     patterns: P,
     lazy: LazyDfa<R, A>,
 }
 
 // Derived code is proved at each exit of each function that owns a set.
-impl<P: AsPatterns, R: AsNfa, A: Allocator + Copy> Drop for RegexSet<P, R, A> {
+impl<P: AsSlice<Pattern> + Drop, R: AsNfa, A: Allocator + Copy> Drop for RegexSet<P, R, A> {
     fn drop(self) {
         let RegexSet {
             patterns: _,
@@ -36,30 +42,29 @@ impl<P: AsPatterns, R: AsNfa, A: Allocator + Copy> Drop for RegexSet<P, R, A> {
     }
 }
 
-impl<P: AsPatterns, R: AsNfa, A: Allocator + Copy> Model for RegexSet<P, R, A> {
+impl<P: AsSlice<Pattern> + Drop, R: AsNfa, A: Allocator + Copy> Model for RegexSet<P, R, A> {
     ghost use Rattle.std.specs.Coded.{codes};
     ghost use Rattle.determinize_pattern.specs.contracts.pattern.Pattern as e;
-    ghost use Rattle.determinize_regex.specs.Private.Searched.{IsSet, set_value};
+    ghost use Rattle.determinize_regex.specs.Private.Searched.{IsSet, value_of};
     ghost use Rattle.determinize_regex.specs.Regexes.{RegexValue};
 
     ghost Value = { RegexValue };
 
     ghost coded = { Prim.hlevel (codes, e.the_row.coded) };
 
-    ghost view = { λ s. set_value (P.patterns s.patterns) s.lazy };
+    ghost view = { λ s. value_of (P.items s.patterns) s.lazy.nfa s.lazy.limit };
 
-    ghost invariant = { λ s. IsSet (P.patterns s.patterns) s.lazy };
+    ghost invariant = { λ s. IsSet (P.items s.patterns) s.lazy };
 }
 
 impl RegexSet {
     /// Returns the set of pattern strings. The errors are as in `Regex::new_many`.
     pub fn new(alloc: Global, patterns: &[&str], config: RegexConfig) -> Result<RegexSet, Error>
         ensures spelled { IfOk result (λ set.
-            AreSpelled config.flags (map meaning set.patterns) (map (λ t. t.now) patterns.now)) }
+            AreSpelled config.flags (meanings set) (map (λ t. t.now) patterns.now)) }
         ensures rejected { IfErr result
             (λ e. IsRejected config.flags (map (λ t. t.now) patterns.now) e) }
-        ensures terminator { IfOk result (λ set. set.terminator ≡ config.compile.look_matcher) }
-        ensures limit { IfOk result (λ set. set.limit ≡ config.cache_limit) }
+        ensures options { IfOk result (λ set. HasOptions config set) }
     {
         let limit = config.cache_limit;
         let parsed = parse_all(alloc, patterns, config.flags)?;
@@ -75,10 +80,7 @@ impl Regex {
     /// Returns the set of these patterns, to find which of them match, with an empty cache of at
     /// most `limit` states. Does not allocate. Searches allocate from `alloc`.
     pub fn set<A: Allocator + Copy>(&self, alloc: A, limit: usize) -> RegexSet<&[Pattern], &NFA, A>
-        ensures patterns { result.patterns ≡ self.now.patterns }
-        ensures terminator { result.terminator ≡ self.now.terminator }
-        ensures nfa { result.nfa ≡ self.now.nfa }
-        ensures limit { result.limit ≡ limit }
+        ensures { result ≡ record self.now { limit = limit } }
     {
         RegexSet {
             patterns: self.patterns.as_slice(),
@@ -87,25 +89,19 @@ impl Regex {
     }
 }
 
-impl<P: AsPatterns, R: AsNfa, A: Allocator + Copy> RegexSet<P, R, A> {
+impl<P: AsSlice<Pattern> + Drop, R: AsNfa, A: Allocator + Copy> RegexSet<P, R, A> {
     /// Returns the patterns.
     pub fn patterns(&self) -> &[Pattern]
         ensures { result.now ≡ self.now.patterns }
     {
-        self.patterns.patterns()
+        self.patterns.as_slice()
     }
 
-    /// Returns the patterns with a match that ends where the range of an input ends, the one whose
-    /// match begins earliest first, and of those that begin at one index the one with the lower
-    /// number. If the input is anchored, they match the whole range. If the range starts past its
-    /// end, there are none. The list is allocated from the allocator of the set.
-    pub fn matches_at_end(&mut self, input: &Input<'_>) -> Result<Vec<PatternID, A>, AllocError>
-        requires start { has_start input.now.anchored ≡ true }
-        ensures at_end { IfOk result (λ found. AreAtEnd self.old input.now found.items) }
-        ensures same { self.new ≡ self.old }
+    /// Returns the NFA of the patterns.
+    pub fn nfa(&self) -> &NFA<R::N>
+        ensures { IsNfaIn self.now result.now }
     {
-        input_law(input);
-        self.lazy.patterns_after(input)
+        self.lazy.nfa()
     }
 
     /// Returns for each pattern whether it has a match in the range of an input: anywhere, or, if
@@ -124,5 +120,41 @@ impl<P: AsPatterns, R: AsNfa, A: Allocator + Copy> RegexSet<P, R, A> {
         let mut flags = Vec::from_elem(alloc, false, self.patterns().len())?;
         self.lazy.which_patterns(input, &mut flags)?;
         Ok(flags)
+    }
+
+    /// Returns the patterns with a match that ends where the range of an input ends, the one whose
+    /// match begins earliest first, and of those that begin at one index the one with the lower
+    /// number. If the input is anchored, they match the whole range. If the range starts past its
+    /// end, there are none. The list is allocated from the allocator of the set.
+    pub fn matches_at_end(&mut self, input: &Input<'_>) -> Result<Vec<PatternID, A>, AllocError>
+        requires start { has_start input.now.anchored ≡ true }
+        ensures at_end { IfOk result (λ found. AreAtEnd self.old input.now found.items) }
+        ensures same { self.new ≡ self.old }
+    {
+        input_law(input);
+        self.lazy.patterns_after(input)
+    }
+
+    /// Returns the memory of the cached states, as `memory_usage` of a [`Regex`] does.
+    pub fn memory_usage(&self) -> usize
+        ensures cached { (bytes : ℕ) × HasBytes self.now.nfa self.now.limit bytes
+            × (result ≡ min bytes usize.MAX) }
+        ensures most { result ≤ most_bytes self.now.limit self.now.nfa }
+    {
+        self.lazy.cached_memory_usage()
+    }
+
+    /// Clears the cache, and keeps its memory. Later results are the same.
+    pub fn clear(&mut self)
+        ensures same { self.new ≡ self.old }
+    {
+        self.lazy.clear();
+    }
+
+    /// Clears the cache, and frees its memory and the working memory. Later results are the same.
+    pub fn reset(&mut self)
+        ensures same { self.new ≡ self.old }
+    {
+        self.lazy.reset();
     }
 }

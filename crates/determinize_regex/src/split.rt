@@ -2,21 +2,18 @@
 
 ghost use Rattle.std.specs.Prelude.{◌≡◌, IfOk, List, None, length, map};
 ghost use Rattle.determinize_below.specs.declared.search.Match.{Match as Found};
-ghost use Rattle.determinize_find.specs.Matches.{AreApart, AreMatches};
-ghost use Rattle.determinize_find.specs.Streams.{whole};
-ghost use Rattle.determinize_regex.specs.Parts.{AreParts, AreUtf8Parts, IsReplaced, IsReplacedBy, IsReplacedUtf8, parts, replaced};
-ghost use Rattle.determinize_regex.specs.Private.Searched.{AreWholeMatches};
+ghost use Rattle.determinize_find.specs.Matches.{AreApart};
+ghost use Rattle.determinize_regex.specs.Parts.{AreParts, AreWholeIn, IsReplaced, IsReplacedBy, parts};
 ghost use Rattle.determinize_regex.specs.Regexes.{AreAllIn};
 
-use crate::as_patterns::AsPatterns;
 use crate::regex::Regex;
 use crate::utf8::retain_whole;
 use determinize_below::{AsNfa, Input, Match};
-use determinize_find::Regex as Search;
-use determinize_lazy::Engine;
+use determinize_pattern::Pattern;
 use std::alloc::{AllocError, Allocator};
+use std::convert::AsSlice;
 
-impl<P: AsPatterns, R: AsNfa, A: Allocator + Copy> Regex<P, R, A> {
+impl<P: AsSlice<Pattern> + Drop, R: AsNfa, A: Allocator + Copy> Regex<P, R, A> {
     /// Returns the parts of a text between its matches, in their order: one more than there are
     /// matches, and each may be empty. The list is allocated from `alloc`.
     pub fn split<'h, C: Allocator + Copy>(
@@ -24,11 +21,11 @@ impl<P: AsPatterns, R: AsNfa, A: Allocator + Copy> Regex<P, R, A> {
         alloc: C,
         haystack: &'h [u8],
     ) -> Result<Vec<&'h [u8], C>, AllocError>
-        ensures parts { IfOk result
-            (λ cut. AreParts self.old haystack.now (map (λ part. part.now) cut.items)) }
+        ensures parts { IfOk result (λ cut. AreParts (AreAllIn self.old haystack.now)
+            haystack.now (map (λ part. part.now) cut.items)) }
         ensures same { self.new ≡ self.old }
     {
-        let found = matches_in(alloc, &mut self.search, haystack)?;
+        let found = self.matches_in(alloc, haystack)?;
         split_at(alloc, haystack, &found)
     }
 
@@ -40,17 +37,19 @@ impl<P: AsPatterns, R: AsNfa, A: Allocator + Copy> Regex<P, R, A> {
         haystack: &[u8],
         replacement: &[u8],
     ) -> Result<Vec<u8, C>, AllocError>
-        ensures replaced { IfOk result
-            (λ new. IsReplaced self.old haystack.now replacement.now new.items) }
+        ensures replaced { IfOk result (λ new. IsReplaced (AreAllIn self.old haystack.now)
+            haystack.now replacement.now new.items) }
         ensures same { self.new ≡ self.old }
     {
-        let found = matches_in(alloc, &mut self.search, haystack)?;
-        replace(alloc, haystack, &found, replacement)
+        self.replace_with(alloc, haystack, |_| replacement)
     }
 
     /// Returns a text in which each match is replaced by the bytes that a function returns for it,
-    /// for instance by the number of its pattern. The function is called for one match after the
-    /// other. The new text is allocated from `alloc`.
+    /// for instance by the number of its pattern. The new text is allocated from `alloc`.
+    ///
+    /// The function is called once for each match, in their order, and each call sees what the
+    /// calls before it have changed. The contract does not say what is in a variable that the
+    /// function changes after the last call.
     pub fn replace_with<'t, C: Allocator + Copy, F: FnMut(&Match) -> &'t [u8]>(
         &mut self,
         alloc: C,
@@ -64,7 +63,7 @@ impl<P: AsPatterns, R: AsNfa, A: Allocator + Copy> Regex<P, R, A> {
             found haystack.now new.items) }
         ensures same { self.new ≡ self.old }
     {
-        let found = matches_in(alloc, &mut self.search, haystack)?;
+        let found = self.matches_in(alloc, haystack)?;
         replace_each(alloc, haystack, &found, replacement)
     }
 
@@ -75,11 +74,11 @@ impl<P: AsPatterns, R: AsNfa, A: Allocator + Copy> Regex<P, R, A> {
         alloc: C,
         haystack: &'h [u8],
     ) -> Result<Vec<&'h [u8], C>, AllocError>
-        ensures parts { IfOk result
-            (λ cut. AreUtf8Parts self.old haystack.now (map (λ part. part.now) cut.items)) }
+        ensures parts { IfOk result (λ cut. AreParts (AreWholeIn self.old haystack.now)
+            haystack.now (map (λ part. part.now) cut.items)) }
         ensures same { self.new ≡ self.old }
     {
-        let found = whole_matches_in(alloc, &mut self.search, haystack)?;
+        let found = self.whole_matches_in(alloc, haystack)?;
         split_at(alloc, haystack, &found)
     }
 
@@ -91,43 +90,41 @@ impl<P: AsPatterns, R: AsNfa, A: Allocator + Copy> Regex<P, R, A> {
         haystack: &[u8],
         replacement: &[u8],
     ) -> Result<Vec<u8, C>, AllocError>
-        ensures replaced { IfOk result
-            (λ new. IsReplacedUtf8 self.old haystack.now replacement.now new.items) }
+        ensures replaced { IfOk result (λ new. IsReplaced (AreWholeIn self.old haystack.now)
+            haystack.now replacement.now new.items) }
         ensures same { self.new ≡ self.old }
     {
-        let found = whole_matches_in(alloc, &mut self.search, haystack)?;
-        replace(alloc, haystack, &found, replacement)
+        let found = self.whole_matches_in(alloc, haystack)?;
+        replace_each(alloc, haystack, &found, |_| replacement)
     }
-}
 
-/// Returns all matches of a text, in their order.
-fn matches_in<F: Engine, B: Engine<Error = F::Error>, C: Allocator>(
-    alloc: C,
-    regex: &mut Search<F, B>,
-    text: &[u8],
-) -> Result<Vec<Match, C>, AllocError>
-    ensures all { IfOk result
-        (λ found. AreMatches regex.old.nfa (whole text.now) None found.items) }
-    ensures apart { IfOk result (λ found. AreApart 0 None (length text.now) found.items) }
-    ensures same { regex.new ≡ regex.old }
-{
-    regex.find_all(alloc, &Input::new(text))
-}
+    /// Returns all matches of a text, in their order.
+    fn matches_in<C: Allocator>(
+        &mut self,
+        alloc: C,
+        text: &[u8],
+    ) -> Result<Vec<Match, C>, AllocError>
+        ensures all { IfOk result (λ found. AreAllIn self.old text.now found.items) }
+        ensures apart { IfOk result (λ found. AreApart 0 None (length text.now) found.items) }
+        ensures same { self.new ≡ self.old }
+    {
+        self.search.find_all(alloc, &Input::new(text))
+    }
 
-/// Returns all matches of a text but the empty ones inside an encoded character, in their order.
-fn whole_matches_in<F: Engine, B: Engine<Error = F::Error>, C: Allocator>(
-    alloc: C,
-    regex: &mut Search<F, B>,
-    text: &[u8],
-) -> Result<Vec<Match, C>, AllocError>
-    ensures all { IfOk result
-        (λ found. AreWholeMatches regex.old.nfa text.now found.items) }
-    ensures apart { IfOk result (λ found. AreApart 0 None (length text.now) found.items) }
-    ensures same { regex.new ≡ regex.old }
-{
-    let mut found = matches_in(alloc, regex, text)?;
-    retain_whole(text, &mut found);
-    Ok(found)
+    /// Returns all matches of a text but the empty ones inside an encoded character.
+    fn whole_matches_in<C: Allocator>(
+        &mut self,
+        alloc: C,
+        text: &[u8],
+    ) -> Result<Vec<Match, C>, AllocError>
+        ensures all { IfOk result (λ found. AreWholeIn self.old text.now found.items) }
+        ensures apart { IfOk result (λ found. AreApart 0 None (length text.now) found.items) }
+        ensures same { self.new ≡ self.old }
+    {
+        let mut found = self.matches_in(alloc, text)?;
+        retain_whole(text, &mut found);
+        Ok(found)
+    }
 }
 
 /// Returns the parts of a text between matches.
@@ -148,27 +145,6 @@ fn split_at<'h, C: Allocator>(
     }
     cut.push(&text[at..])?;
     Ok(cut)
-}
-
-/// Returns a text with other bytes in place of each match.
-fn replace<C: Allocator + Copy>(
-    alloc: C,
-    text: &[u8],
-    found: &[Match],
-    replacement: &[u8],
-) -> Result<Vec<u8, C>, AllocError>
-    requires { AreApart 0 None (length text.now) found.now }
-    ensures { IfOk result (λ new. new.items ≡ replaced replacement.now text.now 0 found.now) }
-{
-    let mut new = Vec::new(alloc);
-    let mut at = 0;
-    for next in found {
-        new.extend_from_slice(&text[at..next.start])?;
-        new.extend_from_slice(replacement)?;
-        at = next.end;
-    }
-    new.extend_from_slice(&text[at..])?;
-    Ok(new)
 }
 
 /// Returns a text with, in place of each match, the bytes that a function returns for it.

@@ -1,19 +1,15 @@
 //! All matches of patterns in a text that comes in pieces.
 
-ghost use Rattle.std.specs.Prelude.{◌≡◌, ◌<◌, ◌⊎◌, ◌↔◌, ℕ, [], List, drop, option_to_list};
-ghost use Rattle.std.specs.Prelude.{IfOk, IsSome, OnErr, OnOk};
+ghost use Rattle.std.specs.Prelude.{◌≡◌, ◌<◌, ◌⊎◌, ◌↔◌, ℕ, [], IfOk, IsSome, List, OnErr, OnOk, drop, option_to_list};
 ghost use Rattle.std.specs.List.{slice_range};
 ghost use Rattle.std.specs.Option.{IfNone, IfSome};
-ghost use Rattle.determinize_below.specs.Nfa.{IsAccepted};
 ghost use Rattle.determinize_find.specs.Streams.{IsKept, count_kept, count_read, left_in};
-ghost use Rattle.determinize_regex.specs.Regexes.{IsRegex};
-ghost use Rattle.determinize_regex.specs.Streams.{IsFedOf, IsFinishedOf, IsFoundInBlockOf};
-ghost use Rattle.determinize_regex.specs.Streams.{IsFrontFedOf, IsPartFedOf, IsStreamOf};
-ghost use Rattle.determinize_regex.specs.Streams.{KeepsFewOf, KeptFewOf};
+ghost use Rattle.determinize_regex.specs.Streams.{IsFedOf, IsFinishedOf, IsFoundInBlockOf, IsFrontFedOf, IsPartFedOf, KeepsFewOf, KeptFewOf};
 
-use crate::regex::Matcher;
-use determinize_below::Match;
-use determinize_find::Pieces;
+use determinize_below::{Match, NFA};
+use determinize_find::{Pieces, Regex as Search};
+use determinize_lazy::LazyDfa;
+use determinize_pattern::Pattern;
 use std::alloc::{AllocError, Allocator, Global};
 use std::marker::Model;
 
@@ -27,39 +23,31 @@ use std::marker::Model;
 /// `determinize_find`.
 #[derive(Drop)]
 pub struct Stream<'r, A: Allocator + Copy = Global> {
-    matcher: Matcher<'r, A>,
-    pieces: Pieces<A>,
+    pub(crate) patterns: &'r [Pattern],
+    pub(crate) search: Search<LazyDfa<&'r NFA, A>, LazyDfa<&'r NFA, A>>,
+    pub(crate) pieces: Pieces<A>,
 }
 
 impl<'r, A: Allocator + Copy> Model for Stream<'r, A> {
     ghost use Rattle.std.specs.Coded.{codes};
     ghost use Rattle.determinize_pattern.specs.contracts.pattern.Pattern as e;
-    ghost use Rattle.determinize_regex.specs.Private.Searched.{IsStreaming};
+    ghost use Rattle.determinize_regex.specs.Private.Searched.{IsStreaming, value_of};
     ghost use Rattle.determinize_regex.specs.Streams.{StreamValue};
 
     ghost Value = { StreamValue };
 
     ghost coded = { Prim.hlevel (codes, e.the_row.coded) };
 
-    ghost view = { λ s. record { regex = s.matcher; pieces = s.pieces } };
+    ghost view = { λ s. record {
+      regex = value_of s.patterns.now s.search.nfa s.search.limit;
+      pieces = s.pieces;
+    } };
 
-    ghost invariant = { λ s. IsStreaming s.matcher s.pieces };
+    ghost invariant = { λ s.
+        IsStreaming (value_of s.patterns.now s.search.nfa s.search.limit) s.pieces };
 }
 
 impl<'r, A: Allocator + Copy> Stream<'r, A> {
-    /// Returns a search by a matcher that has read nothing yet.
-    pub(crate) fn new(alloc: A, matcher: Matcher<'r, A>) -> Stream<'r, A>
-        requires is { IsRegex matcher }
-        requires accepted { IsAccepted matcher.nfa }
-        ensures regex { result.regex ≡ matcher.entry }
-        ensures stream { IsStreamOf result [] [] }
-    {
-        Stream {
-            matcher,
-            pieces: Pieces::new(alloc),
-        }
-    }
-
     /// Returns how many bytes of the text were read.
     pub fn bytes_read(&self) -> usize
         ensures { result ≡ count_read self.now.pieces }
@@ -92,7 +80,7 @@ impl<'r, A: Allocator + Copy> Stream<'r, A> {
             (KeptFewOf self.old self.new piece.now found.old.items found.new.items) }
         ensures same { self.new.regex ≡ self.old.regex }
     {
-        self.pieces.feed(&mut self.matcher.search, piece, found)
+        self.pieces.feed(&mut self.search, piece, found)
     }
 
     /// Reads a piece of the text until the next match is certain, and returns that match. The piece
@@ -116,7 +104,7 @@ impl<'r, A: Allocator + Copy> Stream<'r, A> {
             left_in piece.new.now self.new.pieces < left_in piece.old.now self.old.pieces)) }
         ensures same { self.new.regex ≡ self.old.regex }
     {
-        self.pieces.advance(&mut self.matcher.search, piece)
+        self.pieces.advance(&mut self.search, piece)
     }
 
     /// Returns the bytes of a match, if all of them are kept. Kept are the bytes since the last
@@ -142,6 +130,6 @@ impl<'r, A: Allocator + Copy> Stream<'r, A> {
         ensures failed { OnErr result (found.new.items ≡ found.old.items) }
         ensures same { self.new ≡ self.old }
     {
-        self.pieces.finish(&mut self.matcher.search, found)
+        self.pieces.finish(&mut self.search, found)
     }
 }

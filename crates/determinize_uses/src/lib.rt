@@ -1,10 +1,11 @@
 //! Uses of the libraries, to read and to copy. Each module is one use, and its contracts are
-//! proved. `search_tests` runs all but [`counted`], [`patterns`], [`pieces`] and [`stored`].
+//! proved. `search_tests` runs all but [`counted`], [`pieces`] and [`stored`].
 //!
 //! - [`values`] makes one value of each small type: sets, start kinds, closures, states.
 //! - [`nfa`] makes an NFA by hand, and [`built`] one by a `Builder`.
-//! - [`words`] returns a search for two patterns that owns them, and finds all their matches.
-//!   [`patterns`] finds the leftmost match of pattern values.
+//! - [`words`] returns a search for two patterns that owns them, finds all their matches in several
+//!   ways, splits a text at them, and replaces them. [`patterns`] finds the leftmost match of
+//!   pattern values, and the routes of a path.
 //! - [`scanner`] finds all matches of a haystack, and [`lexer`] the longest token at each position.
 //!   [`tokens`] does so in linear time. [`steady`] finds all matches and never allocates while it
 //!   runs.

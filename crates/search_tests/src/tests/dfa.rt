@@ -8,6 +8,7 @@ use crate::tests::{ended, same};
 use determinize_below::{Anchored, HalfMatch, MatchKind, NFA, StateID};
 use determinize_dense::Dfa;
 use determinize_uses::dfa::{patterns_at, smallest};
+use determinize_uses::nfa::digits;
 use std::process::Abort;
 
 /// Texts, and the ends of their matches: of anchored searches, and of others for the first and for
@@ -93,4 +94,26 @@ fn smallest_dfas(rt: HostRuntime) {
     expect_ends(&rt, &all, true, &ANCHORED);
     expect_ends(&rt, &all, false, &ALL);
     expect_counts(&rt, &all);
+}
+
+/// A search for numbers that owns its DFA, which owns its NFA.
+#[derive(Drop)]
+struct Numbers {
+    dfa: Dfa<NFA>,
+}
+
+/// Returns the search.
+fn search_for_numbers<R: Abort + AllocGlobal>(rt: &R) -> Numbers {
+    let nfa = digits(rt.alloc()).expect(rt, "memory");
+    let dfa = smallest(rt.alloc(), nfa, MatchKind::LeftmostFirst, 100);
+    Numbers {
+        dfa: dfa.expect(rt, "few states"),
+    }
+}
+
+#[test]
+fn owned(rt: HostRuntime) {
+    let numbers = search_for_numbers(&rt);
+    let found = numbers.dfa.search(Anchored::Yes, None, b"12x", None);
+    expect_end(&rt, found, Some(2));
 }

@@ -1,14 +1,16 @@
 //! Patterns from their texts: all matches, also in pieces, whether there is one, the parts between
-//! them, other bytes in their place, which patterns match, which text is in error, and how errors
-//! are written.
+//! them, other bytes in their place, which patterns match, which text is in error, how errors are
+//! written, and the memory of caches.
 
 use crate::tests::find::{Ends, expect_found, expect_matches};
 use crate::tests::{expect_text, holds, same};
 use determinize_regex::{
-    Anchored, Error, ErrorKind, Input, Match, Matcher, ParseError, PatternID, Regex, RegexConfig,
-    RegexSet, Searcher, Stream,
+    Error, ErrorKind, Input, Match, Matcher, ParseError, PatternID, Regex, RegexConfig, RegexSet,
+    Searcher, Stream,
 };
-use determinize_uses::words;
+use determinize_uses::{patterns, words};
+use std::alloc::AllocError;
+use std::io;
 use std::process::Abort;
 
 /// Returns the regex of these patterns.
@@ -20,27 +22,40 @@ pub fn regex_of<R: Abort + AllocGlobal>(rt: &R, patterns: &[&str]) -> Regex {
 /// The numbers and names in `In 1984 Ada`.
 static FOUND: [Ends; 3] = [(1, 0, 2), (0, 3, 7), (1, 8, 11)];
 
-/// Compares the numbers and names of a text, and the memory of the caches once they are cleared.
+const TEXT: &[u8] = b"In 1984 Ada";
+
+/// Finds the numbers and names of the text, for which the caches need memory.
+fn expect_words<R: Abort + AllocGlobal>(rt: &R, regex: &mut Regex) {
+    let found = words::find_all(rt.alloc(), regex, TEXT);
+    expect_found(rt, found, &FOUND);
+    holds(rt, regex.memory_usage() > 0);
+}
+
+/// Finds the same matches before and after the caches are cleared and freed.
 #[test]
 fn numbers_and_names(rt: HostRuntime) {
     let mut regex = words::words(rt.alloc()).expect(&rt, "patterns");
-    let found = words::find_all(rt.alloc(), &mut regex, b"In 1984 Ada");
-    expect_found(&rt, found, &FOUND);
-    holds(&rt, regex.memory_usage() > 0);
+    expect_words(&rt, &mut regex);
     regex.clear();
     same(&rt, regex.memory_usage(), 0);
+    expect_words(&rt, &mut regex);
     regex.reset();
-    let found = words::find_all(rt.alloc(), &mut regex, b"In 1984 Ada");
-    expect_found(&rt, found, &FOUND);
+    same(&rt, regex.memory_usage(), 0);
+    expect_words(&rt, &mut regex);
 }
 
-/// The same matches one after another, and in a linear number of steps.
+/// The same matches by a second search, in a linear number of steps, and one after another.
 #[test]
 fn numbers_and_names_in_turn(rt: HostRuntime) {
     let mut regex = words::words(rt.alloc()).expect(&rt, "patterns");
-    let input = Input::new(b"In 1984 Ada");
-    expect_found(&rt, regex.find_all_linear(rt.alloc(), &input), &FOUND);
-    let mut searcher = Searcher::new(input);
+    let found = words::find_all_apart(rt.alloc(), &regex, TEXT);
+    expect_found(&rt, found, &FOUND);
+    let found = words::find_all_linear(rt.alloc(), &regex, TEXT);
+    expect_found(&rt, found, &FOUND);
+    let [first, second] = words::first_two(&mut regex, TEXT).expect(&rt, "memory");
+    expect_matches(&rt, first.as_slice(), &FOUND[..1]);
+    expect_matches(&rt, second.as_slice(), &FOUND[1..2]);
+    let mut searcher = Searcher::new(Input::new(TEXT));
     for wanted in &FOUND {
         let found = regex.next_match(&mut searcher).expect(&rt, "memory");
         expect_matches(&rt, found.as_slice(), &[*wanted]);
@@ -56,25 +71,33 @@ fn whole_texts(rt: HostRuntime) {
     same(&rt, regex.is_full_match(&Input::new(b"abb")), Ok(false));
 }
 
-/// The routes of a server: which of them are a path as a whole, and which match at its end.
-#[test]
-fn routes_of_a_path(rt: HostRuntime) {
-    let routes = ["/[a-z]+", "/[a-z]+/[0-9]+", "[0-9]+"];
-    let made = RegexSet::new(rt.alloc(), &routes, RegexConfig::new());
-    let mut set = made.expect(&rt, "patterns");
-    let path = Input::new(b"/user/12");
-    let ends = set.matches_at_end(&path).expect(&rt, "memory");
+/// The routes of a path: those that match it as a whole, at its end, and anywhere in it.
+fn expect_routes<R: Abort + AllocGlobal>(rt: &R, set: &mut RegexSet) {
+    let whole = patterns::routes_of(set, b"/user/12").expect(rt, "memory");
+    same(rt, whole.as_slice(), [PatternID::must(1)].as_slice());
+    let ends = set.matches_at_end(&Input::new(b"/user/12"));
     same(
-        &rt,
-        ends.as_slice(),
+        rt,
+        ends.expect(rt, "memory").as_slice(),
         [PatternID::must(1), PatternID::must(2)].as_slice(),
     );
-    let whole = set.matches_at_end(&path.anchored(Anchored::Yes));
+    let some = set.matches(rt.alloc(), &Input::new(b"/user/x1"));
     same(
-        &rt,
-        whole.expect(&rt, "memory").as_slice(),
-        [PatternID::must(1)].as_slice(),
+        rt,
+        some.expect(rt, "memory").as_slice(),
+        [true, false, true].as_slice(),
     );
+}
+
+/// Compares the routes twice, and the memory of the cache once it is freed.
+#[test]
+fn routes_of_a_path(rt: HostRuntime) {
+    let mut set = patterns::routes(rt.alloc()).expect(&rt, "patterns");
+    expect_routes(&rt, &mut set);
+    holds(&rt, set.memory_usage() > 0);
+    set.reset();
+    same(&rt, set.memory_usage(), 0);
+    expect_routes(&rt, &mut set);
 }
 
 /// Compares whether a `Regex` of `a|ab` has a match in two texts, and the first match.
@@ -137,15 +160,18 @@ fn expect_accented<R: Abort + AllocGlobal>(rt: &R, regex: &mut Regex) {
     same(rt, text.expect(rt, "memory").as_slice(), DASHED);
 }
 
-/// Replaces numbers by `#`, and names by `A`.
-fn expect_replaced<R: Abort + AllocGlobal>(rt: &R, regex: &mut Regex) {
-    let text = regex.replace_with(rt.alloc(), b"In 1984 Ada", |found| {
-        if found.pattern == PatternID::ZERO {
-            b"#"
-        } else {
-            b"A"
-        }
-    });
+/// The bytes between the numbers and names of the text.
+static BETWEEN: [&[u8]; 4] = [b"", b" ", b" ", b""];
+
+/// Splits the text at its numbers and names, and replaces these.
+fn expect_masked<R: Abort + AllocGlobal>(rt: &R, regex: &mut Regex) {
+    let parts = words::parts(rt.alloc(), regex, TEXT);
+    same(
+        rt,
+        parts.expect(rt, "memory").as_slice(),
+        BETWEEN.as_slice(),
+    );
+    let text = words::masked(rt.alloc(), regex, TEXT);
     same(
         rt,
         text.expect(rt, "memory").as_slice(),
@@ -155,7 +181,7 @@ fn expect_replaced<R: Abort + AllocGlobal>(rt: &R, regex: &mut Regex) {
 
 #[test]
 fn split_and_replace(rt: HostRuntime) {
-    expect_replaced(&rt, &mut words::words(rt.alloc()).expect(&rt, "patterns"));
+    expect_masked(&rt, &mut words::words(rt.alloc()).expect(&rt, "patterns"));
     expect_list(&rt, &mut regex_of(&rt, &["[ ,]+"]));
     expect_accented(&rt, &mut regex_of(&rt, &["b*"]));
 }
@@ -236,7 +262,11 @@ fn errors_are_written(rt: HostRuntime) {
     }
     let error = ParseError::new(ErrorKind::GroupUnclosed, 1, 2);
     let second = Error::Parse { index: 1, error };
-    expect_text(&rt, &second, "pattern 1: the group is not closed, at 1..2");
+    let written = "pattern 1: the group is not closed, at 1..2";
+    expect_text(&rt, &second, written);
+    expect_text(&rt, &io::Error::from(second), written);
+    let full = io::Error::from(Error::from(AllocError));
+    expect_text(&rt, &full, "out of memory");
     let made = Regex::new_many(rt.alloc(), &["a", "b("], RegexConfig::new());
     let place = match made {
         Err(Error::Parse { index, error }) => Some((index, error.start, error.end)),

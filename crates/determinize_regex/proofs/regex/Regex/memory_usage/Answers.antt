@@ -1,21 +1,36 @@
-use Rattle.std.proofs.Common.{arith, length, subst, ◌*◌, ◌+◌, ◌≤◌, ℕ}
+use Rattle.std.proofs.Common.{arith, length, ◌*◌, ◌+◌, ◌≤◌, ◌∙◌, refl}
 use Rattle.std.proofs.Math.Nat.{mul-le-mul_right}
 use Rattle.determinize_find.specs.Regexes.{RegexValue as Searched}
 use Rattle.determinize_lazy.specs.MostBytes.{most_bytes}
 use Rattle.determinize_nfa.specs.Reversal.{most_states}
 use Rattle.determinize_regex.specs.RegexBytes.{regex_bytes}
-use Rattle.determinize_regex.specs.Regexes.{RegexValue}
 use Rattle.determinize_regex.proofs.regex.Regex.memory_usage.Goals as goal
 
-pub returns : goal.returns
-returns g c =
+pub returns-clause-cached : goal.returns-clause-cached
+returns-clause-cached g c = rw (← c.self.view_is) record {
+  forward = _;
+  backward = _;
+  reverse = c.self.inside.search.backward;
+  is_reverse = rw c.backward.ensures.nfa at c.backward.ensures.reverse;
+  of_forward =
+      record { cache = c.forward.result.now; over = c.forward.ensures.nfa; most = c.forward.ensures.limit; is = refl };
+  of_backward = record {
+    cache = c.backward.result.now;
+    over = c.backward.ensures.nfa;
+    most = c.backward.ensures.limit ∙ c.self.invariant.limits;
+    is = refl;
+  };
+  sum = c.cached_memory_usage.ensures.value;
+}
+
+pub returns-clause-most : goal.returns-clause-most
+returns-clause-most g c =
     let s : Searched = c.self.inside.search in
-    let one_limit = subst (λ (limit : ℕ). c.memory_usage.result
-    ≤ most_bytes s.limit s.nfa + most_bytes limit s.backward) c.self.invariant.limits c.memory_usage.ensures in
-    let one_pattern = subst (λ (count : ℕ). c.memory_usage.result
-    ≤ most_bytes s.limit s.nfa + s.limit * (1130 + 8 * count + 10 * length s.backward.states)) c.self.invariant.pattern
-    one_limit in
+    let most : c.cached_memory_usage.result
+    ≤ most_bytes s.limit s.nfa + s.limit * (1138 + 10 * length s.backward.states)
+    = rw (c.self.invariant.limits, c.self.invariant.pattern) at (rw (c.forward.ensures.limit, c.forward.ensures.nfa)
+    at (rw (c.backward.ensures.limit, c.backward.ensures.nfa) at c.cached_memory_usage.ensures.most)) in
     let less : (1138 + 10 * length s.backward.states) * s.limit ≤ (1138 + 10 * most_states s.nfa) * s.limit =
     mul-le-mul_right s.limit (omega (arith, c.self.invariant.size)) in
-    subst (λ (v : RegexValue). c.memory_usage.result ≤ regex_bytes v.limit v.nfa) c.self.view_is
-    (let all : c.memory_usage.result ≤ regex_bytes s.limit s.nfa = omega (arith, one_pattern, less) in all)
+    rw (← c.self.view_is)
+    (let all : c.cached_memory_usage.result ≤ regex_bytes s.limit s.nfa = omega (arith, most, less) in all)

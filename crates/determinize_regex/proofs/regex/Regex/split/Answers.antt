@@ -1,9 +1,7 @@
 use Rattle.std.proofs.lemmas.Result.{IfOk-weaker}
-use Rattle.determinize_regex.proofs.FoundByRegex.{parts_in}
 use Rattle.determinize_regex.proofs.regex.Regex.split.Goals as goal
 
 pub returns-clause-parts : goal.returns-clause-parts
 returns-clause-parts g c = IfOk-weaker c.split_at.result _ _
-    (λ cut are. parts_in _ c.args.self.now c.self.view_is c.self.invariant.regex
-    c.args.haystack.now _ c.in_ok-found.ensures.all _ are)
+    (λ cut are. record { matches = c.in_ok-found.found.items; these = c.in_ok-found.ensures.all; are = are })
     (rw c.deref.ensures.value at c.split_at.ensures)

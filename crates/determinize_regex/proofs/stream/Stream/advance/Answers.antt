@@ -1,74 +1,36 @@
-use Rattle.std.proofs.Common.{◌≡◌, ◌∙◌, ap, refl, subst, sym}
-use Rattle.determinize_regex.specs.Private.Searched.{IsStreaming, value_of}
-use Rattle.determinize_regex.specs.Streams.{StreamValue}
-use Rattle.determinize_regex.proofs.StreamsOfPatterns.{advancing_by, block_by, keeps_by, kept_by, next_by, none_by}
+use Rattle.std.proofs.lemmas.Option.{IfSome_then}
+use Rattle.std.proofs.lemmas.Result.{IfOk-weaker, on_err_weaker}
+use Rattle.determinize_linear.proofs.search.Left.{if_none}
+use Rattle.determinize_regex.proofs.StreamsOfPatterns.{found_in, front_fed_of, keeps_of}
+use Rattle.ordered_reach.proofs.Cases.{by_cases}
+use Rattle.std.proofs.Common.{inl, inr}
 use Rattle.determinize_regex.proofs.stream.Stream.advance.Goals as goal
 
 pub invariant_of-self : goal.invariant_of-self
-invariant_of-self g c =
-    let old : StreamValue = record {
-      regex = value_of c.self-inside.inside.0.0.patterns.now c.self-inside.inside.0.0.search;
-      pieces = c.self-inside.inside.0.1.0;
-    } in
-    let same : old ≡ c.args.self.now
-    = ap (λ i. record { regex = i.matcher; pieces = i.pieces }) c.self-inside.view_is ∙ c.self.view_is in
-    let is : IsStreaming old.regex old.pieces
-    = subst (λ i. IsStreaming i.matcher i.pieces) (sym c.self-inside.view_is) c.self.invariant in
-    advancing_by old.regex old.pieces c.args.self.now same is _ refl _ c.advance.new.self
-    (kept_by _ _ _ old.regex c.advance.ensures.same refl) c.args.piece.now.now c.advance.new.piece.now
-    c.advance.result c.advance.ensures.read
+invariant_of-self g c = rw c.advance.ensures.same record {
+  regex = c.self.invariant.regex;
+  accepted = c.self.invariant.accepted;
+  under_way = (c.advance.ensures.read c.self.invariant.under_way).searching;
+}
 
 pub returns-clause-read : goal.returns-clause-read
-returns-clause-read g c =
-    let old : StreamValue = record {
-      regex = value_of c.self-inside.inside.0.0.patterns.now c.self-inside.inside.0.0.search;
-      pieces = c.self-inside.inside.0.1.0;
-    } in
-    let same : old ≡ c.args.self.now
-    = ap (λ i. record { regex = i.matcher; pieces = i.pieces }) c.self-inside.view_is ∙ c.self.view_is in
-    let is : IsStreaming old.regex old.pieces
-    = subst (λ i. IsStreaming i.matcher i.pieces) (sym c.self-inside.view_is) c.self.invariant in
-    next_by old.regex old.pieces c.args.self.now same is _ refl _ c.advance.new.self
-    (kept_by _ _ _ old.regex c.advance.ensures.same refl) c.args.piece.now.now c.advance.new.piece.now
-    c.advance.result c.advance.ensures.read
+returns-clause-read g c = rw (← c.self.view_is, c.advance.ensures.same) (IfOk-weaker c.advance.result _ _
+    (λ next. front_fed_of _ _ _ c.self.invariant.regex c.self.invariant.accepted _ _ _ _ _)
+    (c.advance.ensures.read c.self.invariant.under_way).fed)
 
 pub returns-clause-failed : goal.returns-clause-failed
-returns-clause-failed g c =
-    let old : StreamValue = record {
-      regex = value_of c.self-inside.inside.0.0.patterns.now c.self-inside.inside.0.0.search;
-      pieces = c.self-inside.inside.0.1.0;
-    } in
-    let same : old ≡ c.args.self.now
-    = ap (λ i. record { regex = i.matcher; pieces = i.pieces }) c.self-inside.view_is ∙ c.self.view_is in
-    let is : IsStreaming old.regex old.pieces
-    = subst (λ i. IsStreaming i.matcher i.pieces) (sym c.self-inside.view_is) c.self.invariant in
-    none_by old.regex old.pieces c.args.self.now same is _ refl _ c.advance.new.self
-    (kept_by _ _ _ old.regex c.advance.ensures.same refl) c.args.piece.now.now c.advance.new.piece.now
-    c.advance.result c.advance.ensures.read
+returns-clause-failed g c = rw (← c.self.view_is, c.advance.ensures.same) (on_err_weaker c.advance.result
+    (front_fed_of _ _ _ c.self.invariant.regex c.self.invariant.accepted _ _ _ _ _)
+    (c.advance.ensures.read c.self.invariant.under_way).failed)
 
 pub returns-clause-few : goal.returns-clause-few
-returns-clause-few g c =
-    let old : StreamValue = record {
-      regex = value_of c.self-inside.inside.0.0.patterns.now c.self-inside.inside.0.0.search;
-      pieces = c.self-inside.inside.0.1.0;
-    } in
-    let same : old ≡ c.args.self.now
-    = ap (λ i. record { regex = i.matcher; pieces = i.pieces }) c.self-inside.view_is ∙ c.self.view_is in
-    let is : IsStreaming old.regex old.pieces
-    = subst (λ i. IsStreaming i.matcher i.pieces) (sym c.self-inside.view_is) c.self.invariant in
-    keeps_by old.regex old.pieces c.args.self.now same is _ refl _ c.advance.new.self
-    (kept_by _ _ _ old.regex c.advance.ensures.same refl) c.advance.result c.advance.ensures.few
+returns-clause-few g c = rw c.advance.ensures.same (IfOk-weaker c.advance.result _ _
+    (λ next. if_none _ _ next (keeps_of _ _ _ c.self.invariant.regex c.self.invariant.accepted _))
+    (c.advance.ensures.few c.self.invariant.under_way))
 
 pub returns-clause-block : goal.returns-clause-block
-returns-clause-block g c =
-    let old : StreamValue = record {
-      regex = value_of c.self-inside.inside.0.0.patterns.now c.self-inside.inside.0.0.search;
-      pieces = c.self-inside.inside.0.1.0;
-    } in
-    let same : old ≡ c.args.self.now
-    = ap (λ i. record { regex = i.matcher; pieces = i.pieces }) c.self-inside.view_is ∙ c.self.view_is in
-    let is : IsStreaming old.regex old.pieces
-    = subst (λ i. IsStreaming i.matcher i.pieces) (sym c.self-inside.view_is) c.self.invariant in
-    block_by old.regex old.pieces c.args.self.now same is _ refl _ c.advance.new.self
-    (kept_by _ _ _ old.regex c.advance.ensures.same refl) c.args.piece.now.now c.advance.new.piece.now
-    c.advance.result c.advance.ensures.block
+returns-clause-block g c = rw (← c.self.view_is, c.advance.ensures.same) (IfOk-weaker c.advance.result _ _
+    (λ next h. IfSome_then next h (λ m found. by_cases found
+    (λ same. inl same)
+    (λ f. inr (found_in _ _ _ c.self.invariant.regex c.self.invariant.accepted _ _ _ _ m f))))
+    (c.advance.ensures.block c.self.invariant.under_way))
