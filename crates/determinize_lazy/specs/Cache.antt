@@ -41,6 +41,17 @@ cache v = record {
   classes = v.classes;
 }
 
+-- an empty cache
+abbrev pub empty_cache : Nfa → MatchKind → ℕ → Option Classes → Cache
+empty_cache nfa kind limit classes = record {
+  nfa = nfa;
+  kind = kind;
+  limit = limit;
+  table = empty;
+  computed = 0;
+  classes = classes;
+}
+
 -- the step of its NFA and kind
 abbrev pub step_of : Cache → Value → Option ℕ → Value
 step_of c = step c.nfa c.kind
@@ -97,11 +108,6 @@ pub record IsCutOff (old : Cache) (v : Value) (us : List (Option ℕ)) (new : Ca
   pub table : (new.table ≡ empty) ⊎ (new.table ≡ (after_walk old v (take steps us)).table)
   pub counted : (new.computed ≡ (after_walk old v (take steps us)).computed)
       ⊎ (new.computed ≡ (after_walk old v (take (steps + 1) us)).computed)
-
--- the same of the walk from an NFA state over a text
-abbrev pub IsCutOffText : Cache → ℕ → Text → Cache → Type 0
-IsCutOffText old start text new =
-    IsCutOff old (start_value old.nfa start text.behind) (units text) new
 
 -- a walk computes at most one transition for each of its units
 abbrev pub EachWalkComputesFew : Type 0

@@ -1,8 +1,6 @@
 -- What a walk leaves if the limit has room for all of its states.
 use Rattle.std.specs.Prelude.{◌≡◌, ℕ, ◌+◌, ◌≤◌, Bool, cond, Option, List, [], ◌∷◌, length}
-use Rattle.determinize_below.specs.Semantics.{Text}
-use Rattle.determinize_core.specs.Chain.{future, units}
-use Rattle.determinize_core.specs.Step.{start_value}
+use Rattle.determinize_core.specs.Chain.{future}
 use Rattle.determinize_core.specs.Value.{Value}
 use Rattle.determinize_lazy.specs.Cache.{Cache, after_walk, count_after, shared_by, step_of}
 use Rattle.determinize_table.specs.Table.{Table, is_cached, with_transition, with_values}
@@ -33,9 +31,3 @@ pub record KeepsAll (old : Cache) (v : Value) (us : List (Option ℕ)) (new : Ca
   pub once : new.computed ≡ count_after old.computed
       (missing (step_of old) (shared_by old) old.table v us)
   pub again : after_walk new v us ≡ new
-
--- with room for the walk from an NFA state over a text
-abbrev pub IsPlentyText : Cache → ℕ → Text → Cache → Type 0
-IsPlentyText old start text new =
-    let first : Value = start_value old.nfa start text.behind in
-    HasRoom old first (units text) → KeepsAll old first (units text) new

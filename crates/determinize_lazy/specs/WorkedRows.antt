@@ -6,21 +6,14 @@ use Rattle.determinize_below.specs.Semantics.{Text, between}
 use Rattle.determinize_below.specs.Search.{Asked}
 use Rattle.determinize_below.specs.declared.search.Anchored.TheVariants.{Yes}
 use Rattle.determinize_core.specs.WorkedRows.{n4}
-use Rattle.determinize_lazy.specs.Cache.{Cache, after_text}
+use Rattle.determinize_lazy.specs.Cache.{Cache, after_text, empty_cache}
 use Rattle.determinize_table.specs.Table.{empty as nothing}
 use Rattle.determinize_lazy.specs.CachedSearches.{after_search}
 use Rattle.determinize_engine.specs.Searches.{last_in}
 
 -- an empty cache of at most `limit` states
 abbrev pub empty : ℕ → Cache
-empty limit = record {
-  nfa = n4;
-  kind = LeftmostFirst;
-  limit = limit;
-  table = nothing;
-  computed = 0;
-  classes = None;
-}
+empty limit = empty_cache n4 LeftmostFirst limit None
 
 -- `quartz`, a whole word
 abbrev pub whole_word : Text

@@ -11,7 +11,7 @@ ghost use Rattle.determinize_start.specs.declared.start.TheConstants.StartSlot.{
 ghost use Rattle.determinize_lazy.specs.Cache.{cache};
 ghost use Rattle.determinize_lazy.specs.Private.Searched.{GoesToCached, HasCome, IsCachedPosition, IsReached, cached_place, first_place};
 ghost use Rattle.determinize_lazy.specs.Private.Starts.{start_slot};
-ghost use Rattle.determinize_lazy.specs.Private.Steps.{IsSound, IsStateOf};
+ghost use Rattle.determinize_lazy.specs.Private.Steps.{IsSound};
 
 use crate::lazy::LazyDfa;
 use determinize_below::{AsNfa, HalfMatch, NFA, StateID};
@@ -69,7 +69,6 @@ impl<R: AsNfa, A: Allocator + Copy> LazyDfa<R, A> {
         requires { start < length self.now.nfa.states }
         ensures at { IfSome result (λ id. slice_get self.now.states id
             ≡ Some (start_value self.now.nfa start look_behind)) }
-        ensures known { IsStateOf self.now.nfa (start_value self.now.nfa start look_behind) }
         ensures sound { IsSound (cache self.now) }
     {
         let number = start_number(self.nfa.nfa(), start, look_behind)?;
@@ -114,8 +113,7 @@ impl<R: AsNfa, A: Allocator + Copy> LazyDfa<R, A> {
     /// search ends.
     #[inline(always)]
     fn follow_to_end(&self, start: LazyStateId, text: &Text<'_>, earliest: bool) -> CachedPosition
-        requires cached { start < length self.now.states }
-        requires known { IsStateOf self.now.nfa (slice_index_or self.now.states start dead) }
+        requires { start < length self.now.states }
         ensures position { IsCachedPosition self.now result }
         ensures come { HasCome earliest (units text.now) (first_place (cache self.now)
             (slice_index_or self.now.states start dead)) (cached_place self.now result) }

@@ -1,10 +1,9 @@
 //! A lazy DFA as an engine. The clauses are those of the trait, and those of `Lazy` on the cache.
 
-ghost use Rattle.std.specs.Prelude.{Decides, ◌≡◌, None, Ok, false, true, IfOk, OnErr, OnOk};
+ghost use Rattle.std.specs.Prelude.{Decides, ◌≡◌, None, Ok, false, true, IfOk};
 ghost use Rattle.determinize_below.specs.Search.{is_done};
 ghost use Rattle.determinize_engine.specs.Searches.{HasMatch, IsSearchResult, has_start};
-ghost use Rattle.determinize_lazy.specs.Cache.{Grows, cache};
-ghost use Rattle.determinize_lazy.specs.CachedSearches.{IsCutOffIn, after_input, after_is_match};
+ghost use Rattle.determinize_lazy.specs.CachedSearches.{HasSearchedIn};
 
 use crate::lazy::LazyDfa;
 use determinize_below::{AsNfa, HalfMatch, Input};
@@ -21,10 +20,7 @@ impl<R: AsNfa, A: Allocator + Copy> Engine for LazyDfa<R, A> {
         ensures search { IfOk result
             (λ found. IsSearchResult self.old.nfa self.old.kind input.now found) }
         ensures done { is_done input.now ≡ true → result ≡ Ok None }
-        ensures after { OnOk result (cache self.new ≡ after_input (cache self.old) input.now) }
-        ensures failed { OnErr result
-            (IsCutOffIn false (cache self.old) input.now (cache self.new)) }
-        ensures grows { Grows (cache self.old) (cache self.new) }
+        ensures cache { HasSearchedIn false self.old input.now result self.new }
     {
         self.search_input(input)
     }
@@ -34,10 +30,7 @@ impl<R: AsNfa, A: Allocator + Copy> Engine for LazyDfa<R, A> {
         ensures accepts { is_done input.now ≡ false → IfOk result
             (λ found. Decides found (HasMatch self.old.nfa input.now)) }
         ensures done { is_done input.now ≡ true → result ≡ Ok false }
-        ensures after { OnOk result (cache self.new ≡ after_is_match (cache self.old) input.now) }
-        ensures failed { OnErr result
-            (IsCutOffIn true (cache self.old) input.now (cache self.new)) }
-        ensures grows { Grows (cache self.old) (cache self.new) }
+        ensures cache { HasSearchedIn true self.old input.now result self.new }
     {
         self.is_match(input)
     }

@@ -1,4 +1,4 @@
-//! Laws of the cache over the definitions, as public functions with empty bodies.
+//! Two facts about the cache that no call states: example walks, and how much a walk computes.
 
 ghost use Rattle.determinize_lazy.specs.Cache.{EachWalkComputesFew};
 ghost use Rattle.determinize_lazy.specs.WorkedRows.{AreWorkedRows};

@@ -9,7 +9,7 @@ ghost use Rattle.std.specs.Option.{IfSome};
 ghost use Rattle.determinize_below.specs.ByteClasses.{AreClassesOf, Classes};
 ghost use Rattle.determinize_below.specs.Nfa.{IsAccepted};
 ghost use Rattle.determinize_engine.specs.declared.state_table.TheConstants.{MAX_STATES};
-ghost use Rattle.determinize_lazy.specs.Cache.{Grows, cache, step_of};
+ghost use Rattle.determinize_lazy.specs.Cache.{Grows, cache, empty_cache, step_of};
 ghost use Rattle.determinize_lazy.specs.MostBytes.{most_bytes};
 ghost use Rattle.determinize_table.specs.CacheBytes.{cache_bytes};
 ghost use Rattle.determinize_table.specs.Table.{IsTable, empty};
@@ -18,6 +18,7 @@ use determinize_below::{AsNfa, MatchKind, NFA};
 use determinize_core::determinize::Scratch;
 use determinize_table::{ClassSpans, TransitionTable};
 use std::alloc::{Allocator, Global};
+use std::fmt;
 use std::marker::Model;
 
 /// A lazy DFA: an NFA with a bounded cache of the transitions of its DFA.
@@ -31,10 +32,17 @@ use std::marker::Model;
 /// states alone are at most `limit`. If they are not, nothing is cached. In a cache of
 /// `new_by_class` one computed step gives a transition over each byte of a class.
 ///
+/// A walk or a search starts from the NFA state `start`, whose id must be below the number of
+/// states. `look_behind` is the byte just before the text, and `look_ahead` the one just after it:
+/// `None` if the input begins or ends there. A text is in reading order: for a reverse NFA from the
+/// last byte on.
+///
 /// A walk or a search returns `AllocError` if an allocation fails, or if more than 16647160 states
-/// would be cached, since rows have the offsets of rows in 32 bits. After an error the cache is
-/// empty or as it was after some of the steps of the call, and `computed` is as it was after these
-/// steps or after one more; the NFA, the match kind and the limit are unchanged.
+/// would be cached, since rows have the offsets of rows in 32 bits. `feed`, `finish` and `next` do
+/// so, too, if the state of the scan or the walker, which may be one of another NFA, has an id that
+/// is not one of a state of this NFA, or lists more patterns or NFA states than it has. After an
+/// error the cache is empty or as it was after some of the steps of the call, and `computed` is as
+/// it was after these steps or after one more; the NFA, the match kind and the limit are unchanged.
 pub struct LazyDfa<R: AsNfa, A: Allocator = Global> {
     pub(crate) nfa: R,
     pub(crate) match_kind: MatchKind,
@@ -90,14 +98,7 @@ impl<R: AsNfa, A: Allocator + Copy> LazyDfa<R, A> {
     /// Returns an empty cache of at most `limit` states. Does not allocate. Walks and searches
     /// allocate from `alloc`.
     pub fn new(alloc: A, nfa: R, match_kind: MatchKind, limit: usize) -> LazyDfa<R, A>
-        ensures cache { cache result ≡ record {
-          nfa = R.nfa nfa;
-          kind = match_kind;
-          limit = limit;
-          table = empty;
-          computed = 0;
-          classes = None;
-        } }
+        ensures cache { cache result ≡ empty_cache (R.nfa nfa) match_kind limit None }
         ensures nfa { result.nfa ≡ R.nfa nfa }
         ensures kind { result.kind ≡ match_kind }
     {
@@ -115,14 +116,7 @@ impl<R: AsNfa, A: Allocator + Copy> LazyDfa<R, A> {
     /// Only the steps from a state whose look-need has an assertion that the NFA does not have are
     /// computed apart for each byte. No walk over this NFA has such a state.
     pub fn new_by_class(alloc: A, nfa: R, match_kind: MatchKind, limit: usize) -> LazyDfa<R, A>
-        ensures cache { cache result ≡ record {
-          nfa = R.nfa nfa;
-          kind = match_kind;
-          limit = limit;
-          table = empty;
-          computed = 0;
-          classes = result.classes;
-        } }
+        ensures cache { cache result ≡ empty_cache (R.nfa nfa) match_kind limit result.classes }
         ensures classes { (p : Classes) × (result.classes ≡ Some p) × AreClassesOf (R.nfa nfa) p }
         ensures nfa { result.nfa ≡ R.nfa nfa }
         ensures kind { result.kind ≡ match_kind }
@@ -140,14 +134,7 @@ impl<R: AsNfa, A: Allocator + Copy> LazyDfa<R, A> {
         match_kind: MatchKind,
         limit: usize,
     ) -> LazyDfa<&NFA<R::N>, B>
-        ensures cache { cache result ≡ record {
-          nfa = self.now.nfa;
-          kind = match_kind;
-          limit = limit;
-          table = empty;
-          computed = 0;
-          classes = self.now.classes;
-        } }
+        ensures cache { cache result ≡ empty_cache self.now.nfa match_kind limit self.now.classes }
         ensures nfa { result.nfa ≡ self.now.nfa }
         ensures accepted { IsAccepted self.now.nfa }
         ensures kind { result.kind ≡ match_kind }
@@ -169,14 +156,7 @@ impl<R: AsNfa, A: Allocator + Copy> LazyDfa<R, A> {
     ) -> LazyDfa<R, A>
         requires accepted { IsAccepted (R.nfa nfa) }
         requires classes { IfSome spans (λ p. AreClassesOf (R.nfa nfa) p) }
-        ensures { cache result ≡ record {
-          nfa = R.nfa nfa;
-          kind = match_kind;
-          limit = limit;
-          table = empty;
-          computed = 0;
-          classes = spans;
-        } }
+        ensures { cache result ≡ empty_cache (R.nfa nfa) match_kind limit spans }
     {
         LazyDfa {
             nfa,
@@ -269,6 +249,18 @@ impl<R: AsNfa, A: Allocator + Copy> LazyDfa<R, A> {
     {
         self.table = TransitionTable::new(self.alloc);
         self.scratch = Scratch::new(self.alloc);
+    }
+}
+
+// `Debug` gives the sizes, without the NFA and the states.
+impl<R: AsNfa, A: Allocator + Copy> fmt::Debug for LazyDfa<R, A> {
+    fn fmt<W: fmt::Write>(&self, f: &mut fmt::Formatter<W>) -> fmt::Result {
+        f.debug_struct("LazyDfa")
+            .field("match_kind", &self.match_kind())
+            .field("limit", &self.limit())
+            .field("states_kept", &self.states_kept())
+            .field("computed", &self.computed())
+            .finish_non_exhaustive()
     }
 }
 

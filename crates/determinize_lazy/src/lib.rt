@@ -12,13 +12,10 @@
 //! - The transition table and the rule of what is cached are in the crate `determinize_table`,
 //!   which also says what a row is.
 //!
-//! A `Result` is `Err` if an allocation fails or more than 16647160 states would be cached. `feed`
-//! also returns an error past `usize::MAX` bytes, and `feed`, `finish` and `next` do for a scan or
-//! a walker of another NFA, if its state is not one that this NFA can have (`LazyDfa::feed`).
+//! [`LazyDfa`] says when a `Result` is `Err`.
 #![tactic(auto)]
 
 mod cached;
-mod debug;
 mod engine;
 pub mod laws;
 pub mod lazy;

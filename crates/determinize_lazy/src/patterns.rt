@@ -1,18 +1,17 @@
 //! Which patterns match: where a range of a haystack ends, and anywhere in it.
 
-ghost use Rattle.std.specs.Prelude.{◌≡◌, ◌<◌, [], Contains, false, true, length, IfOk, OnErr, OnOk};
+ghost use Rattle.std.specs.Prelude.{◌≡◌, ◌<◌, [], Contains, false, true, length, IfOk, OnOk};
 ghost use Rattle.determinize_below.specs.Search.{is_done};
 ghost use Rattle.determinize_below.specs.declared.search.MatchKind.TheVariants as kinds;
 ghost use Rattle.determinize_core.specs.Chain.{units};
 ghost use Rattle.determinize_core.specs.Step.{start_value};
 ghost use Rattle.determinize_engine.specs.Lists.{ListsAtEnd};
 ghost use Rattle.determinize_engine.specs.Searches.{has_start, start_for, text_of};
-ghost use Rattle.determinize_lazy.specs.Cache.{Grows, cache};
-ghost use Rattle.determinize_lazy.specs.CachedSearches.{IsCutOffIn, after_input};
+ghost use Rattle.determinize_lazy.specs.Cache.{cache};
+ghost use Rattle.determinize_lazy.specs.CachedSearches.{HasSearchedIn};
 ghost use Rattle.determinize_lazy.specs.Marks.{AreMarked, AreSomeMarked, HasMatchOf};
 ghost use Rattle.determinize_lazy.specs.Private.Listed.{IsListed};
-ghost use Rattle.determinize_lazy.specs.Private.Searched.{EndsAt, IsPosition, first_place, place};
-ghost use Rattle.determinize_lazy.specs.Private.Steps.{IsSound};
+ghost use Rattle.determinize_lazy.specs.Private.Searched.{IsLeftBy, IsPosition, first_place, place};
 
 use crate::lazy::LazyDfa;
 use crate::search::{Position, start_for};
@@ -29,19 +28,14 @@ impl<R: AsNfa, A: Allocator + Copy> LazyDfa<R, A> {
     /// accepting run if this run ends there, and else empty. A reverse NFA reads the range from its
     /// end, so its matches end at the start of the range.
     ///
-    /// Reads and caches what `search_input` does. If the range starts past its end, nothing is read
-    /// and the list is empty. `Anchored::Pattern` is not accepted.
-    #[tactic(auto, unfolding(crate::specs::CachedSearches::after_input))]
+    /// Takes the inputs of `search_input`, and reads and caches what it does.
     pub fn patterns_after(&mut self, input: &Input<'_>) -> Result<Vec<PatternID, A>, AllocError>
         requires { has_start input.now.anchored ≡ true }
         ensures lists { is_done input.now ≡ false → IfOk result (λ ids. ListsAtEnd self.old.nfa
             self.old.kind (start_for self.old.nfa input.now.anchored)
             (text_of self.old.nfa.reverse input.now) ids.items) }
         ensures done { is_done input.now ≡ true → IfOk result (λ ids. ids.items ≡ []) }
-        ensures after { OnOk result (cache self.new ≡ after_input (cache self.old) input.now) }
-        ensures failed { OnErr result
-            (IsCutOffIn false (cache self.old) input.now (cache self.new)) }
-        ensures grows { Grows (cache self.old) (cache self.new) }
+        ensures cache { HasSearchedIn false self.old input.now result self.new }
     {
         if input.is_done() {
             return Ok(Vec::new(self.alloc));
@@ -49,24 +43,13 @@ impl<R: AsNfa, A: Allocator + Copy> LazyDfa<R, A> {
         let nfa = self.nfa.nfa();
         let start = start_for(nfa, input.get_anchored());
         let text = Text::of_input(input, nfa.is_reverse());
-        let at = self.read_to_end(start, &text)?;
+        let cursor = self.start(start, text.behind())?;
+        let at = self.search_to_end(Position::start(cursor), &text, false)?;
         if at.read <= text.len() {
             // At a dead state, which no match follows.
             return Ok(Vec::new(self.alloc));
         }
         self.patterns_at(&at)
-    }
-
-    /// Returns the position at which a search of a text ends.
-    fn read_to_end(&mut self, start: StateID, text: &Text<'_>) -> Result<Position<A>, AllocError>
-        requires { start < length self.old.nfa.states }
-        ensures over { EndsAt false (units text.now)
-            (first_place (cache self.old) (start_value self.old.nfa start text.now.behind)) result
-            self.new }
-        ensures sound { IsSound (cache self.old) }
-    {
-        let cursor = self.start(start, text.behind())?;
-        self.search_to_end(Position::start(cursor), text, false)
     }
 
     /// Returns the patterns that the state at a position lists.
@@ -87,8 +70,8 @@ impl<R: AsNfa, A: Allocator + Copy> LazyDfa<R, A> {
     /// its start, or from anywhere for an unanchored search. Under `MatchKind::LeftmostFirst` only
     /// patterns that match are marked, but perhaps not all.
     ///
-    /// If the range starts past its end, nothing is read and nothing marked. `Anchored::Pattern` is
-    /// not accepted. After an error some of the patterns that match may be marked.
+    /// Takes the inputs of `search_input`, and reads and caches what it does. After an error some
+    /// of the patterns that match may be marked.
     pub fn which_patterns(
         &mut self,
         input: &Input<'_>,
@@ -100,7 +83,7 @@ impl<R: AsNfa, A: Allocator + Copy> LazyDfa<R, A> {
         ensures some { is_done input.now ≡ false
             → AreSomeMarked found.old (HasMatchOf self.old.nfa input.now) found.new }
         ensures done { is_done input.now ≡ true → found.new ≡ found.old }
-        ensures grows { Grows (cache self.old) (cache self.new) }
+        ensures cache { HasSearchedIn false self.old input.now result self.new }
     {
         if input.is_done() {
             return Ok(());
@@ -123,8 +106,8 @@ impl<R: AsNfa, A: Allocator + Copy> LazyDfa<R, A> {
             (start_value self.old.nfa start text.now.behind) (units text.now)) found.new) }
         ensures some { AreSomeMarked found.old (IsListed self.old.nfa self.old.kind
             (start_value self.old.nfa start text.now.behind) (units text.now)) found.new }
-        ensures sound { IsSound (cache self.old) }
-        ensures grows { Grows (cache self.old) (cache self.new) }
+        ensures left { IsLeftBy false (units text.now) (first_place (cache self.old)
+            (start_value self.old.nfa start text.now.behind)) result (cache self.new) }
     {
         let mut at = Position::start(self.start(start, text.behind())?);
         while at.read <= text.len() {

@@ -5,22 +5,21 @@
 //! state in the cache, first at the id that it had at the end of the piece before, and copies the
 //! state at the end of this one.
 
-ghost use Rattle.std.specs.Prelude.{◌≡◌, ◌+◌, ◌++◌, ◌<◌, ◌≤◌, ℕ, [], List, Option, length, map, not, option_map, true, IfOk, OnErr, OnOk, None, Some};
+ghost use Rattle.std.specs.Prelude.{◌≡◌, ◌+◌, ◌++◌, ◌<◌, ◌≤◌, ◌∷◌, ℕ, [], false, List, Option, length, map, not, option_map, true, IfOk, OnErr, OnOk, None, Some};
 ghost use Rattle.std.specs.Option.{IfSome, option_or};
 ghost use Rattle.determinize_below.specs.Nfa.{AllResolve};
-ghost use Rattle.determinize_below.specs.Semantics.{Nfa, between};
+ghost use Rattle.determinize_below.specs.Semantics.{between};
 ghost use Rattle.determinize_core.specs.Step.{start_value};
 ghost use Rattle.determinize_core.specs.Value.{is_nonempty};
-ghost use Rattle.determinize_lazy.specs.Cache.{Grows, IsCutOff, after_step, after_walk, cache};
-ghost use Rattle.determinize_table.specs.Cursors.{IsCursor, cursor_value};
-ghost use Rattle.determinize_lazy.specs.Private.Searched.{IsPieceRead};
-ghost use Rattle.determinize_lazy.specs.Private.Steps.{IsStateOf};
-ghost use Rattle.determinize_lazy.specs.Scanning.{EndsBefore, IsFoundBeforeLast, IsFoundInEach};
+ghost use Rattle.determinize_lazy.specs.Cache.{cache};
+ghost use Rattle.determinize_table.specs.Cursors.{cursor_value};
+ghost use Rattle.determinize_lazy.specs.Private.Searched.{IsLeftBy, IsPieceRead, first_place};
+ghost use Rattle.determinize_lazy.specs.Private.Steps.{IsReady};
+ghost use Rattle.determinize_lazy.specs.Scanning.{EndsBefore, IsFoundBeforeLast, IsFoundInEach, IsSettledIn};
 ghost use Rattle.determinize_engine.specs.Private.Later.{later_by};
-ghost use Rattle.determinize_engine.specs.Scans.{IsScan, IsSettled};
-ghost use Rattle.determinize_lazy.specs.CachedSearches.{units_begun, units_fed, units_last};
+ghost use Rattle.determinize_engine.specs.Scans.{IsScan};
+ghost use Rattle.determinize_lazy.specs.CachedSearches.{HasSearched};
 ghost use Rattle.determinize_engine.specs.Searches.{IsSearch};
-ghost use Rattle.determinize_below.specs.declared.search.MatchKind.{MatchKind as Kind};
 
 use crate::lazy::LazyDfa;
 use crate::search::Position;
@@ -34,7 +33,8 @@ use std::marker::Model;
 /// A search under way, of a text that comes in pieces: `LazyDfa::scan` begins it, `LazyDfa::feed`
 /// reads the next piece, and `LazyDfa::finish` returns the match.
 ///
-/// It may be fed through any cache of the same NFA and match kind.
+/// The match is that of one search if all caches that it is fed through have the same NFA and match
+/// kind.
 #[derive(Drop)]
 pub struct Scan<A: Allocator = Global> {
     state: State<A>,
@@ -88,9 +88,7 @@ impl<A: Allocator> Scan<A> {
     /// change the match, and `last` is what `finish` will return.
     pub fn is_over(&self) -> bool
         ensures value { result ≡ not (is_nonempty self.now.state.states) }
-        ensures settled { result ≡ true → (nfa : Nfa) (kind : Kind) (start : ℕ) (behind : Option ℕ)
-            (bytes : List ℕ) → IsScan nfa kind start behind bytes self.now
-            → IsSettled nfa kind start behind bytes self.now.last }
+        ensures settled { result ≡ true → IsSettledIn self.now }
         ensures search { result ≡ true → IsFoundInEach self.now }
     {
         self.state.iter_nfa_state_ids().next().is_none()
@@ -114,9 +112,6 @@ fn or_later(last: Option<HalfMatch>, read: usize, found: Option<HalfMatch>) -> O
 
 impl<R: AsNfa, A: Allocator + Copy> LazyDfa<R, A> {
     /// Returns a search that has read nothing yet.
-    ///
-    /// - `start` is the id of the NFA state to start from, below the number of states.
-    /// - `look_behind` is the byte just before the text, if any.
     pub fn scan(&mut self, start: StateID, look_behind: Option<u8>) -> Result<Scan<A>, AllocError>
         requires { start < length self.old.nfa.states }
         ensures begun { IfOk result
@@ -135,8 +130,7 @@ impl<R: AsNfa, A: Allocator + Copy> LazyDfa<R, A> {
     }
 
     /// Returns a search that has read the first piece of its text, as `scan` and then `feed` would.
-    /// `start` must be below the number of states, and `look_behind` is as for `scan`. If the id of
-    /// its start state is kept, as for `search`, nothing is computed to begin it.
+    /// If the id of its start state is kept, as for `search`, nothing is computed to begin it.
     pub fn scan_text(
         &mut self,
         start: StateID,
@@ -148,13 +142,8 @@ impl<R: AsNfa, A: Allocator + Copy> LazyDfa<R, A> {
             (λ scan. IsScan self.old.nfa self.old.kind start look_behind piece.now scan) }
         ensures resolve { IfOk result
             (λ scan. AllResolve self.new.nfa scan.state.states) }
-        ensures after { OnOk result (cache self.new ≡ after_walk (cache self.old)
-            (start_value self.old.nfa start look_behind)
-            (units_begun (cache self.old) start look_behind piece.now)) }
-        ensures failed { OnErr result (IsCutOff (cache self.old)
-            (start_value self.old.nfa start look_behind)
-            (units_begun (cache self.old) start look_behind piece.now) (cache self.new)) }
-        ensures grows { Grows (cache self.old) (cache self.new) }
+        ensures cache { HasSearched false self.old (start_value self.old.nfa start look_behind)
+            (map Some piece.now) result self.new }
     {
         let cursor = self.start(start, look_behind)?;
         self.read_piece(cursor, piece)
@@ -162,17 +151,13 @@ impl<R: AsNfa, A: Allocator + Copy> LazyDfa<R, A> {
 
     /// Returns the search of a piece from a cursor, as if its text began there.
     fn read_piece(&mut self, start: Cursor<A>, piece: &[u8]) -> Result<Scan<A>, AllocError>
-        requires cursor { IsCursor self.old.states start }
-        requires known { IsStateOf self.old.nfa (cursor_value self.old.states start) }
+        requires { IsReady self.old start }
         ensures read { IfOk result (λ scan. IsPieceRead (cache self.old)
-            (cursor_value self.old.states start) piece.now scan (cache self.new)) }
+            (cursor_value self.old.states start) piece.now scan) }
         ensures resolve { IfOk result
             (λ scan. AllResolve self.new.nfa scan.state.states) }
-        ensures failed { OnErr result (IsCutOff (cache self.old)
-            (cursor_value self.old.states start)
-            (units_fed (cache self.old) (cursor_value self.old.states start) piece.now)
-            (cache self.new)) }
-        ensures grows { Grows (cache self.old) (cache self.new) }
+        ensures left { IsLeftBy false (map Some piece.now) (first_place (cache self.old)
+            (cursor_value self.old.states start)) result (cache self.new) }
     {
         let text = Text::new(None, piece, None);
         let at = self.search_bytes(Position::start(start), &text, false)?;
@@ -189,12 +174,8 @@ impl<R: AsNfa, A: Allocator + Copy> LazyDfa<R, A> {
 
     /// Reads the next piece of the text of a scan, in reading order. A piece may be empty.
     ///
-    /// The match is that of one search if the scan was begun with this NFA and match kind.
-    ///
-    /// Returns `AllocError` also if the pieces have more than `usize::MAX` bytes together, or if
-    /// the state of the scan has an id that is not one of a state of the NFA, or lists more
-    /// patterns or NFA states than the NFA has. After an error the scan is unchanged, and the piece
-    /// may be fed again.
+    /// Returns `AllocError` also if the pieces have more than `usize::MAX` bytes together. After an
+    /// error the scan is unchanged, and the piece may be fed again.
     pub fn feed(&mut self, scan: &mut Scan<A>, piece: &[u8]) -> Result<(), AllocError>
         ensures fed { (start : ℕ) (behind : Option ℕ) (bytes : List ℕ)
             → IsScan self.old.nfa self.old.kind start behind bytes scan.old → OnOk result
@@ -203,11 +184,8 @@ impl<R: AsNfa, A: Allocator + Copy> LazyDfa<R, A> {
             → AllResolve self.new.nfa scan.new.state.states }
         ensures read { OnOk result (scan.new.read ≡ scan.old.read + length piece.now) }
         ensures same { OnErr result (scan.new ≡ scan.old) }
-        ensures after { OnOk result (cache self.new ≡ after_walk (cache self.old) scan.old.state
-            (units_fed (cache self.old) scan.old.state piece.now)) }
-        ensures failed { OnErr result (IsCutOff (cache self.old) scan.old.state
-            (units_fed (cache self.old) scan.old.state piece.now) (cache self.new)) }
-        ensures grows { Grows (cache self.old) (cache self.new) }
+        ensures cache { HasSearched false self.old scan.old.state (map Some piece.now) result
+            self.new }
     {
         let Some(read) = scan.read.checked_add(piece.len()) else {
             return Err(AllocError);
@@ -223,12 +201,6 @@ impl<R: AsNfa, A: Allocator + Copy> LazyDfa<R, A> {
 
     /// Returns the match of a scan whose text ends after the pieces so far: that of `search` over
     /// all of them as one text. The scan is unchanged, so it may be fed further.
-    ///
-    /// - `look_ahead` is the byte just after the text, or `None` if the input ends there.
-    ///
-    /// The match is that of one search if the scan was begun with this NFA and match kind. Returns
-    /// `AllocError` also if the state of the scan has an id that is not one of a state of the NFA,
-    /// or lists more patterns or NFA states than the NFA has.
     pub fn finish(
         &mut self,
         scan: &Scan<A>,
@@ -238,11 +210,8 @@ impl<R: AsNfa, A: Allocator + Copy> LazyDfa<R, A> {
             → IsScan self.old.nfa self.old.kind start behind bytes scan.now
             → IfOk result (λ found. IsSearch self.old.nfa self.old.kind start
             (between behind bytes look_ahead) found) }
-        ensures after { OnOk result (cache self.new ≡ after_walk (cache self.old) scan.now.state
-            (units_last (cache self.old) scan.now.state look_ahead)) }
-        ensures failed { OnErr result (IsCutOff (cache self.old) scan.now.state
-            (units_last (cache self.old) scan.now.state look_ahead) (cache self.new)) }
-        ensures grows { Grows (cache self.old) (cache self.new) }
+        ensures cache { HasSearched false self.old scan.now.state (look_ahead ∷ []) result
+            self.new }
     {
         let start = self.cursor_of(&scan.state, scan.id)?;
         let text = Text::new(None, &[], look_ahead);

@@ -14,18 +14,18 @@
 //! Matches are delayed by one unit: a state lists the patterns that match before the unit that led
 //! to it. So a search also reads the unit ahead of its text, and a start state is no match state.
 
-ghost use Rattle.std.specs.Prelude.{Decides, ◌≡◌, ◌<◌, ◌≤◌, false, true, Option, drop, length, IfOk, OnErr, OnOk, Ok, None, Some};
+ghost use Rattle.std.specs.Prelude.{Decides, ◌≡◌, ◌<◌, ◌≤◌, false, true, Option, drop, length, IfOk, OnErr, Ok, None, Some};
 ghost use Rattle.determinize_below.specs.Semantics.{between};
 ghost use Rattle.determinize_below.specs.Search.{is_done};
 ghost use Rattle.determinize_core.specs.Chain.{units};
 ghost use Rattle.determinize_core.specs.Step.{start_value};
 ghost use Rattle.determinize_core.specs.Value.{Value};
-ghost use Rattle.determinize_lazy.specs.Cache.{Grows, IsCutOff, LazyValue, cache};
-ghost use Rattle.determinize_table.specs.Cursors.{IsCursor, cursor_value};
+ghost use Rattle.determinize_lazy.specs.Cache.{Grows, LazyValue, cache};
+ghost use Rattle.determinize_table.specs.Cursors.{cursor_value};
 ghost use Rattle.determinize_lazy.specs.Private.Searched.{EndsAt, Fails, GoesTo, HasStopped, IsNext, IsOver, IsOverText, IsPosition, IsShort, first_place, place, with_cursor};
-ghost use Rattle.determinize_lazy.specs.Private.Steps.{IsFailedStep, IsSound, IsStateOf};
+ghost use Rattle.determinize_lazy.specs.Private.Steps.{IsFailedStep, IsReady, IsSound};
 ghost use Rattle.determinize_engine.specs.Searches.{HasMatch, IsSearch, IsSearchResult, has_start, start_for, text_of};
-ghost use Rattle.determinize_lazy.specs.CachedSearches.{IsCutOffIn, IsPlenty, IsPlentyIn, after_input, after_is_match, after_search, units_searched};
+ghost use Rattle.determinize_lazy.specs.CachedSearches.{HasSearched, HasSearchedIn};
 
 use crate::cached::{CachedPosition, Reached};
 use crate::lazy::LazyDfa;
@@ -58,8 +58,7 @@ pub(crate) struct Position<A: Allocator> {
 impl<A: Allocator> Position<A> {
     /// Returns the position before the first unit.
     pub(crate) fn start(cursor: Cursor<A>) -> Position<A>
-        ensures position { (c : LazyValue) → IsCursor c.states cursor
-            → IsStateOf c.nfa (cursor_value c.states cursor) → IsPosition c result }
+        ensures position { (c : LazyValue) → IsReady c cursor → IsPosition c result }
         ensures place { (c : LazyValue) (v : Value) → cursor_value c.states cursor ≡ v
             → place c result ≡ first_place (cache c) v }
         ensures read { result.read ≡ 0 }
@@ -215,16 +214,9 @@ impl<R: AsNfa, A: Allocator + Copy> LazyDfa<R, A> {
     /// Returns the last match of the walk that `walk_between` makes over the same text, or `None`
     /// if it has no match. The offset of a match is the number of bytes before its end.
     ///
-    /// - `start` is the id of the NFA state to start from, below the number of states.
-    /// - `look_behind` is the byte just before the text, if any.
-    /// - `look_ahead` is the byte just after the text, or `None` if the input ends there.
-    ///
     /// Under `MatchKind::LeftmostFirst` the match is that of the most preferred accepting run,
     /// under `MatchKind::All` that of the best run at the last position where any run accepts.
     /// `None` means that no run accepts.
-    ///
-    /// The text is in reading order: for a reverse NFA from the last byte on. The search stops at a
-    /// state that records no NFA states, since no match can follow it.
     pub fn search(
         &mut self,
         start: StateID,
@@ -235,15 +227,8 @@ impl<R: AsNfa, A: Allocator + Copy> LazyDfa<R, A> {
         requires { start < length self.old.nfa.states }
         ensures search { IfOk result (λ found. IsSearch self.old.nfa self.old.kind start
             (between look_behind text.now look_ahead) found) }
-        ensures after { OnOk result (cache self.new ≡ after_search (cache self.old) start
-            (between look_behind text.now look_ahead)) }
-        ensures plenty { OnOk result (IsPlenty (cache self.old) start
-            (between look_behind text.now look_ahead) (cache self.new)) }
-        ensures failed { OnErr result (IsCutOff (cache self.old)
-            (start_value self.old.nfa start look_behind)
-            (units_searched (cache self.old) start (between look_behind text.now look_ahead))
-            (cache self.new)) }
-        ensures grows { Grows (cache self.old) (cache self.new) }
+        ensures cache { HasSearched false self.old (start_value self.old.nfa start look_behind)
+            (units (between look_behind text.now look_ahead)) result self.new }
     {
         let text = Text::new(look_behind, text, look_ahead);
         self.search_text(start, &text, false)
@@ -263,19 +248,13 @@ impl<R: AsNfa, A: Allocator + Copy> LazyDfa<R, A> {
     ///
     /// No match includes the bytes next to the range. The byte behind decides the start state only;
     /// the byte ahead is read as the last unit, and its transition may be computed and cached. If
-    /// the range starts past its end, nothing is read and the result is `Ok(None)`.
-    #[tactic(auto, unfolding(crate::specs::CachedSearches::after_input))]
+    /// the range starts past its end, nothing is read, and there is no match.
     pub fn search_input(&mut self, input: &Input<'_>) -> Result<Option<HalfMatch>, AllocError>
         requires { has_start input.now.anchored ≡ true }
         ensures search { IfOk result
             (λ found. IsSearchResult self.old.nfa self.old.kind input.now found) }
         ensures done { is_done input.now ≡ true → result ≡ Ok None }
-        ensures after { OnOk result (cache self.new ≡ after_input (cache self.old) input.now) }
-        ensures unchanged { is_done input.now ≡ true → self.new ≡ self.old }
-        ensures plenty { OnOk result (IsPlentyIn (cache self.old) input.now (cache self.new)) }
-        ensures failed { OnErr result
-            (IsCutOffIn false (cache self.old) input.now (cache self.new)) }
-        ensures grows { Grows (cache self.old) (cache self.new) }
+        ensures cache { HasSearchedIn false self.old input.now result self.new }
     {
         if input.is_done() {
             return Ok(None);
@@ -287,20 +266,13 @@ impl<R: AsNfa, A: Allocator + Copy> LazyDfa<R, A> {
     /// Returns whether an input has a match, under both match kinds: whether some run over what
     /// `search_input` reads accepts.
     ///
-    /// Stops at the first match state, and at a state that records no NFA states. Over cached
-    /// transitions the cache is only read. If the range starts past its end, nothing is read and
-    /// the result is `Ok(false)`. `Anchored::Pattern` is not accepted.
-    #[tactic(auto, unfolding(crate::specs::CachedSearches::after_is_match))]
+    /// Takes the inputs of `search_input`, and also stops at the first match state.
     pub fn is_match(&mut self, input: &Input<'_>) -> Result<bool, AllocError>
         requires { has_start input.now.anchored ≡ true }
         ensures accepts { is_done input.now ≡ false → IfOk result
             (λ found. Decides found (HasMatch self.old.nfa input.now)) }
         ensures done { is_done input.now ≡ true → result ≡ Ok false }
-        ensures after { OnOk result (cache self.new ≡ after_is_match (cache self.old) input.now) }
-        ensures unchanged { is_done input.now ≡ true → self.new ≡ self.old }
-        ensures failed { OnErr result
-            (IsCutOffIn true (cache self.old) input.now (cache self.new)) }
-        ensures grows { Grows (cache self.old) (cache self.new) }
+        ensures cache { HasSearchedIn true self.old input.now result self.new }
     {
         if input.is_done() {
             return Ok(false);

@@ -5,12 +5,12 @@
 //! and the table drops them when it is cleared. A start state is computed if no id of it is kept:
 //! from any other NFA state always, and else until the state was found cached.
 
-ghost use Rattle.std.specs.Prelude.{Decides, ◌≡◌, ◌<◌, ℕ, false, length, IfOk, OnOk};
+ghost use Rattle.std.specs.Prelude.{Decides, ◌≡◌, ◌<◌, ℕ, false, length, IfOk};
 ghost use Rattle.std.specs.Option.{option_copied};
 ghost use Rattle.determinize_core.specs.Step.{start_value};
 ghost use Rattle.determinize_lazy.specs.Cache.{cache, classes_from};
-ghost use Rattle.determinize_table.specs.Cursors.{IsAt, IsCursor, cursor_value};
-ghost use Rattle.determinize_lazy.specs.Private.Steps.{IsSound, IsStarted, IsStateOf, IsStepped};
+ghost use Rattle.determinize_table.specs.Cursors.{IsCursor, cursor_value};
+ghost use Rattle.determinize_lazy.specs.Private.Steps.{IsReady, IsSound, IsStarted, IsStateOf, IsStepped};
 ghost use Rattle.determinize_table.specs.Tags.{tag_in, tag_of};
 ghost use Rattle.determinize_table.specs.Table.{is_cached};
 ghost use Rattle.determinize_table.specs.declared.table.Cursor.TheVariants as cursors;
@@ -125,8 +125,8 @@ impl<R: AsNfa, A: Allocator + Copy> LazyDfa<R, A> {
         state: &State<A>,
         likely: Option<LazyStateId>,
     ) -> Result<Cursor<A>, AllocError>
-        ensures at { IfOk result (λ cursor. IsAt self.now.states cursor state.now) }
-        ensures known { OnOk result (IsStateOf self.now.nfa state.now) }
+        ensures ready { IfOk result (λ cursor. IsReady self.now cursor) }
+        ensures value { IfOk result (λ cursor. cursor_value self.now.states cursor ≡ state.now) }
         ensures sound { IsSound (cache self.now) }
     {
         match self.table.find(state, likely) {
@@ -156,8 +156,7 @@ impl<R: AsNfa, A: Allocator + Copy> LazyDfa<R, A> {
         cursor: Cursor<A>,
         unit: Option<u8>,
     ) -> Result<Cursor<A>, AllocError>
-        requires cursor { IsCursor self.old.states cursor }
-        requires known { IsStateOf self.old.nfa (cursor_value self.old.states cursor) }
+        requires { IsReady self.old cursor }
         ensures { IsStepped self.old (cursor_value self.old.states cursor) unit result self.new }
     {
         match cursor {
@@ -174,8 +173,7 @@ impl<R: AsNfa, A: Allocator + Copy> LazyDfa<R, A> {
     #[cold]
     #[inline(never)]
     fn compute(&mut self, cursor: Cursor<A>, unit: Option<u8>) -> Result<Cursor<A>, AllocError>
-        requires cursor { IsCursor self.old.states cursor }
-        requires known { IsStateOf self.old.nfa (cursor_value self.old.states cursor) }
+        requires ready { IsReady self.old cursor }
         requires uncached { (id : ℕ) → cursor ≡ cursors.Cached id → is_cached (cache self.old).table
             (cursor_value self.old.states cursor) unit ≡ false }
         ensures { IsStepped self.old (cursor_value self.old.states cursor) unit result self.new }

@@ -1,13 +1,13 @@
 //! Walks over the cache, as a list of their states.
 
-ghost use Rattle.std.specs.Prelude.{◌≡◌, ◌<◌, ◌++◌, ◌∷◌, [], length, IfOk, None, OnErr, OnOk};
+ghost use Rattle.std.specs.Prelude.{◌≡◌, ◌<◌, ◌++◌, ◌∷◌, [], length, IfOk, None, OnOk};
 ghost use Rattle.determinize_below.specs.Semantics.{between};
 ghost use Rattle.determinize_core.specs.Chain.{future, units};
 ghost use Rattle.determinize_core.specs.Step.{start_value};
 ghost use Rattle.determinize_core.specs.WholeWalk.{IsWalk};
-ghost use Rattle.determinize_lazy.specs.Cache.{Grows, IsCutOff, IsCutOffText, after_text, after_walk, cache};
-ghost use Rattle.determinize_lazy.specs.Plenty.{IsPlentyText};
-ghost use Rattle.determinize_lazy.specs.Private.Steps.{IsFollowed, IsSound, IsStateOf};
+ghost use Rattle.determinize_lazy.specs.Cache.{cache};
+ghost use Rattle.determinize_lazy.specs.CachedSearches.{HasRead};
+ghost use Rattle.determinize_lazy.specs.Private.Steps.{IsCacheAfter, IsFollowed, IsReady};
 ghost use Rattle.determinize_table.specs.Cursors.{IsCursor, cursor_value};
 
 use crate::lazy::LazyDfa;
@@ -72,16 +72,12 @@ impl<R: AsNfa, A: Allocator + Copy> LazyDfa<R, A> {
         text: &Text<'_>,
         states: &mut Vec<State<A>, A>,
     ) -> Result<(), AllocError>
-        requires cursor { IsCursor self.old.states first }
-        requires known { IsStateOf self.old.nfa (cursor_value self.old.states first) }
+        requires ready { IsReady self.old first }
         requires begun { states.old.items ≡ cursor_value self.old.states first ∷ [] }
         ensures values { OnOk result (states.new.items ≡ future self.old.nfa self.old.kind
             (cursor_value self.old.states first) (units text.now)) }
-        ensures after { OnOk result (cache self.new ≡ after_walk (cache self.old)
-            (cursor_value self.old.states first) (units text.now)) }
-        ensures failed { OnErr result (IsCutOff (cache self.old)
-            (cursor_value self.old.states first) (units text.now) (cache self.new)) }
-        ensures grows { Grows (cache self.old) (cache self.new) }
+        ensures left { IsCacheAfter (cache self.old) (cursor_value self.old.states first)
+            (units text.now) result (cache self.new) }
     {
         let mut cursor = first;
         let mut read = 0;
@@ -99,36 +95,8 @@ impl<R: AsNfa, A: Allocator + Copy> LazyDfa<R, A> {
         Ok(())
     }
 
-    /// Adds the states of a walk over a text to a list that has none.
-    fn walk_from(
-        &mut self,
-        start: StateID,
-        text: &Text<'_>,
-        states: &mut Vec<State<A>, A>,
-    ) -> Result<(), AllocError>
-        requires start { start < length self.old.nfa.states }
-        requires none { states.old.items ≡ [] }
-        ensures values { OnOk result (states.new.items ≡ future self.old.nfa self.old.kind
-            (start_value self.old.nfa start text.now.behind) (units text.now)) }
-        ensures after { OnOk result (cache self.new ≡ after_walk (cache self.old)
-            (start_value self.old.nfa start text.now.behind) (units text.now)) }
-        ensures failed { OnErr result (IsCutOff (cache self.old)
-            (start_value self.old.nfa start text.now.behind) (units text.now) (cache self.new)) }
-        ensures sound { IsSound (cache self.old) }
-        ensures grows { Grows (cache self.old) (cache self.new) }
-    {
-        let first = self.start(start, text.behind())?;
-        self.push_state(&first, states)?;
-        self.walk_on(first, text, states)
-    }
-
     /// Returns the states of a walk over a text, as `walk` of `determinize_core` does: the start
     /// state, the state that follows over each byte and, last, over the end of input (EOI).
-    ///
-    /// - `start` is the id of the NFA state to start from, below the number of states.
-    /// - `look_behind` is the byte just before the text, if any.
-    ///
-    /// The text is in reading order: for a reverse NFA from the last byte on.
     pub fn walk(
         &mut self,
         start: StateID,
@@ -138,19 +106,14 @@ impl<R: AsNfa, A: Allocator + Copy> LazyDfa<R, A> {
         requires { start < length self.old.nfa.states }
         ensures walk { IfOk result (λ states. IsWalk self.old.nfa self.old.kind start
             (between look_behind text.now None) states.items) }
-        ensures after { OnOk result (cache self.new ≡ after_text (cache self.old) start
-            (between look_behind text.now None)) }
-        ensures plenty { OnOk result (IsPlentyText (cache self.old) start
-            (between look_behind text.now None) (cache self.new)) }
-        ensures failed { OnErr result (IsCutOffText (cache self.old) start
-            (between look_behind text.now None) (cache self.new)) }
-        ensures grows { Grows (cache self.old) (cache self.new) }
+        ensures cache { HasRead self.old (start_value self.old.nfa start look_behind)
+            (units (between look_behind text.now None)) result self.new }
     {
         self.walk_between(start, look_behind, text, None)
     }
 
     /// Returns the states of a walk over a text, as `walk` does, but the last state follows over
-    /// the byte just after the text, or over the end of input (EOI) if `look_ahead` is `None`.
+    /// `look_ahead`.
     pub fn walk_between(
         &mut self,
         start: StateID,
@@ -161,17 +124,14 @@ impl<R: AsNfa, A: Allocator + Copy> LazyDfa<R, A> {
         requires { start < length self.old.nfa.states }
         ensures walk { IfOk result (λ states. IsWalk self.old.nfa self.old.kind start
             (between look_behind text.now look_ahead) states.items) }
-        ensures after { OnOk result (cache self.new ≡ after_text (cache self.old) start
-            (between look_behind text.now look_ahead)) }
-        ensures plenty { OnOk result (IsPlentyText (cache self.old) start
-            (between look_behind text.now look_ahead) (cache self.new)) }
-        ensures failed { OnErr result (IsCutOffText (cache self.old) start
-            (between look_behind text.now look_ahead) (cache self.new)) }
-        ensures grows { Grows (cache self.old) (cache self.new) }
+        ensures cache { HasRead self.old (start_value self.old.nfa start look_behind)
+            (units (between look_behind text.now look_ahead)) result self.new }
     {
         let text = Text::new(look_behind, text, look_ahead);
+        let first = self.start(start, text.behind())?;
         let mut states = Vec::with_capacity(self.alloc, text.len() + 2)?;
-        self.walk_from(start, &text, &mut states)?;
+        self.push_state(&first, &mut states)?;
+        self.walk_on(first, &text, &mut states)?;
         Ok(states)
     }
 }

@@ -5,7 +5,7 @@ ghost use Rattle.determinize_below.specs.Nfa.{AllResolve};
 ghost use Rattle.determinize_below.specs.Semantics.{Text as TextValue};
 ghost use Rattle.determinize_core.specs.Chain.{units};
 ghost use Rattle.determinize_core.specs.Step.{start_value, step};
-ghost use Rattle.determinize_lazy.specs.Cache.{Grows, IsCutOff, after_step, cache};
+ghost use Rattle.determinize_lazy.specs.CachedSearches.{HasRead};
 ghost use Rattle.determinize_lazy.specs.Walkers.{IsWalkedTo};
 
 use crate::lazy::LazyDfa;
@@ -46,11 +46,6 @@ impl<A: Allocator> Walker<A> {
 
 impl<R: AsNfa, A: Allocator + Copy> LazyDfa<R, A> {
     /// Returns a walker at the start state of a walk.
-    ///
-    /// - `start` is the id of the NFA state to start from, below the number of states.
-    /// - `look_behind` is the byte just before the text, if any.
-    ///
-    /// Returns `AllocError` if an allocation fails.
     #[tactic(auto, using(crate::proofs::walking::CachedWalks::walked_steps))]
     pub fn walker(
         &mut self,
@@ -70,13 +65,8 @@ impl<R: AsNfa, A: Allocator + Copy> LazyDfa<R, A> {
     }
 
     /// Takes a step of a walk over a byte, or over the end of input (EOI) for `None`: the walker is
-    /// then at the next state of the walk.
-    ///
-    /// The states are those of one walk if the walker was begun with this NFA and match kind.
-    ///
-    /// Returns `AllocError` also if the state of the walker has an id that is not one of a state of
-    /// the NFA, or lists more patterns or NFA states than the NFA has. After an error the walker is
-    /// unchanged, and may take the same step again.
+    /// then at the next state of the walk. After an error the walker is unchanged, and may take the
+    /// same step again.
     pub fn next(&mut self, walker: &mut Walker<A>, unit: Option<u8>) -> Result<(), AllocError>
         ensures value { OnOk result
             (walker.new ≡ step self.old.nfa self.old.kind walker.old unit) }
@@ -87,11 +77,7 @@ impl<R: AsNfa, A: Allocator + Copy> LazyDfa<R, A> {
         ensures resolve { AllResolve self.old.nfa walker.old.states
             → AllResolve self.new.nfa walker.new.states }
         ensures same { OnErr result (walker.new ≡ walker.old) }
-        ensures after { OnOk result
-            (cache self.new ≡ after_step (cache self.old) walker.old unit) }
-        ensures failed { OnErr result
-            (IsCutOff (cache self.old) walker.old (unit ∷ []) (cache self.new)) }
-        ensures grows { Grows (cache self.old) (cache self.new) }
+        ensures cache { HasRead self.old walker.old (unit ∷ []) result self.new }
     {
         let cursor = self.cursor_of(&walker.state, walker.id)?;
         let next = self.step(cursor, unit)?;

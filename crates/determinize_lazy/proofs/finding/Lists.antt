@@ -1,20 +1,17 @@
 -- The list of the last value of a walk, by the place at which a search of the same units ends.
--- Main statements: lists-end, end-text.
+-- Main statements: lists-end.
 -- Used by: `patterns_after`.
 -- Idea: a search ends early only at a value that records no NFA states, after which no value lists a pattern.
-use Rattle.determinize_lazy.proofs.Common.{[], ap, arith, by_cases, by_test, Cache, cond, dead, ends_at, false}
-use Rattle.determinize_lazy.proofs.Common.{first_place, is_last, IsAccepted, length, length-map, List, map, MatchKind}
-use Rattle.determinize_lazy.proofs.Common.{next_place, Nfa, Option, Place, refl, Some, start_value, subst, sym, Text}
-use Rattle.determinize_lazy.proofs.Common.{true, units, Value, value_after, ℕ, ◌+◌, ◌<◌, ◌∙◌, ◌∷◌, ◌≡◌, ◌≤◌, ◌⊎◌}
+use Rattle.determinize_lazy.proofs.Common.{[], ap, arith, by_cases, by_test, Cache, cond, dead, dead_stays, ends_at}
+use Rattle.determinize_lazy.proofs.Common.{false, first_place, is_last, IsAccepted, length, length-map, List, map}
+use Rattle.determinize_lazy.proofs.Common.{MatchKind, nat_tests, next_place, Nfa, none_left, Option, Place, refl, Some}
+use Rattle.determinize_lazy.proofs.Common.{start_value, step_over, sym, Text, true, units, Value, value_after, ℕ, ◌+◌}
+use Rattle.determinize_lazy.proofs.Common.{◌<◌, ◌∙◌, ◌∷◌, ◌≡◌, ◌≤◌, ◌⊎◌}
 use Rattle.std.proofs.Common.{length-append}
 use Rattle.determinize_engine.proofs.Lists.{lists_at_end}
 use Rattle.determinize_engine.proofs.Texts.{units_listed}
 use Rattle.determinize_engine.specs.Lists.{ListsAtEnd}
 use Rattle.std.specs.Prelude.{nat_le}
-use Rattle.std.proofs.lemmas.Bool.Decides.{nat_tests}
-use Rattle.determinize_core.proofs.step.StepLaws.{dead_stays}
-use Rattle.determinize_engine.proofs.LastUnits.{step_over}
-use Rattle.determinize_engine.proofs.Later.{none_left}
 
 after_dead : (nfa : Nfa) (kind : MatchKind) (us : List (Option ℕ)) → value_after nfa kind dead us ≡ dead
 after_dead nfa kind [] = refl
@@ -55,11 +52,3 @@ lists-end old start text q list accepted is at =
     none ∙ sym (rw e at after))
     (λ (all, is). let e : nat_le n q.read ≡ true = grind (arith, nat_tests, all, count) in
     is ∙ sym (rw e at after)))
-
--- where the search of a text ends that is known to be another one
-pub end-text : {q : Place} (old : Cache) {s s' : ℕ} {t t' : Text} → s ≡ s' → t ≡ t'
-    → q ≡ ends_at false (first_place old (start_value old.nfa s t.behind)) (units t)
-    → q ≡ ends_at false (first_place old (start_value old.nfa s' t'.behind)) (units t')
-end-text {q} old {s' = s'} {t} s_is t_is is =
-    subst (λ (t : Text). q ≡ ends_at false (first_place old (start_value old.nfa s' t.behind)) (units t)) t_is
-    (subst (λ s. q ≡ ends_at false (first_place old (start_value old.nfa s t.behind)) (units t)) s_is is)

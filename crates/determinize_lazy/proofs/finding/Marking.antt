@@ -2,20 +2,17 @@
 -- Main statements: mark-next, marking-first, marking-next, marking-over, marking-end, marked-matches, some-matches.
 -- Used by: `mark`, `mark_text` and `which_patterns`.
 -- Idea: where a search for the next match state stops, what its value lists is marked, and the rest is still to come.
-use Rattle.determinize_lazy.proofs.Common.{Asked, Bool, by_cases, drop_all, false, get_or, HasCome, inl, inr, is_last}
-use Rattle.determinize_lazy.proofs.Common.{IsAccepted, length, List, MatchKind, next_place, Nfa, Option, Place}
-use Rattle.determinize_lazy.proofs.Common.{slice_get, slice_set, Some, start_for, start_value, subst, sym, take, Text}
-use Rattle.determinize_lazy.proofs.Common.{text_of, true, units, ℕ, ◌+◌, ◌<◌, ◌≡◌, ◌≤◌, ◌⊎◌}
-use Rattle.std.specs.Prelude.{Contains}
+use Rattle.determinize_lazy.proofs.Common.{All, Asked, Bool, by_cases, Contains, drop_all, false, get_or, HasCome, inl}
+use Rattle.determinize_lazy.proofs.Common.{inr, is_last, IsAccepted, IsListed, IsListedFrom, IsMarking, length, List}
+use Rattle.determinize_lazy.proofs.Common.{MatchKind, next_place, Nfa, none_left, Option, Place, slice_get, slice_set}
+use Rattle.determinize_lazy.proofs.Common.{Some, start_for, start_value, subst, sym, take, Text, text_of, true, units}
+use Rattle.determinize_lazy.proofs.Common.{ℕ, ◌+◌, ◌<◌, ◌≡◌, ◌≤◌, ◌⊎◌}
 use Rattle.std.proofs.lemmas.List.{take_more}
-use Rattle.determinize_below.specs.declared.search.MatchKind.TheVariants.{All}
-use Rattle.determinize_engine.proofs.Later.{none_left}
 use Rattle.determinize_lazy.proofs.finding.Marks.{mark-one, mark-past, marking-all, marking-none, marking-part}
 use Rattle.determinize_lazy.proofs.finding.Marks.{marking-same}
 use Rattle.determinize_lazy.proofs.finding.Reported.{listed-come, listed-matches, listed-over, matches-listed}
 use Rattle.determinize_lazy.proofs.walking.CachedWalks.{drop-one}
 use Rattle.determinize_lazy.specs.Marks.{AreMarked, AreSomeMarked, HasMatchOf}
-use Rattle.determinize_lazy.specs.Private.Listed.{IsListed, IsListedFrom, IsMarking}
 
 -- one more pattern of a list, which has a flag or none
 pub mark-next : {old now new : List Bool} (ps : List ℕ) (i x : ℕ) → AreMarked old (Contains (take i ps)) now
@@ -53,37 +50,35 @@ module _ {old now new : List Bool} {P : ℕ → Type 0} {us : List (Option ℕ)}
   marking-next {u} at r_is = rw r_is (marking-part come are (λ x. rw (drop-one us q.read u at) (λ c. c, λ c. c)))
 
 -- what is listed over the text of an input matches
-module _ (nfa : Nfa) (accepted : IsAccepted nfa) (asked : Asked) {start : ℕ} {text : Text}
-    (start_is : start ≡ start_for nfa asked.anchored) (text_is : text ≡ text_of nfa.reverse asked) where
-  matches : (kind : MatchKind) (x : ℕ) → IsListed nfa kind (start_value nfa start text.behind) (units text) x
-      → HasMatchOf nfa asked x
-  matches kind x listed = rw (start_is, text_is) at (listed-matches nfa accepted start text kind x listed)
+module _ (nfa : Nfa) (accepted : IsAccepted nfa) (asked : Asked) (kind : MatchKind) where
+  abbrev IsListedIn : ℕ → Type 0
+  IsListedIn = let text : Text = text_of nfa.reverse asked in
+      IsListed nfa kind (start_value nfa (start_for nfa asked.anchored) text.behind) (units text)
 
-  listed : {kind : MatchKind} → kind ≡ All → (x : ℕ) → HasMatchOf nfa asked x
-      → IsListed nfa kind (start_value nfa start text.behind) (units text) x
+  matches : (x : ℕ) → IsListedIn x → HasMatchOf nfa asked x
+  matches x listed =
+      listed-matches nfa accepted (start_for nfa asked.anchored) (text_of nfa.reverse asked) kind x listed
+
+  listed : kind ≡ All → (x : ℕ) → HasMatchOf nfa asked x → IsListedIn x
   listed all x m =
-      let read : Text = text_of nfa.reverse asked in
-      subst (λ k. IsListed nfa k (start_value nfa start text.behind) (units text) x) (sym all)
-      (subst (λ (t : Text). IsListed nfa All (start_value nfa start t.behind) (units t) x) (sym text_is)
-      (subst (λ s. IsListed nfa All (start_value nfa s read.behind) (units read) x) (sym start_is)
-      (matches-listed nfa accepted (start_for nfa asked.anchored) read x m)))
+      let text : Text = text_of nfa.reverse asked in let s : ℕ = start_for nfa asked.anchored in
+      subst (λ k. IsListed nfa k (start_value nfa s text.behind) (units text) x) (sym all)
+      (matches-listed nfa accepted s text x m)
 
-  pub marked-matches : {old new : List Bool} {kind : MatchKind} → kind ≡ All
-      → AreMarked old (IsListed nfa kind (start_value nfa start text.behind) (units text)) new
+  pub marked-matches : {old new : List Bool} → kind ≡ All → AreMarked old IsListedIn new
       → AreMarked old (HasMatchOf nfa asked) new
-  marked-matches {kind = kind} all are = record {
+  marked-matches all are = record {
     same = are.same;
     marks = λ p l. (
-      λ m. by_cases ((are.marks p l).0 m) (λ m. inl m) (λ r. inr (matches kind p r)),
+      λ m. by_cases ((are.marks p l).0 m) (λ m. inl m) (λ r. inr (matches p r)),
       λ m. (are.marks p l).1 (by_cases m (λ m. inl m) (λ r. inr (listed all p r))),
     );
   }
 
-  pub some-matches : {old new : List Bool} (kind : MatchKind)
-      → AreSomeMarked old (IsListed nfa kind (start_value nfa start text.behind) (units text)) new
+  pub some-matches : {old new : List Bool} → AreSomeMarked old IsListedIn new
       → AreSomeMarked old (HasMatchOf nfa asked) new
-  some-matches kind are = record {
+  some-matches are = record {
     same = are.same;
     kept = are.kept;
-    some = λ p l m. by_cases (are.some p l m) (λ m. inl m) (λ r. inr (matches kind p r));
+    some = λ p l m. by_cases (are.some p l m) (λ m. inl m) (λ r. inr (matches p r));
   }

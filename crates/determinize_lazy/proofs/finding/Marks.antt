@@ -2,14 +2,12 @@
 -- Main statements: mark-one, mark-past, marking-some, marking-same, marking-part, marking-all.
 -- Used by: Marking and `mark_text`.
 -- Idea: what is marked with what is to come is the same all along, so at the end all is marked.
-use Rattle.determinize_lazy.proofs.Common.{[], arith, Bool, by_cases, by_test, false, get_or, inl, inr, length, List}
-use Rattle.determinize_lazy.proofs.Common.{nat_eq, refl, slice_set, sym, true, ℕ, ◌++◌, ◌<◌, ◌∙◌, ◌∷◌, ◌≡◌, ◌≤◌, ◌⊎◌}
-use Rattle.std.specs.Prelude.{Contains, ◌↔◌}
-use Rattle.std.proofs.Common.{eqb-true, get_or-set_other, get_or-set_same}
+use Rattle.determinize_lazy.proofs.Common.{[], arith, Bool, by_cases, by_test, Contains, eqb-true, false, get_or}
+use Rattle.determinize_lazy.proofs.Common.{get_or-set_other, get_or-set_same, inl, inr, IsMarking, length, List, nat_eq}
+use Rattle.determinize_lazy.proofs.Common.{refl, slice_set, sym, true, ℕ, ◌++◌, ◌<◌, ◌↔◌, ◌∙◌, ◌∷◌, ◌≡◌, ◌≤◌, ◌⊎◌}
 use Rattle.std.proofs.lemmas.List.{length-set}
 use Rattle.std.proofs.lemmas.List.Elements.{Contains-append_left, Contains-push, Contains-push_cases}
 use Rattle.determinize_lazy.specs.Marks.{AreMarked, AreSomeMarked, IsMarked}
-use Rattle.determinize_lazy.specs.Private.Listed.{IsMarking}
 
 -- one more mark
 set_mark : (marks : List Bool) (x p : ℕ) → x < length marks

@@ -3,33 +3,20 @@
 -- Used by: Marking.
 -- Idea: a search for the earliest match passes only values that list nothing, and the value at index i + 1 lists what
 -- matches at position i.
-use Rattle.determinize_lazy.proofs.Common.{[], ap, arith, by_cases, by_test, dead, drop, ends_at, false, future, get_or}
-use Rattle.determinize_lazy.proofs.Common.{HalfMatch, HasCome, inl, inr, is_last, is_nonempty, IsAccepted, last_match}
-use Rattle.determinize_lazy.proofs.Common.{length, List, MatchKind, next_place, Nfa, None, Option, Place, refl}
-use Rattle.determinize_lazy.proofs.Common.{slice_get, slice_get-get_or, Some, start_value, suc, sym, Text, true}
-use Rattle.determinize_lazy.proofs.Common.{true≢false, units, Value, zero, ℕ, ◌<◌, ◌∷◌, ◌≡◌, ◌≤◌}
-use Rattle.std.specs.Option.{IfSome}
-use Rattle.std.specs.Prelude.{Contains, ◌↔◌}
-use Rattle.std.proofs.Common.{add-one}
+use Rattle.determinize_lazy.proofs.Common.{[], All, ap, arith, by_cases, by_test, Contains, dead, dead_stays, drop}
+use Rattle.determinize_lazy.proofs.Common.{ends_at, false, future, future_is, get_or, HalfMatch, HasCome, IfSome, inl}
+use Rattle.determinize_lazy.proofs.Common.{inr, is-search, is_last, is_nonempty, IsAccepted, IsListed, last_match}
+use Rattle.determinize_lazy.proofs.Common.{LeftmostFirst, length, List, MatchKind, next_place, Nfa, None, not_none}
+use Rattle.determinize_lazy.proofs.Common.{of_some, Option, Place, refl, slice_get, slice_get-get_or, Some, start_value}
+use Rattle.determinize_lazy.proofs.Common.{step, step_over, suc, sym, Text, true, true≢false, units, Value, zero, ℕ}
+use Rattle.determinize_lazy.proofs.Common.{◌<◌, ◌↔◌, ◌∙◌, ◌∷◌, ◌≡◌, ◌≤◌}
+use Rattle.std.proofs.lemmas.List.{drop-drop}
 use Rattle.std.proofs.lemmas.List.FromFn.{length-map-range_with_len}
 use Rattle.determinize_below.specs.Semantics.{Accepts, after_at}
-use Rattle.determinize_below.specs.declared.search.MatchKind.TheVariants.{All, LeftmostFirst}
 use Rattle.determinize_core.specs.Chain.{chain}
 use Rattle.determinize_core.specs.LastMatch.{IsFarthestMatch}
-use Rattle.determinize_core.specs.Step.{step}
-use Rattle.determinize_core.proofs.step.StepLaws.{dead_stays}
+use Rattle.determinize_core.proofs.walk.LastMatches.{length-tail}
 use Rattle.determinize_core.proofs.walk.WalkOfRuns.{leftmost_walk, walk_of_all}
-use Rattle.determinize_engine.proofs.LastUnits.{step_over}
-use Rattle.determinize_engine.proofs.Places.{not_none, of_some}
-use Rattle.determinize_engine.proofs.SearchMatches.{is-search}
-use Rattle.determinize_lazy.specs.Private.Listed.{IsListed}
-
--- the rest of a list after one of its elements
-rest-next : {K : Type 0} (xs : List K) (i : ℕ) (x : K) (rest : List K) → x ∷ rest ≡ drop i xs → rest ≡ drop (suc i) xs
-rest-next [] zero x rest e = absurd (omega (arith, ap length e))
-rest-next [] (suc i) x rest e = absurd (omega (arith, ap length e))
-rest-next (y ∷ ys) zero x rest e = ap (λ l. drop 1 l) e
-rest-next (y ∷ ys) (suc i) x rest e = rest-next ys i x rest e
 
 -- a value at which a search for the earliest match continues lists nothing
 lists_none : (v : Value) → is_last true v ≡ false → (x : ℕ) → Contains v.patterns x → ⊥
@@ -69,10 +56,6 @@ module _ (nfa : Nfa) (kind : MatchKind) where
   at-listed (u ∷ us) v x (inr later) =
       let (k, w, at, c) = at-listed us (step nfa kind v u) x later in (suc k, w, at, c)
 
-  length-future : (us : List (Option ℕ)) (v : Value) → length (future nfa kind v us) ≡ suc (length us)
-  length-future [] v = refl
-  length-future (u ∷ us) v = ap suc (length-future us (step nfa kind v u))
-
 -- a search for the earliest match passes only values that list nothing
 stop : (us rest : List (Option ℕ)) (p : Place) → rest ≡ drop p.read us → (x : ℕ)
     → IsListed p.cache.nfa p.cache.kind p.value rest x
@@ -81,7 +64,7 @@ stop us [] p is x = rw (← is) (λ c. c, λ c. c)
 stop us (u ∷ rest) p is x = by_test (is_last true p.value)
     (λ over. rw (over, ← is) (λ c. c, λ c. c))
     (λ more. rw more (
-    let later = stop us rest (next_place p u) (rw (add-one p.read) (rest-next us p.read u rest is)) x in (
+    let later = stop us rest (next_place p u) (ap (drop 1) is ∙ drop-drop 1 p.read us) x in (
       λ c. later.0 (by_cases c (λ c. absurd (lists_none p.value more x c)) (λ l. l)),
       λ c. inr (later.1 c),
     )))
@@ -134,7 +117,8 @@ module _ (nfa : Nfa) (accepted : IsAccepted nfa) (start : ℕ) (text : Text) whe
       let values : List Value = future nfa All first (units text) in
       let within : suc i < length values = omega (
         arith,
-        length-future nfa All (units text) first,
+        ap length (future_is nfa All first (units text)),
+        length-tail nfa All first (units text),
         accepts-within cs i x run,
         length-map-range_with_len (after_at text) 0 (suc (length text.bytes)),
       ) in

@@ -2,13 +2,10 @@
 -- Main statements: found-before_last.
 -- Used by: `Scan::last`.
 -- Idea: the units that were read are those of the text before the last byte, which is the unit ahead of it.
-use Rattle.determinize_lazy.proofs.Common.{[], ap, between, future, last_match}
-use Rattle.determinize_lazy.proofs.Common.{Some, start_value, sym}
-use Rattle.determinize_lazy.proofs.Common.{◌∙◌, ◌∷◌}
+use Rattle.determinize_lazy.proofs.Common.{[], ap, between, future, is-search, last_match, Scanned, Some, start_value}
+use Rattle.determinize_lazy.proofs.Common.{sym, ◌∙◌, ◌∷◌}
 use Rattle.std.proofs.lemmas.List.{map-append}
 use Rattle.determinize_core.proofs.walk.UnitLists.{chain_is_future}
-use Rattle.determinize_engine.specs.Scans.{Scanned}
-use Rattle.determinize_engine.proofs.SearchMatches.{is-search}
 use Rattle.determinize_lazy.specs.Scanning.{IsFoundBeforeLast}
 
 pub found-before_last : (s : Scanned) → IsFoundBeforeLast s

@@ -3,39 +3,38 @@
 -- Used by: the functions of `cached.rt`, `search.rt` and `scan.rt`.
 -- Idea: where a search ends depends only on the place where it is and on the units that are left; and the place where
 -- it ends has the last match and the cache of the walk over the units that it reads.
-use Rattle.determinize_lazy.proofs.Common.{[], after_walk, ap, arith, Asked, Bool, by_test, Cache, cache, cached_place}
-use Rattle.determinize_lazy.proofs.Common.{cursor_value, dead, Decides, drop, drop_all, ended_at, ends_at, false}
-use Rattle.determinize_lazy.proofs.Common.{first_place, future, GoesTo, Grows, HalfMatch, HasCome, HasMatch, inl, inr}
-use Rattle.determinize_lazy.proofs.Common.{is_last, is_last_tag, is_nonempty, is_some, IsAccepted, IsAt}
-use Rattle.determinize_lazy.proofs.Common.{IsCachedPosition, IsCutOffAt, IsFailedStep, IsNext, IsOver, IsOverText}
-use Rattle.determinize_lazy.proofs.Common.{IsSearch, IsSound, IsTarget, last_match, LazyValue, length, length-map}
-use Rattle.determinize_lazy.proofs.Common.{List, map, match_of, match_reported, next_place, None, Ok, on_err_weaker}
-use Rattle.determinize_lazy.proofs.Common.{Option, option_or, Place, place, refl, Result, slice_get}
-use Rattle.determinize_lazy.proofs.Common.{slice_get-get_or, slice_get_within, slice_index_or, Some, start_for}
-use Rattle.determinize_lazy.proofs.Common.{start_value, step_of, subst, sym, tag_in, tag_of, Text, text_of, true}
-use Rattle.determinize_lazy.proofs.Common.{true≢false, units, units_read, Value, value_after, ℕ, ◌+◌, ◌∙◌, ◌∷◌, ◌≡◌}
-use Rattle.determinize_lazy.proofs.Common.{◌≤◌, ◌⊎◌}
-use Rattle.determinize_core.specs.Step.{step}
-use Rattle.determinize_engine.proofs.Later.{last_from-first, last_from-next, last_from-over, none_left}
+use Rattle.determinize_lazy.proofs.Common.{[], after_walk, ap, arith, Asked, Bool, by_test, Cache, cache, Cached}
+use Rattle.determinize_lazy.proofs.Common.{cached_place, cursor_value, dead, Decides, drop, drop_all, ended_at, ends_at}
+use Rattle.determinize_lazy.proofs.Common.{EndsAt, false, first_place, future, GoesTo, Grows, HalfMatch, HasCome}
+use Rattle.determinize_lazy.proofs.Common.{HasMatch, IfOk-weaker, inl, inr, is-search, is_last, is_last_tag}
+use Rattle.determinize_lazy.proofs.Common.{is_nonempty, is_some, IsAccepted, IsAt, IsCachedPosition, IsCutOffAt}
+use Rattle.determinize_lazy.proofs.Common.{IsFailedStep, IsLeftBy, IsNext, IsOver, IsOverText, IsSearch, IsSound}
+use Rattle.determinize_lazy.proofs.Common.{IsTarget, last_match, LazyValue, length, length-map, List, map, match_of}
+use Rattle.determinize_lazy.proofs.Common.{match_reported, next_place, None, none_left, Ok, on_err_weaker, Option}
+use Rattle.determinize_lazy.proofs.Common.{option_or, Place, place, refl, Result, slice_get, slice_get-get_or}
+use Rattle.determinize_lazy.proofs.Common.{slice_get_within, slice_index_or, Some, start_for, start_value, step}
+use Rattle.determinize_lazy.proofs.Common.{step_of, subst, sym, tag_in, tag_of, Text, text_of, true, true≢false, units}
+use Rattle.determinize_lazy.proofs.Common.{units_read, Value, value_after, ℕ, ◌&&◌, ◌+◌, ◌∙◌, ◌∷◌, ◌≡◌, ◌≤◌, ◌⊎◌}
+use Rattle.determinize_engine.proofs.Later.{last_from-first, last_from-next, last_from-over}
 use Rattle.determinize_engine.specs.Private.Later.{last_from}
 use Rattle.determinize_lazy.specs.declared.search.Position.{Position}
-use Rattle.determinize_lazy.proofs.steps.Rule.{grows-more}
-use Rattle.determinize_lazy.proofs.walking.CachedWalks.{cut_off-first, cut_off-later, drop-one}
+use Rattle.determinize_lazy.proofs.steps.Rule.{grows-more, grows_none}
+use Rattle.determinize_lazy.proofs.walking.CachedWalks.{cut_off-first, cut_off-later, drop-one, left_whole}
 use Rattle.determinize_core.specs.Chain.{chain}
-use Rattle.determinize_engine.proofs.SearchMatches.{is-search}
 use Rattle.determinize_engine.proofs.Ranges.{match-decides}
-use Rattle.determinize_lazy.proofs.steps.FewStates.{known-step}
 use Rattle.determinize_lazy.specs.Private.Searched.{with_cursor}
 use Rattle.determinize_lazy.specs.declared.cached.CachedPosition.{CachedPosition}
-use Rattle.determinize_table.specs.declared.table.Cursor.TheVariants.{Cached}
 use Rattle.determinize_table.specs.declared.tag.LastMatch.{LastMatch}
-use Rattle.determinize_table.specs.Stored.{table_in}
 use Rattle.determinize_lazy.proofs.steps.Cursors.{cached_step, cached_target}
 
 -- what the tag of a value says: whether a search ends there
 pub tag-last : (earliest : Bool) (bits : ℕ) (v : Value) {test answer : Bool} → tag_in bits ≡ tag_of v
     → test ≡ is_last_tag earliest (tag_in bits) → test ≡ answer → is_last earliest v ≡ answer
 tag-last earliest bits v tag told is = grind (arith, tag, told, is)
+
+-- a search that does not end at a value ends there neither if it does not end at a match
+pub more-still : (e earliest : Bool) (v : Value) → is_last earliest v ≡ false → is_last (e && earliest) v ≡ false
+more-still e earliest v more = grind (arith, more)
 
 -- a value that is entered after n + 1 units reports what it lists
 reported-next : (n : ℕ) (patterns : List ℕ) → match_reported (n + 1) (slice_get patterns 0) ≡ ended_at n patterns
@@ -55,10 +54,14 @@ over-text {old = old} {s' = s'} {t = t} s_is is =
     over-same (ap (λ s. first_place old (start_value old.nfa s t.behind)) s_is
     ∙ ap (λ (t : Text). first_place old (start_value old.nfa s' t.behind)) is) is
 
+-- what is so of a start and a text is so of those that are equal to them
+pub at-text : (P : ℕ → Text → Type 0) {s s' : ℕ} {t t' : Text} → s ≡ s' → t ≡ t' → P s t → P s' t'
+at-text P {s' = s'} {t = t} s_is t_is h = subst (λ (t : Text). P s' t) t_is (subst (λ s. P s t) s_is h)
+
 -- a search that found something is the same for each type of error
 pub over-any : {D E : Type 0} {earliest : Bool} {us : List (Option ℕ)} {p : Place} {found : Option HalfMatch}
     {new : Cache} → IsOver {E = D} earliest us p (Ok found) new → IsOver {E = E} earliest us p (Ok found) new
-over-any o = record { last = o.last; after = o.after; failed = tt; grows = o.grows }
+over-any o = record { last = o.last; left = left_whole _ o.left.after o.left.grows }
 
 -- the cache and the value where a search ends are those after a walk over the units that it reads
 pub end-is : (earliest : Bool) (us : List (Option ℕ)) (p : Place)
@@ -80,6 +83,9 @@ module _ {earliest : Bool} {us : List (Option ℕ)} {p : Place} where
     grows = grows;
   }
 
+  pub come_none : {q : Place} → q ≡ p → HasCome earliest us p q
+  come_none is = rw is record { ends = refl; failed = λ new f. f; grows = grows_none }
+
   module _ {q : Place} (h : HasCome earliest us p q) where
     pub come_twice : {r : Place} → HasCome earliest us q r → HasCome earliest us p r
     come_twice k = record {
@@ -98,9 +104,12 @@ module _ {earliest : Bool} {us : List (Option ℕ)} {p : Place} where
         → IsOver earliest (drop q.read us) q r new → IsOver earliest (drop p.read us) p r new
     over-more {r = r} o = record {
       last = rw (← h.ends) o.last;
-      after = rw (← (end-is earliest (drop p.read us) p).0, ← h.ends, (end-is earliest (drop q.read us) q).0) o.after;
-      failed = on_err_weaker r (h.failed _) o.failed;
-      grows = grows-more h.grows o.grows;
+      left = record {
+        after = rw (← (end-is earliest (drop p.read us) p).0, ← h.ends, (end-is earliest (drop q.read us) q).0)
+            o.left.after;
+        failed = on_err_weaker r (h.failed _) o.left.failed;
+        grows = grows-more h.grows o.left.grows;
+      };
     }
 
     -- a search that has stopped
@@ -115,14 +124,21 @@ module _ {earliest : Bool} {us : List (Option ℕ)} {p : Place} where
           stays [] last = refl
           stays (u ∷ us) last = rw last refl
 
+      pub left-at : {T E : Type 0} (r : Result T E) → IsLeftBy earliest (drop p.read us) p r q.cache
+      left-at r = left_whole r (rw end-here at (end-is earliest (drop p.read us) p).0) h.grows
+
       pub over-at : {E : Type 0} {found : Option HalfMatch} → found ≡ q.last
           → IsOver {E = E} earliest (drop p.read us) p (Ok found) q.cache
-      over-at is = record {
-        last = rw end-here is;
-        after = rw end-here at (end-is earliest (drop p.read us) p).0;
-        failed = tt;
-        grows = h.grows;
-      }
+      over-at is = record { last = rw end-here is; left = left-at _ }
+
+-- what a search leaves that returns where it ends
+pub ends-left : {A E : Type 0} {earliest : Bool} {us : List (Option ℕ)} {p : Place} {r : Result (Position A) E}
+    {new : LazyValue} → EndsAt earliest us p r new → IsLeftBy earliest us p r (cache new)
+ends-left {earliest = earliest} {us} {p} {r} h = record {
+  after = IfOk-weaker r _ _ (λ at is. ap (λ (q : Place). q.cache) is ∙ (end-is earliest us p).0) h.place;
+  failed = h.failed;
+  grows = h.grows;
+}
 
 -- a search that takes a step over a byte, and one that continues twice
 module _ {A B : Type 0} {earliest : Bool} {text : Text} {p : Place} {c : LazyValue} {at : Position A}
@@ -136,8 +152,9 @@ module _ {A B : Type 0} {earliest : Bool} {text : Text} {p : Place} {c : LazyVal
         position = n.position;
         forward = omega (arith, g.forward, read_is);
         within = omega (arith, within, read_is);
-        come = λ us begins.
-            come_twice (g.come us begins) (come-next (begins at.read b byte) more n.place n.grows);
+        come = λ e us begins.
+            come_twice (g.come e us begins) (come-next (begins at.read b byte)
+            (more-still e earliest (cursor_value c.states at.cursor) more) n.place n.grows);
         grows = grows-more g.grows n.grows;
       }
 
@@ -146,7 +163,7 @@ module _ {A B : Type 0} {earliest : Bool} {text : Text} {p : Place} {c : LazyVal
     position = h.position;
     forward = omega (arith, g.forward, h.forward);
     within = h.within;
-    come = λ us begins. come_twice (g.come us begins) (h.come us begins);
+    come = λ e us begins. come_twice (g.come e us begins) (h.come e us begins);
     grows = grows-more g.grows h.grows;
   }
 
@@ -168,14 +185,14 @@ next-cached x is at position u id looked bits tagged earliest told more last fou
       record {
         position = record {
           cursor = w.cursor_is;
-          known = rw w.value (known-step x.nfa is.accepted x.kind v u position.known);
+          known = tt;
           unmatched = λ e. absurd (omega arith);
         };
         place =
             let last_is = found position.unmatched in
             let same = cached_step (cache x) v u id is.table (looked v there) in
             cc (tagged v there, w.value);
-        grows = record { nfa = refl; kind = refl; limit = refl; classes = refl; computed = omega arith };
+        grows = grows_none;
       },
     )
 

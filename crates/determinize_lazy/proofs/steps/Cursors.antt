@@ -1,24 +1,16 @@
 -- A step over a cached transition: what a lookup returns is the state that follows.
--- Main statements: at-found, cached_target, cached_step, stepped_at, followed-next.
+-- Main statements: cached_target, cached_step, stepped_at, followed-next.
 -- Used by: `step`, `compute`, `follow_bytes`, and searches of what is cached.
 -- Idea: each cached transition is a step of the DFA, and the step over it changes nothing.
-use Rattle.determinize_lazy.proofs.Common.{[], after_step, ap, arith, cache, Cache, cursor_value, dead, false, get_or}
-use Rattle.determinize_lazy.proofs.Common.{get_or_from_slice_get, is_cached, is_some, IsAt, IsCursor, IsFollowed}
-use Rattle.determinize_lazy.proofs.Common.{IsSound, IsStateOf, IsStepped, IsTable, IsTarget, LazyValue, List, Ok}
-use Rattle.determinize_lazy.proofs.Common.{Option, refl}
-use Rattle.determinize_lazy.proofs.Common.{slice_get, slice_get-get_or, slice_get_within, Some, step_of, true, Value, ℕ}
-use Rattle.determinize_lazy.proofs.Common.{◌++◌, ◌+◌, ◌∙◌, ◌∷◌, ◌≡◌}
+use Rattle.determinize_lazy.proofs.Common.{[], after_step, ap, arith, Cache, cache, Cached, Cursor, cursor_value, dead}
+use Rattle.determinize_lazy.proofs.Common.{false, get_or, get_or_from_slice_get, is_cached, is_some, IsAt, IsCursor}
+use Rattle.determinize_lazy.proofs.Common.{IsFollowed, IsSound, IsStepped, IsTable, IsTarget, LazyValue, List, Ok}
+use Rattle.determinize_lazy.proofs.Common.{Option, refl, slice_get, slice_get-get_or, slice_get_within, Some, step_of}
+use Rattle.determinize_lazy.proofs.Common.{true, Uncached, Value, ℕ, ◌++◌, ◌+◌, ◌∙◌, ◌∷◌, ◌≡◌}
 use Rattle.determinize_lazy.proofs.walking.CachedWalks.{drop-one, walks-on}
-use Rattle.determinize_lazy.proofs.steps.FewStates.{known-step}
-use Rattle.determinize_table.specs.declared.table.Cursor.{Cursor}
-use Rattle.determinize_table.specs.declared.table.Cursor.TheVariants.{Cached, Uncached}
+use Rattle.determinize_lazy.proofs.steps.Rule.{grows_none}
+use Rattle.determinize_lazy.specs.Private.Steps.{IsStarted}
 use Rattle.determinize_table.proofs.Transitions.{not_source}
-
--- the cursor of the id of a state
-pub at-found : {A : Type 0} (states : List Value) (id : ℕ) (v : Value) → slice_get states id ≡ Some v
-    → IsAt {A = A} states (Cached id) v
-at-found states id v at =
-    record { cursor_is = slice_get_within states id v at; value = get_or_from_slice_get states id v dead at }
 
 module _ (c : Cache) (v : Value) (u : Option ℕ) (id : ℕ) (is : IsTable (step_of c) c.table)
     (target : IsTarget c.table v u (Some id)) where
@@ -31,16 +23,25 @@ module _ (c : Cache) (v : Value) (u : Option ℕ) (id : ℕ) (is : IsTable (step
   pub cached_step : c ≡ after_step c v u
   cached_step = let there_is : is_cached c.table v u ≡ true = ap is_some there in rw there_is refl
 
+-- what a call for a start state leaves that finds it cached
+pub started_at : {A E : Type 0} {old new : LazyValue} {v : Value} {id : ℕ} → new ≡ old → IsSound (cache old)
+    → slice_get old.states id ≡ Some v → IsStarted {A = A} {E = E} old v (Ok (Cached id)) new
+started_at {old = old} {v = v} {id = id} is sound at = rw is record {
+  ready = record { cursor = slice_get_within old.states id v at; known = tt };
+  value = get_or_from_slice_get old.states id v dead at;
+  sound = sound;
+  unchanged = refl;
+}
+
 -- what a step over a cached transition leaves
 pub stepped_at : {A E : Type 0} (old : LazyValue) (v : Value) (u : Option ℕ) (id : ℕ) → IsSound (cache old)
-    → IsStateOf old.nfa v → IsTarget (cache old).table v u (Some id)
-    → IsStepped {A = A} {E = E} old v u (Ok (Cached id)) old
-stepped_at old v u id sound known target = record {
-  at = cached_target (cache old) v u id sound.table target;
-  known = known-step old.nfa sound.accepted old.kind v u known;
+    → IsTarget (cache old).table v u (Some id) → IsStepped {A = A} {E = E} old v u (Ok (Cached id)) old
+stepped_at {A} old v u id sound target = record {
+  ready = record { cursor = target.1; known = tt };
+  value = (cached_target (cache old) v u id sound.table target {A = A}).value;
   after = cached_step (cache old) v u id sound.table target;
   failed = tt;
-  grows = record { nfa = refl; kind = refl; limit = refl; classes = refl; computed = omega arith };
+  grows = grows_none;
 }
 
 -- the transition from a cursor is not cached, if none is from its cached state
@@ -65,7 +66,6 @@ followed-next {us} {c} {id = id} {read} {next} {u = u} {w} sound f here target a
     let w_is : get_or c.states next dead ≡ w = get_or_from_slice_get c.states next w dead at in record {
       inside = s.cursor_is;
       further = omega (arith, f.further);
-      known = λ from. rw s.value (known-step c.nfa sound.accepted c.kind v u (f.known from));
       walking = λ old first walk. rw w_is (walks-on (rw (drop-one us read u here) at f.walking old first walk)
-          (rw (← w_is) s.value) (cached_step (cache c) v u next sound.table goes));
+          (rw (← w_is) s.value) (cached_step (cache c) v u next sound.table goes) grows_none);
     }

@@ -2,17 +2,13 @@
 -- Main statements: empty_is_lazy.
 -- Used by: `with_spans`, and what clears a cache.
 -- Idea: the table of no states is that of each step function, and it keeps no start.
-use Rattle.determinize_lazy.proofs.Common.{ap, arith, length, Option, sym, ℕ, Table, ◌≤◌, ◌∙◌}
+use Rattle.determinize_lazy.proofs.Common.{ap, AreClassesOf, arith, Classes, IfSome, length, not_none, Option}
+use Rattle.determinize_lazy.proofs.Common.{slot_number, step, sym, Table, ℕ, ◌∙◌, ◌≤◌}
 use Rattle.std.proofs.lemmas.List.Elements.{All-nil}
-use Rattle.std.specs.Option.{IfSome}
-use Rattle.determinize_below.specs.ByteClasses.{AreClassesOf, Classes}
 use Rattle.determinize_below.specs.Nfa.{IsAccepted}
 use Rattle.determinize_below.specs.Semantics.{Nfa}
 use Rattle.determinize_below.specs.declared.search.MatchKind.{MatchKind}
-use Rattle.determinize_core.specs.Step.{step}
-use Rattle.determinize_engine.proofs.Places.{not_none}
 use Rattle.determinize_lazy.specs.Private.Invariant.{IsLazy}
-use Rattle.determinize_start.specs.StartSlots.{slot_number}
 use Rattle.determinize_table.proofs.Transitions.{empty-is}
 use Rattle.determinize_table.specs.Rows.{IsEmpty, StoredTable}
 

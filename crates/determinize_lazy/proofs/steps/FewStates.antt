@@ -2,21 +2,19 @@
 -- Main statements: known-start, known-step, few_bytes.
 -- Used by: what keeps the states of a cache small, and `cached_memory_usage`.
 -- Idea: a closure lists each state once, and a pattern comes from a match state.
-use Rattle.determinize_lazy.proofs.Common.{[], ap, arith, Bool, by_test, cond, get_or, IsAccepted, is_some}
-use Rattle.determinize_lazy.proofs.Common.{IsStateOf, length, List, MatchKind, nat_eq, Nfa, None, Option, refl, Some}
-use Rattle.determinize_lazy.proofs.Common.{start_value, suc, sym, take, take_all, true, Value, zero, ℕ, ◌+◌, ◌<◌}
-use Rattle.determinize_lazy.proofs.Common.{◌∙◌, ◌∷◌, ◌≡◌, ◌≤◌}
-use Rattle.std.proofs.Common.{add-one, eqb-true}
+use Rattle.determinize_lazy.proofs.Common.{[], add-one, All, ap, arith, Bool, by_test, cond, eqb-true, get_or, is_some}
+use Rattle.determinize_lazy.proofs.Common.{IsAccepted, IsStateOf, LeftmostFirst, length, List, MatchKind, most_bytes}
+use Rattle.determinize_lazy.proofs.Common.{nat_eq, Nfa, None, Option, refl, Some, start_value, suc, sym, take, take_all}
+use Rattle.determinize_lazy.proofs.Common.{true, Value, zero, ℕ, ◌+◌, ◌<◌, ◌∙◌, ◌∷◌, ◌≡◌, ◌≤◌}
 use Rattle.std.proofs.Math.Nat.{mul-le-mul_right}
 use Rattle.std.proofs.lemmas.List.Concat.{length-flat_map}
 use Rattle.std.proofs.lemmas.List.Elements.{All-contains, All-weaker}
 use Rattle.std.proofs.lemmas.List.Sums.{count_by-le-length, length-filter, sum_by-cons, sum_by-le, sum_by_more}
 use Rattle.std.specs.List.{count_by, flat_map, sum_by}
 use Rattle.std.specs.Option.{option_to_list}
-use Rattle.std.specs.Prelude.{◌*◌, All as Each}
+use Rattle.std.specs.Prelude.{All as Each, ◌*◌}
 use Rattle.determinize_below.proofs.nfas.SoundNfa.{ends_within_states, length-reach}
 use Rattle.determinize_below.specs.declared.look.Look.{Look as Assertion}
-use Rattle.determinize_below.specs.declared.search.MatchKind.TheVariants.{All, LeftmostFirst}
 use Rattle.determinize_below.specs.Edges.{edges, is_capture, is_match_node, pattern_count, pattern_of, patterns_of}
 use Rattle.determinize_below.specs.Edges.{reach}
 use Rattle.determinize_below.specs.Semantics.{Fail}
@@ -25,7 +23,6 @@ use Rattle.determinize_core.proofs.Common.{without}
 use Rattle.determinize_core.proofs.step.Resolving.{start_resolves, step_resolves, targets_resolve}
 use Rattle.determinize_core.specs.Step.{distinct_states, is_reopened, opened_by, patterns_read, step, targets}
 use Rattle.determinize_core.specs.Step.{working_list}
-use Rattle.determinize_lazy.specs.MostBytes.{most_bytes}
 use Rattle.determinize_engine.specs.StateBytes.{heap_bytes}
 use Rattle.determinize_start.specs.LookTables.{have_at_start}
 use Rattle.determinize_state.proofs.encoding.EncodedLength.{spell_short}

@@ -2,20 +2,18 @@
 -- Main statements: lazy-kept, stepped, lazy-sound.
 -- Used by: `compute`, `step`, `kept_start`; the general laws by searches and `determinize_find`, too.
 -- Idea: a step leaves the table that the rule keeps or, if it fails, the one before or none.
-use Rattle.determinize_lazy.proofs.Common.{[], arith, Bool, by_cases, by_test, Cache, cache, count_after, empty}
-use Rattle.determinize_lazy.proofs.Common.{Err, false, fits, Grows, inr, IsAccepted, is_cached, IsKept, IsLazy}
-use Rattle.determinize_lazy.proofs.Common.{IsSound, IsStateOf, IsStepped, IsTable, keep, LazyValue, length, List}
-use Rattle.determinize_lazy.proofs.Common.{list_any}
-use Rattle.determinize_lazy.proofs.Common.{MatchKind, Nfa, Ok, OnErr, on_err_weaker, on_ok_weaker, Option, refl}
-use Rattle.determinize_lazy.proofs.Common.{Result, same, step_of, StoredTable, Table, table_of, Value, with_value, ℕ}
-use Rattle.determinize_lazy.proofs.Common.{shared_by, shares, classes_from, sym, true, ◌∙◌, ◌≡◌, ◌≤◌}
-use Rattle.determinize_below.specs.ByteClasses.{Classes}
+use Rattle.determinize_lazy.proofs.Common.{[], arith, Bool, by_cases, by_test, Cache, cache, Cached, Classes}
+use Rattle.determinize_lazy.proofs.Common.{classes_from, count_after, Cursor, cursor_value, dead, empty, Err, false}
+use Rattle.determinize_lazy.proofs.Common.{fits, Grows, IfOk-weaker, inr, is_cached, IsAccepted, IsAt, IsCursor, IsKept}
+use Rattle.determinize_lazy.proofs.Common.{IsLazy, IsSound, IsStateOf, IsStepped, IsTable, keep, LazyValue, length}
+use Rattle.determinize_lazy.proofs.Common.{List, list_any, MatchKind, Nfa, Ok, on_err_weaker, on_ok_weaker, OnErr}
+use Rattle.determinize_lazy.proofs.Common.{Option, refl, Result, same, shared_by, shares, step, step_of, StoredTable}
+use Rattle.determinize_lazy.proofs.Common.{sym, Table, table_of, true, Uncached, Value, with_value, ℕ, ◌∙◌, ◌≡◌, ◌≤◌}
 use Rattle.determinize_lazy.proofs.steps.Sharing.{shared_steps, shares-self}
-use Rattle.std.proofs.lemmas.List.Elements.{All-nil, All-push}
+use Rattle.std.proofs.lemmas.List.Elements.{All-get_or, All-nil, All-push}
 use Rattle.std.specs.Prelude.{All as Each}
-use Rattle.determinize_core.specs.Step.{step}
 use Rattle.determinize_lazy.proofs.steps.FewStates.{known-step}
-use Rattle.determinize_table.specs.declared.table.Cursor.{Cursor}
+use Rattle.determinize_lazy.specs.Private.Steps.{IsKnown}
 use Rattle.determinize_table.proofs.Transitions.{empty-is, with_transition-is}
 use Rattle.determinize_lazy.proofs.steps.Starts.{starts-stay}
 
@@ -78,6 +76,11 @@ lazy-kept {A} {E} {nfa} {kind} {limit} {classes = classes} {t = t} {t' = t'} {w}
     by (Ok x) P kept new old none = rw kept.table new
     by (Err x) P kept new old none = by_cases kept.failed (λ e. rw e none) (λ e. rw e old)
 
+known-next : {A : Type 0} {nfa : Nfa} {states : List Value} {v : Value} (next : Cursor A) → IsAt states next v
+    → IsStateOf nfa v → IsKnown nfa next
+known-next (Cached id) at known = tt
+known-next (Uncached state) at known = rw at.value known
+
 -- what is left by a step that is not cached
 pub stepped : {A E : Type 0} (old : LazyValue) {t t' : StoredTable} {v : Value} (u : Option ℕ) {r : Result (Cursor A) E}
     → IsAccepted old.nfa → IsStateOf old.nfa v → old.computed ≤ 18446744073709551615
@@ -87,8 +90,11 @@ pub stepped : {A E : Type 0} (old : LazyValue) {t t' : StoredTable} {v : Value} 
     (step_of (cache old) v u) r t'
     → IsStepped old v u r (record old { states = t'.states; rows = t'.rows; computed = count_after old.computed 1 })
 stepped old {v = v} u {r} accepted known small absent table_is kept = record {
-  at = kept.at;
-  known = known-step old.nfa accepted old.kind v u known;
+  ready = IfOk-weaker r _ _ (λ next at. record {
+    cursor = at.cursor_is;
+    known = known-next next at (known-step old.nfa accepted old.kind v u known);
+  }) kept.at;
+  value = IfOk-weaker r _ _ (λ next at. at.value) kept.at;
   after = on_ok_weaker r (λ e. rw (absent, ← e) refl) kept.table;
   failed = on_err_weaker r (λ e. record { table = rw table_is at e; counted = inr (rw absent refl) }) kept.failed;
   grows = record { nfa = refl; kind = refl; limit = refl; classes = refl; computed = grind (arith, small) };
@@ -108,6 +114,17 @@ pub lazy-sound : {nfa : Nfa} {kind : MatchKind} {limit count : ℕ} {classes : O
     } ≡ x
     → IsSound (cache x)
 lazy-sound is view_is = rw (← view_is) is.sound
+
+-- and a step may be taken from the value of a cursor
+pub lazy-known : {A : Type 0} {nfa : Nfa} {kind : MatchKind} {limit count : ℕ} {classes : Option Classes}
+    {t : StoredTable} (at : Cursor A) → IsLazy nfa kind limit count classes t → IsCursor t.states at → IsKnown nfa at
+    → IsStateOf nfa (cursor_value t.states at)
+lazy-known {nfa = nfa} (Cached id) is inside known = All-get_or (IsStateOf nfa) _ id dead inside is.known
+lazy-known (Uncached state) is inside known = known
+
+-- a cache as it is, and one that changes twice
+pub grows_none : {c : Cache} → Grows c c
+grows_none = record { nfa = refl; kind = refl; limit = refl; classes = refl; computed = omega arith }
 
 pub grows-more : {old now new : Cache} → Grows old now → Grows now new → Grows old new
 grows-more g h = record {

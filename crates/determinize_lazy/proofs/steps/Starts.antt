@@ -2,18 +2,15 @@
 -- Main statements: start-kept, starts-set, starts-stay.
 -- Used by: `kept_start`, `find_start`, and Rule.
 -- Idea: a slot is that of one state and one kind, so it has one start state.
-use Rattle.determinize_lazy.proofs.Common.{ap, AreStarts, arith, by_cases, by_test, cond, get_or, List, nat_eq, Nfa}
-use Rattle.determinize_lazy.proofs.Common.{None, Option, option_map, refl, slice_get, slice_set, Some, start_slot}
+use Rattle.determinize_lazy.proofs.Common.{ap, AreStarts, arith, by_cases, by_test, cond, get_or, get_or-set_other}
+use Rattle.determinize_lazy.proofs.Common.{get_or-set_same, IfSome, List, nat_eq, Nfa, None, not_none, of_some, Option}
+use Rattle.determinize_lazy.proofs.Common.{option_map, refl, slice_get, slice_set, slot_number, Some, start_slot}
 use Rattle.determinize_lazy.proofs.Common.{start_value, StartsStay, StoredTable, sym, ℕ, ◌∙◌, ◌≡◌, ◌⊎◌}
-use Rattle.std.proofs.Common.{get_or-set_other, get_or-set_same}
 use Rattle.std.proofs.lemmas.List.{get_or_past, length-set}
-use Rattle.std.specs.Option.{IfSome}
 use Rattle.determinize_start.proofs.kinds.StartSlots.{one_slot}
 use Rattle.determinize_start.specs.LookTables.{from_word_at_start, half_crlf_at_start, have_at_start}
 use Rattle.determinize_start.specs.StartKinds.{start_kind_of}
-use Rattle.determinize_start.specs.StartSlots.{slot_number}
 use Rattle.determinize_start.specs.declared.start.StartSlot.{StartSlot}
-use Rattle.determinize_engine.proofs.Places.{not_none, of_some}
 
 kept_set : (starts : List (Option ℕ)) (i id j k : ℕ) → get_or (slice_set starts i (Some id)) j None ≡ Some k
     → ((j ≡ i) × (id ≡ k)) ⊎ (get_or starts j None ≡ Some k)

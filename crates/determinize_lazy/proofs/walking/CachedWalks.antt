@@ -1,20 +1,19 @@
 -- Walks through the cache: the steps done so far, followed by those that are left, are the whole walk.
--- Main statements: walks-on, walked-next, each_walk_computes_few.
--- Used by: `walk_from`, `next`, searches and Plenty.
+-- Main statements: walks-on, left_whole, left_err, walked-next, each_walk_computes_few.
+-- Used by: `walk_on`, `next`, searches and Plenty.
 -- Idea: what a walk leaves depends only on the cache and the value where it is, and on the units that are left.
-use Rattle.determinize_lazy.proofs.Common.{[], after_step, after_walk, ap, append_assoc, arith, Bool, Cache, cond}
-use Rattle.determinize_lazy.proofs.Common.{count_after, drop, future, future_is, get_or_from_slice_get, inl, inr}
-use Rattle.determinize_lazy.proofs.Common.{is_cached, IsCutOff, IsFailedStep, IsWalking, length, List, MatchKind, Nfa}
-use Rattle.determinize_lazy.proofs.Common.{Option, refl, slice_get, slice_get_within, Some, start_value, step_of, suc}
-use Rattle.determinize_lazy.proofs.Common.{sym, take, take_all, Text, units, Value, zero, ℕ, ◌++◌, ◌+◌, ◌∙◌, ◌∷◌, ◌≡◌}
-use Rattle.determinize_lazy.proofs.Common.{shared_by, ◌≤◌}
-use Rattle.std.proofs.Common.{add-one}
+use Rattle.determinize_lazy.proofs.Common.{[], add-one, after_step, after_walk, ap, append_assoc, arith, Bool, Cache}
+use Rattle.determinize_lazy.proofs.Common.{cond, count_after, drop, Err, future, future_is, get_or_from_slice_get}
+use Rattle.determinize_lazy.proofs.Common.{Grows, IfOk-from_err, inl, inr, is_cached, IsCacheAfter, IsCutOff, IsErr}
+use Rattle.determinize_lazy.proofs.Common.{IsFailedStep, IsWalking, length, List, MatchKind, Nfa, not_none, of_some, Ok}
+use Rattle.determinize_lazy.proofs.Common.{Option, refl, Result, shared_by, slice_get, slice_get_within, Some}
+use Rattle.determinize_lazy.proofs.Common.{start_value, step, step_of, suc, sym, take, take_all, Text, units, Value}
+use Rattle.determinize_lazy.proofs.Common.{zero, ℕ, ◌++◌, ◌+◌, ◌∙◌, ◌∷◌, ◌≡◌, ◌≤◌}
+use Rattle.determinize_lazy.proofs.steps.Rule.{grows-more, grows_none, of_err}
 use Rattle.std.proofs.lemmas.List.{drop_more}
 use Rattle.determinize_core.specs.Chain.{chain}
-use Rattle.determinize_core.specs.Step.{step}
 use Rattle.determinize_lazy.specs.Cache.{EachWalkComputesFew}
 use Rattle.determinize_lazy.specs.Walkers.{IsWalkedTo}
-use Rattle.determinize_engine.proofs.Places.{not_none, of_some}
 
 -- the steps stay, and which of them are shared
 pub same_steps : (us : List (Option ℕ)) (c : Cache) (v : Value) → step_of (after_walk c v us) ≡ step_of c
@@ -50,14 +49,29 @@ module _ {old : Cache} {v : Value} {us : List (Option ℕ)} {new : Cache} where
     counted = rw (add-one (suc f.steps)) (rw (add-one f.steps) at f.counted);
   }
 
+-- what a call leaves that reads all units, that fails, and that fails before its first step
+module _ {T E : Type 0} {old new : Cache} {v : Value} {us : List (Option ℕ)} where
+  pub left_whole : (r : Result T E) → new ≡ after_walk old v us → Grows old new → IsCacheAfter old v us r new
+  left_whole (Ok x) is grows = record { after = is; failed = tt; grows = grows }
+  left_whole (Err x) is grows = record { after = tt; failed = cut_off-whole is; grows = grows }
+
+  module _ {r : Result T E} (e : IsErr r) where
+    pub left_err : IsCutOff old v us new → Grows old new → IsCacheAfter old v us r new
+    left_err cut grows = record { after = IfOk-from_err r _ e; failed = of_err r cut; grows = grows }
+
+    pub left_none : new ≡ old → IsCacheAfter old v us r new
+    left_none is = left_err (cut_off-none is) (rw is grows_none)
+
 -- a walk takes a step
 pub walks-on : {old : Cache} {first : Value} {us : List (Option ℕ)} {done : List Value} {now : Cache} {v : Value}
     {u : Option ℕ} {rest : List (Option ℕ)} {w : Value} {new : Cache} → IsWalking old first us done now v (u ∷ rest)
-    → w ≡ step_of now v u → new ≡ after_step now v u → IsWalking old first us (done ++ w ∷ []) new w rest
-walks-on {done = done} {now} {v} {u} {rest} {w} walk w_is new_is = rw (w_is, new_is) record {
+    → w ≡ step_of now v u → new ≡ after_step now v u → Grows now new
+    → IsWalking old first us (done ++ w ∷ []) new w rest
+walks-on {done = done} {now} {v} {u} {rest} {w} walk w_is new_is grows = rw (w_is, new_is) record {
   values = let is = future_is now.nfa now.kind (step_of now v u) rest in rw (append_assoc, is) (rw is at walk.values);
   after = walk.after;
   failed = λ x f. walk.failed x (cut_off-later f);
+  grows = grows-more walk.grows (rw new_is at grows);
 }
 
 -- a walker that takes a step is at the next value

@@ -1,19 +1,22 @@
 -- If there is room for all states of a walk, each of its transitions is cached and computed once.
--- Main statements: keeps_all.
--- Used by: `walk_between`, and searches.
+-- Main statements: has_read, read_err, read_none, searched-in.
+-- Used by: the walks and the searches.
 -- Idea: each step adds its transition and leaves room for the others; then the same walk finds each transition.
-use Rattle.determinize_lazy.proofs.Common.{[], after_step, after_walk, arith, Bool, by_test, Cache, cond, count_after}
-use Rattle.determinize_lazy.proofs.Common.{fits, future, future_is, HasRoom, is_cached, IsSound, IsTable, KeepsAll}
-use Rattle.determinize_lazy.proofs.Common.{length, List, list_any, list_any-from_Contains, missing, Option, refl, same}
-use Rattle.determinize_lazy.proofs.Common.{step_of, Table, tail, true, Value, with_step, with_value, with_values}
-use Rattle.determinize_lazy.proofs.Common.{classes_from, IsAccepted, shared_by, sym, with_walk, ℕ, ◌+◌, ◌∙◌, ◌∷◌, ◌≡◌, ◌≤◌}
+use Rattle.determinize_lazy.proofs.Common.{[], after_step, after_walk, ap, AreClassesOf, arith, Asked, Bool, by_test}
+use Rattle.determinize_lazy.proofs.Common.{Cache, cache, classes_from, cond, count_after, false, fits, future}
+use Rattle.determinize_lazy.proofs.Common.{future_is, Grows, HasRead, HasRoom, HasSearched, HasSearchedIn}
+use Rattle.determinize_lazy.proofs.Common.{IfOk-from_err, IfSome, is_cached, is_done, IsAccepted, IsCacheAfter}
+use Rattle.determinize_lazy.proofs.Common.{IsCutOff, IsErr, IsSound, IsTable, KeepsAll, LazyValue, length, List}
+use Rattle.determinize_lazy.proofs.Common.{list_any, list_any-from_Contains, missing, on_ok_weaker, Option, refl}
+use Rattle.determinize_lazy.proofs.Common.{Result, same, shared_by, start_for, start_value, step_of, sym, Table, tail}
+use Rattle.determinize_lazy.proofs.Common.{Text, text_of, true, true≢false, units, Value, with_step, with_value}
+use Rattle.determinize_lazy.proofs.Common.{with_values, with_walk, ℕ, ◌+◌, ◌∙◌, ◌∷◌, ◌≡◌, ◌≤◌}
 use Rattle.determinize_table.proofs.Transitions.{not_source, with_target-new, with_transition-is}
 use Rattle.determinize_table.proofs.Values.{has_new, length_with}
 use Rattle.determinize_engine.proofs.Places.{same_laws}
-use Rattle.determinize_lazy.proofs.walking.CachedWalks.{same_sharing, same_steps}
+use Rattle.determinize_lazy.proofs.steps.Rule.{grows_none, of_err}
+use Rattle.determinize_lazy.proofs.walking.CachedWalks.{cut_off-none, same_sharing, same_steps}
 use Rattle.determinize_lazy.proofs.steps.Sharing.{shared_steps, shares-self}
-use Rattle.std.specs.Option.{IfSome}
-use Rattle.determinize_below.specs.ByteClasses.{AreClassesOf}
 
 module _ (f : Value → Option ℕ → Value) (shared : Value → Option ℕ → Option ℕ → Bool)
     (self : (v : Value) (u : Option ℕ) → shared v u u ≡ true) where
@@ -102,7 +105,7 @@ keeps (u ∷ us) c v accepted are is small room =
     count b n small = (grind arith, λ k. grind arith)
 
 -- with room for all of its states, a walk caches all its transitions
-pub keeps_all : {old new : Cache} {v : Value} {us : List (Option ℕ)} → IsSound old → new ≡ after_walk old v us
+keeps_all : {old new : Cache} {v : Value} {us : List (Option ℕ)} → IsSound old → new ≡ after_walk old v us
     → HasRoom old v us → KeepsAll old v us new
 keeps_all {old} {new} {v} {us} sound is room =
     let (table, once) = keeps us old v sound.accepted sound.classes sound.table sound.small room in
@@ -112,3 +115,30 @@ keeps_all {old} {new} {v} {us} sound is room =
       again = unchanged (after_walk old v us) us old.table v
           (λ x y h. rw table (rw (same_steps us old v, same_sharing us old v) at h));
     }
+
+-- what a call leaves that reads units
+module _ {T E : Type 0} {old new : LazyValue} {v : Value} {us : List (Option ℕ)} {r : Result T E} where
+  pub has_read : IsSound (cache old) → IsCacheAfter (cache old) v us r (cache new) → HasRead old v us r new
+  has_read sound left = record {
+    after = left.after;
+    plenty = on_ok_weaker r (λ is. keeps_all sound is) left.after;
+    failed = left.failed;
+    grows = left.grows;
+  }
+
+  -- that fails, also before its first step
+  module _ (e : IsErr r) where
+    pub read_err : IsCutOff (cache old) v us (cache new) → Grows (cache old) (cache new) → HasRead old v us r new
+    read_err cut grows =
+        record { after = IfOk-from_err r _ e; plenty = IfOk-from_err r _ e; failed = of_err r cut; grows = grows }
+
+    pub read_none : new ≡ old → HasRead old v us r new
+    read_none is = read_err (cut_off-none (ap cache is)) (rw is grows_none)
+
+-- and one that searches an input
+pub searched-in : {T E : Type 0} {earliest : Bool} {old new : LazyValue} {asked : Asked} {r : Result T E}
+    → is_done asked ≡ false → let text : Text = text_of old.nfa.reverse asked in
+    HasSearched earliest old (start_value old.nfa (start_for old.nfa asked.anchored) text.behind) (units text) r new
+    → HasSearchedIn earliest old asked r new
+searched-in more read =
+    record { unchanged = λ done. absurd (true≢false (sym done ∙ more)); read = λ _. read; grows = read.grows }

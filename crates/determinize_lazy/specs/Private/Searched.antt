@@ -1,6 +1,6 @@
 -- How far a search has come, and what it finds and leaves.
-use Rattle.std.specs.Prelude.{◌≡◌, ℕ, ◌+◌, ◌≤◌, ◌⊎◌, Bool, true, false, Option, Some, None, List, ◌∷◌, []}
-use Rattle.std.specs.Prelude.{cond, drop, length, map, slice_get, IfOk, Ok, OnErr, OnOk, Result}
+use Rattle.std.specs.Prelude.{◌≡◌, ℕ, ◌+◌, ◌≤◌, ◌⊎◌, ◌&&◌, Bool, true, false, Option, Some, None, List, ◌∷◌, []}
+use Rattle.std.specs.Prelude.{cond, drop, length, map, slice_get, IfOk, Ok, OnErr, Result}
 use Rattle.std.specs.Option.{option_or}
 use Rattle.determinize_below.specs.Semantics.{Text}
 use Rattle.determinize_below.specs.declared.search.HalfMatch.{HalfMatch}
@@ -8,9 +8,9 @@ use Rattle.determinize_core.specs.Chain.{future, units, value_after}
 use Rattle.determinize_core.specs.LastMatch.{last_match}
 use Rattle.determinize_core.specs.Step.{start_value}
 use Rattle.determinize_core.specs.Value.{Value}
-use Rattle.determinize_lazy.specs.Cache.{Cache, Grows, IsCutOff, LazyValue, after_step, after_walk}
+use Rattle.determinize_lazy.specs.Cache.{Cache, Grows, IsCutOff, LazyValue, after_step}
 use Rattle.determinize_lazy.specs.Cache.{cache, step_of}
-use Rattle.determinize_lazy.specs.Private.Steps.{IsStateOf}
+use Rattle.determinize_lazy.specs.Private.Steps.{IsCacheAfter, IsKnown}
 use Rattle.determinize_engine.specs.Scans.{Scanned}
 use Rattle.determinize_engine.specs.UnitsRead.{is_last, units_read}
 use Rattle.determinize_table.specs.Cursors.{IsCursor, cursor_value}
@@ -54,11 +54,10 @@ cached_place c at = place {A = Unit {0}} c (with_cursor at)
 abbrev pub first_place : Cache → Value → Place
 first_place c v = record { read = 0; value = v; last = None; cache = c }
 
--- a position has a cursor of the table, a step may be taken from its value, and before the first
--- unit there is no match
+-- a step may be taken from the cursor of a position, and before the first unit there is no match
 pub record IsPosition {A : Type 0} (c : LazyValue) (at : Position A) : Type 0 where
   pub cursor : IsCursor c.states at.cursor
-  pub known : IsStateOf c.nfa (cursor_value c.states at.cursor)
+  pub known : IsKnown c.nfa at.cursor
   pub unmatched : at.read ≡ 0 → match_of at.last ≡ None
 
 -- the same of a position at a cached state
@@ -100,15 +99,16 @@ pub record HasCome (earliest : Bool) (us : List (Option ℕ)) (p q : Place) : Ty
       → IsCutOffAt earliest p (drop p.read us) new
   pub grows : Grows p.cache q.cache
 
--- what a search over units from a place returns and leaves: the last match of what it reads, and
--- the cache
+-- what a search over units from a place leaves
+abbrev pub IsLeftBy : {T E : Type 0} → Bool → List (Option ℕ) → Place → Result T E → Cache → Type 0
+IsLeftBy earliest us p result new = IsCacheAfter p.cache p.value
+    (units_read (step_of p.cache) earliest p.value us) result new
+
+-- what it returns and leaves: the last match of what it reads, and the cache
 pub record IsOver {E : Type 0} (earliest : Bool) (us : List (Option ℕ)) (p : Place)
     (result : Result (Option HalfMatch) E) (new : Cache) : Type 0 where
   pub last : IfOk result (λ found. found ≡ (ends_at earliest p us).last)
-  pub after : OnOk result (new
-      ≡ after_walk p.cache p.value (units_read (step_of p.cache) earliest p.value us))
-  pub failed : OnErr result (IsCutOffAt earliest p us new)
-  pub grows : Grows p.cache new
+  pub left : IsLeftBy earliest us p result new
 
 -- the same, if it returns the position at which it ends
 pub record EndsAt {A E : Type 0} (earliest : Bool) (us : List (Option ℕ)) (p : Place)
@@ -144,19 +144,21 @@ abbrev pub Begins : Text → List (Option ℕ) → Type 0
 Begins text us = (i b : ℕ) → slice_get (map Some text.bytes) i ≡ Some (Some b)
     → slice_get us i ≡ Some (Some b)
 
--- each search at the place whose units begin with them fails there and leaves this
+-- each search at the place whose units begin with them fails there and leaves this, also one that
+-- does not end at a match
 abbrev pub Fails : Bool → Text → Place → Cache → Type 0
-Fails earliest text p new =
-    (us : List (Option ℕ)) → Begins text us → IsCutOffAt earliest p (drop p.read us) new
+Fails earliest text p new = (e : Bool) (us : List (Option ℕ)) → Begins text us
+    → IsCutOffAt (e && earliest) p (drop p.read us) new
 
 -- each search at the place whose units begin with the bytes of the text comes to this position,
--- which is not before the place, and within the text
+-- which is not before the place, and within the text, also one that does not end at a match
 pub record GoesTo {A : Type 0} (earliest : Bool) (text : Text) (p : Place) (c : LazyValue)
     (at : Position A) : Type 0 where
   pub position : IsPosition c at
   pub forward : p.read ≤ at.read
   pub within : at.read ≤ length text.bytes
-  pub come : (us : List (Option ℕ)) → Begins text us → HasCome earliest us p (place c at)
+  pub come : (e : Bool) (us : List (Option ℕ)) → Begins text us
+      → HasCome (e && earliest) us p (place c at)
   pub grows : Grows p.cache (cache c)
 
 -- the same at a cached state
@@ -168,12 +170,9 @@ abbrev pub HasStopped : Bool → ℕ → Place → Type 0
 HasStopped earliest n p = (n ≤ p.read) ⊎ (is_last earliest p.value ≡ true)
 
 -- the search of a piece from a value: the value after what a search reads of it, its last match,
--- its length, and the cache
-pub record IsPieceRead (old : Cache) (first : Value) (piece : List ℕ) (s : Scanned) (new : Cache)
-    : Type 0 where
+-- and its length
+pub record IsPieceRead (old : Cache) (first : Value) (piece : List ℕ) (s : Scanned) : Type 0 where
   pub state : s.state ≡ value_after old.nfa old.kind first
       (units_read (step_of old) false first (map Some piece))
   pub last : s.last ≡ last_match (future old.nfa old.kind first (map Some piece))
   pub read : s.read ≡ length piece
-  pub after : new
-      ≡ after_walk old first (units_read (step_of old) false first (map Some piece))

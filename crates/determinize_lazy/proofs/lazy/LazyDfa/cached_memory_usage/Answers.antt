@@ -1,11 +1,9 @@
-use Rattle.determinize_lazy.proofs.Common.{arith, LazyValue, subst, ◌≤◌}
+use Rattle.determinize_lazy.proofs.Common.{arith}
 use Rattle.determinize_lazy.proofs.steps.FewStates.{few_bytes}
-use Rattle.determinize_lazy.specs.MostBytes.{most_bytes}
-use Rattle.determinize_table.specs.CacheBytes.{cache_bytes}
 use Rattle.determinize_lazy.proofs.lazy.LazyDfa.cached_memory_usage.Goals as goal
 
 pub returns-clause-most : goal.returns-clause-most
 returns-clause-most g c =
-    let few = subst (λ (x : LazyValue). cache_bytes c.self.inside.table.states ≤ most_bytes x.limit x.nfa)
-    c.self.view_is (few_bytes c.self.inside.limit (g.R.AsNfa.nfa c.self.inside.nfa) c.self.inside.table.states
-    c.self.invariant.within c.self.invariant.known) in omega (arith, few, c.memory_usage.ensures.value)
+    let few = few_bytes c.self.inside.limit (g.R.AsNfa.nfa c.self.inside.nfa) c.self.inside.table.states
+    c.self.invariant.within c.self.invariant.known in
+    rw (← c.self.view_is) (omega (arith, few, c.memory_usage.ensures.value))

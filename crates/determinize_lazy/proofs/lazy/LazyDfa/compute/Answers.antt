@@ -1,10 +1,8 @@
 use Rattle.determinize_lazy.proofs.Common.{arith, cache, classes_from, count_after, cursor_value, Err, inl, inr, refl}
-use Rattle.determinize_lazy.proofs.Common.{rules, ◌≡◌}
+use Rattle.determinize_lazy.proofs.Common.{rules, step, ◌≡◌}
 use Rattle.std.specs.Option.{option_copied}
-use Rattle.determinize_core.specs.Step.{step}
-use Rattle.determinize_lazy.proofs.steps.FewStates.{known-step}
 use Rattle.determinize_lazy.proofs.steps.Cursors.{absent-at}
-use Rattle.determinize_lazy.proofs.steps.Rule.{lazy-kept, lazy-sound, stepped}
+use Rattle.determinize_lazy.proofs.steps.Rule.{grows_none, lazy-kept, lazy-known, lazy-sound, stepped}
 use Rattle.determinize_lazy.proofs.lazy.LazyDfa.compute.Goals as goal
 
 pub invariant_of-self-2 : goal.invariant_of-self-2
@@ -14,18 +12,19 @@ invariant_of-self-2 g c =
     let shared : option_copied c.classes_from-spans.result ≡ classes_from (g.R.AsNfa.nfa c.self.inside.nfa)
     (cursor_value c.self.inside.table.states c.args.cursor) c.self.inside.spans = search rules in
     lazy-kept _ c.args.unit c.self.invariant following
-    (rw (← c.self.view_is) at c.requires.known) (search rules)
+    (lazy-known c.args.cursor c.self.invariant (rw (← c.self.view_is) at c.requires.ready.cursor)
+    (rw (← c.self.view_is) at c.requires.ready.known)) (search rules)
     (rw shared at c.keep.ensures)
 
 pub returns-in_err-following : goal.returns-in_err-following
 returns-in_err-following g c =
     let e : c.from_residual.result ≡ Err c.in_err-following.field-0.0 = search rules in
     rw (e, ← c.self.view_is) record {
-      at = tt;
-      known = known-step _ c.self.invariant.sound.accepted _ _ c.args.unit (rw (← c.self.view_is) at c.requires.known);
+      ready = tt;
+      value = tt;
       after = tt;
       failed = record { table = inr refl; counted = inl refl };
-      grows = record { nfa = refl; kind = refl; limit = refl; classes = refl; computed = omega arith };
+      grows = grows_none;
     }
 
 pub returns : goal.returns
@@ -36,8 +35,9 @@ returns g c =
     (cursor_value c.self.inside.table.states c.args.cursor) c.self.inside.spans = search rules in
     let counted : c.saturating_add-self-inside.result ≡ count_after c.self.inside.computed 1 = search rules in
     let absent = rw (← c.self.view_is) at (absent-at (cache c.args.self.now) c.args.cursor c.args.unit
-    (lazy-sound c.self.invariant c.self.view_is).table c.requires.cursor c.requires.uncached) in
+    (lazy-sound c.self.invariant c.self.view_is).table c.requires.ready.cursor c.requires.uncached) in
+    let known = lazy-known c.args.cursor c.self.invariant (rw (← c.self.view_is) at c.requires.ready.cursor)
+    (rw (← c.self.view_is) at c.requires.ready.known) in
     rw (← c.self.view_is, counted)
-    (stepped _ c.args.unit c.self.invariant.sound.accepted (rw (← c.self.view_is) at c.requires.known)
-    c.self.invariant.sound.small absent refl
+    (stepped _ c.args.unit c.self.invariant.sound.accepted known c.self.invariant.sound.small absent refl
     (rw (following, shared) at c.keep.ensures))

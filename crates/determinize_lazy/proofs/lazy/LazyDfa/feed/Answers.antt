@@ -1,22 +1,22 @@
-use Rattle.determinize_lazy.proofs.Common.{ap, arith, cache, length, length-map, map, option_map, option_or, rules}
-use Rattle.determinize_lazy.proofs.Common.{Some, ◌+◌, ◌∙◌, ◌≡◌, ◌≤◌}
+use Rattle.determinize_lazy.proofs.Common.{ap, arith, cache, cursor_value, last_match-within, later-within, later_by}
+use Rattle.determinize_lazy.proofs.Common.{length, length-map, map, option_map, option_or, refl, rules, Scanned, Some}
+use Rattle.determinize_lazy.proofs.Common.{◌+◌, ◌∙◌, ◌≡◌, ◌≤◌}
 use Rattle.determinize_lazy.specs.Private.Searched.{IsPieceRead}
-use Rattle.determinize_engine.specs.Private.Later.{later_by}
-use Rattle.determinize_engine.specs.Scans.{Scanned}
-use Rattle.determinize_engine.proofs.LastUnits.{last_match-within}
-use Rattle.determinize_engine.proofs.Later.{later-within}
 use Rattle.determinize_engine.proofs.Scanning.{scan-piece}
+use Rattle.determinize_lazy.proofs.walking.CachedWalks.{left_whole}
+use Rattle.determinize_lazy.proofs.walking.Plenty.{has_read, read_err, read_none}
 use Rattle.determinize_lazy.proofs.lazy.LazyDfa.feed.Given.{Over}
 use Rattle.determinize_lazy.proofs.lazy.LazyDfa.feed.Goals.{After-rest}
 use Rattle.determinize_lazy.proofs.lazy.LazyDfa.feed.Goals as goal
 
 -- the piece is read from the state of the scan
+state : (g : Over) (c : After-rest g)
+    → cursor_value c.args.self.now.states c.in_ok-start.start ≡ c.args.scan.now.state
+state g c = c.in_ok-start.ensures.value ∙ ap (λ (s : Scanned). s.state) c.scan.view_is
+
 read : (g : Over) (c : After-rest g) → IsPieceRead (cache c.args.self.now) c.args.scan.now.state c.args.piece.now
     (record { state = c.rest.inside.state; last = c.rest.inside.last; read = c.rest.inside.read })
-    (cache c.read_piece.new.self)
-read g c =
-    let state_is = c.in_ok-start.ensures.at.value ∙ ap (λ (s : Scanned). s.state) c.scan.view_is in
-    rw c.rest.view_is (rw state_is at c.in_ok-rest.ensures.read)
+read g c = rw c.rest.view_is (rw (state g c) at c.in_ok-rest.ensures.read)
 
 pub or_later-scan-inside-requires : goal.or_later-scan-inside-requires
 or_later-scan-inside-requires g c =
@@ -35,8 +35,19 @@ returns-clause-fed g c start behind bytes is =
     ∙ ap (λ (s : Scanned). option_or (option_map (later_by s.read) c.rest.inside.last) s.last) c.scan.view_is)
     (sum ∙ ap (λ (s : Scanned). s.read + length c.args.piece.now) c.scan.view_is)
 
-pub read_piece-requires-clause-known : goal.read_piece-requires-clause-known
-read_piece-requires-clause-known g c = rw c.in_ok-start.ensures.at.value c.in_ok-start.ensures.known
-
 pub returns-clause-resolve : goal.returns-clause-resolve
 returns-clause-resolve g c = λ _. rw (← c.rest.view_is) at c.in_ok-rest.ensures.resolve
+
+pub returns-in_err-start-clause-cache : goal.returns-in_err-start-clause-cache
+returns-in_err-start-clause-cache g c = read_none c.from_residual.ensures.0 refl
+
+pub returns-in_err-rest-clause-cache : goal.returns-in_err-rest-clause-cache
+returns-in_err-rest-clause-cache g c =
+    let left = rw (c.in_ok-start.ensures.value ∙ ap (λ (s : Scanned). s.state) c.scan.view_is)
+    at c.in_err-rest.ensures.left in
+    read_err c.from_residual-in_err-rest.ensures.0 left.failed left.grows
+
+pub returns-clause-cache : goal.returns-clause-cache
+returns-clause-cache g c =
+    let left = rw (state g (goal.at.returns-clause-cache g c).After-rest) at c.in_ok-rest.ensures.left in
+    has_read c.cursor_of.ensures.sound (left_whole _ left.after left.grows)

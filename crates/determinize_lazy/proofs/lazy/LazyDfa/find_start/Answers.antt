@@ -1,6 +1,5 @@
-use Rattle.determinize_lazy.proofs.Common.{IsAt, LazyValue, rules, start_value, subst, sym, ◌∙◌}
-use Rattle.determinize_table.specs.declared.table.Cursor.TheVariants.{Cached}
-use Rattle.determinize_lazy.proofs.steps.Cursors.{at-found}
+use Rattle.determinize_lazy.proofs.Common.{LazyValue, rules, slice_get, Some, start_value, subst, sym, ◌∙◌, ◌≡◌}
+use Rattle.determinize_lazy.proofs.steps.Cursors.{started_at}
 use Rattle.determinize_lazy.proofs.steps.Starts.{starts-set}
 use Rattle.determinize_lazy.proofs.lazy.LazyDfa.find_start.Goals as goal
 
@@ -19,11 +18,6 @@ invariant_of-self g c =
 pub returns : goal.returns
 returns g c =
     let state_is = rw (← c.in_ok-state.ensures.unchanged, ← c.self.view_is) at c.in_ok-state.ensures.value in
-    record {
-      at = subst (λ (x : LazyValue). IsAt x.states (Cached c.in-Some.id)
-          (start_value x.nfa c.args.start c.args.look_behind)) (c.self.view_is ∙ c.in_ok-state.ensures.unchanged)
-          (at-found c.self.inside.table.states _ _ (rw state_is at c.in-Some.ensures));
-      known = search rules;
-      sound = search rules;
-      unchanged = search rules;
-    }
+    started_at (search rules) (search rules) (subst (λ (x : LazyValue). slice_get x.states c.in-Some.id
+    ≡ Some (start_value x.nfa c.args.start c.args.look_behind)) (c.self.view_is ∙ c.in_ok-state.ensures.unchanged)
+    (rw state_is at c.in-Some.ensures))

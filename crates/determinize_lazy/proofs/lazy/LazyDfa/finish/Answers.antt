@@ -1,27 +1,19 @@
-use Rattle.determinize_lazy.proofs.Common.{[], ap, arith, between, cache, false, first_place, future, IfOk, IsOver}
-use Rattle.determinize_lazy.proofs.Common.{last_match, option_map, option_or, rules, ◌∙◌, ◌∷◌, ◌≡◌, ◌≤◌}
+use Rattle.determinize_lazy.proofs.Common.{[], ap, arith, between, cache, false, first_place, future, IfOk, is-search}
+use Rattle.determinize_lazy.proofs.Common.{IsOver, last_match, last_match-within, later-within, later_by, option_map}
+use Rattle.determinize_lazy.proofs.Common.{option_or, refl, rules, Scanned, ◌∙◌, ◌∷◌, ◌≡◌, ◌≤◌}
 use Rattle.determinize_lazy.proofs.finding.Searching.{last-found, over-same}
-use Rattle.determinize_lazy.proofs.steps.Rule.{of_err}
+use Rattle.determinize_lazy.proofs.walking.CachedWalks.{left_whole}
+use Rattle.determinize_lazy.proofs.walking.Plenty.{has_read, read_err, read_none}
 use Rattle.determinize_core.specs.Chain.{chain}
-use Rattle.determinize_engine.specs.Private.Later.{later_by}
-use Rattle.determinize_engine.specs.Scans.{Scanned}
-use Rattle.determinize_engine.proofs.SearchMatches.{is-search}
-use Rattle.determinize_engine.proofs.LastUnits.{last_match-within}
-use Rattle.determinize_engine.proofs.Later.{later-within}
 use Rattle.determinize_engine.proofs.Scanning.{last-whole}
 use Rattle.determinize_lazy.proofs.lazy.LazyDfa.finish.Given.{Over}
 use Rattle.determinize_lazy.proofs.lazy.LazyDfa.finish.Goals.{After-search_from}
 use Rattle.determinize_lazy.proofs.lazy.LazyDfa.finish.Goals as goal
 
-pub search_from-requires-clause-position : goal.search_from-requires-clause-position
-search_from-requires-clause-position g c =
-    c.start.ensures.position c.args.self.now c.in_ok-start.ensures.at.cursor_is
-    (rw c.in_ok-start.ensures.at.value c.in_ok-start.ensures.known)
-
 -- the search of the unit ahead, from the state of the scan
 over : (g : Over) (c : After-search_from g) → IsOver false (c.args.look_ahead ∷ [])
     (first_place (cache c.args.self.now) c.args.scan.now.state) c.search_from.result (cache c.search_from.new.self)
-over g c = over-same (c.start.ensures.place c.args.self.now _ (c.in_ok-start.ensures.at.value
+over g c = over-same (c.start.ensures.place c.args.self.now _ (c.in_ok-start.ensures.value
     ∙ ap (λ (s : Scanned). s.state) c.scan.view_is)) c.new-text.ensures c.search_from.ensures
 
 last : (g : Over) (c : After-search_from g) → IfOk c.search_from.result (λ found. found
@@ -43,10 +35,19 @@ returns-clause-search g c start behind bytes is =
     c.cursor_of.ensures.sound.accepted (last-whole is c.args.look_ahead last_is (c.or_later.ensures
     ∙ ap (λ (s : Scanned). option_or (option_map (later_by s.read) c.in_ok-found.found) s.last) c.scan.view_is))
 
-pub returns-clause-after : goal.returns-clause-after
-returns-clause-after g c = rw c.in_ok-found.was at (over g (goal.at.returns-clause-after g c).After-search_from).after
+pub returns-in_err-start-clause-cache : goal.returns-in_err-start-clause-cache
+returns-in_err-start-clause-cache g c = read_none c.from_residual.ensures.0 refl
 
-pub returns-in_err-found-clause-failed : goal.returns-in_err-found-clause-failed
-returns-in_err-found-clause-failed g c =
-    let failed = (over g (goal.at.returns-in_err-found-clause-failed g c).After-search_from).failed in
-    of_err _ (rw c.in_err-found.was at failed)
+pub returns-in_err-found-clause-cache : goal.returns-in_err-found-clause-cache
+returns-in_err-found-clause-cache g c =
+    let d = (goal.at.returns-in_err-found-clause-cache g c).After-search_from in
+    let left = rw c.in_err-found.was at (over g d).left in
+    read_err c.from_residual-in_err-found.ensures.0 left.failed left.grows
+
+pub returns-clause-cache : goal.returns-clause-cache
+returns-clause-cache g c =
+    let left = rw c.in_ok-found.was at (over g (goal.at.returns-clause-cache g c).After-search_from).left in
+    has_read c.cursor_of.ensures.sound (left_whole _ left.after left.grows)
+
+pub search_from-requires-clause-position : goal.search_from-requires-clause-position
+search_from-requires-clause-position g c = c.start.ensures.position _ c.in_ok-start.ensures.ready

@@ -1,5 +1,4 @@
-use Rattle.determinize_lazy.proofs.Common.{dead, rules, slice_get-get_or, ◌≡◌}
-use Rattle.determinize_engine.proofs.Texts.{unit-here}
+use Rattle.determinize_lazy.proofs.Common.{dead, rules, slice_get-get_or, unit-here, ◌≡◌}
 use Rattle.determinize_lazy.proofs.steps.Cursors.{followed-next}
 use Rattle.determinize_lazy.proofs.steps.Rule.{lazy-sound}
 use Rattle.determinize_lazy.proofs.lazy.LazyDfa.follow_bytes.Goals as goal

@@ -1,13 +1,20 @@
-use Rattle.determinize_lazy.proofs.Common.{cache, rules}
+use Rattle.determinize_lazy.proofs.Common.{cache, rules, sym, true≢false, ◌∙◌}
 use Rattle.determinize_lazy.proofs.finding.Searching.{decides}
-use Rattle.determinize_lazy.specs.CachedSearches.{after_first_match, after_is_match}
+use Rattle.determinize_lazy.proofs.walking.CachedWalks.{left_whole}
+use Rattle.determinize_lazy.proofs.walking.Plenty.{has_read, read_err, searched-in}
 use Rattle.determinize_lazy.proofs.lazy.LazyDfa.is_match.Goals as goal
 
-pub returns-clause-after : goal.returns-clause-after
-unfolding after_is_match after_first_match
-returns-clause-after g c = search rules
+pub returns-in_err-search_range-clause-cache : goal.returns-in_err-search_range-clause-cache
+returns-in_err-search_range-clause-cache g c = searched-in (sym c.is_done.ensures ∙ c.if-is_done.false)
+    (read_err c.from_residual.ensures.0 c.in_err-search_range.ensures.over.left.failed
+    c.in_err-search_range.ensures.over.left.grows)
 
-pub returns-clause-accepts : goal.returns-clause-accepts
-returns-clause-accepts g c = λ more. rw c.is_some.ensures
-    (decides (cache c.args.self.now) c.args.input.now c.search_range.ensures.sound.accepted
-    c.in_ok-search_range.ensures.over.last)
+pub returns : goal.returns
+returns g c =
+    let more = sym c.is_done.ensures ∙ c.if-is_done.false in
+    let over = c.in_ok-search_range.ensures.over in record {
+      accepts = λ _. rw c.is_some.ensures
+          (decides (cache c.args.self.now) c.args.input.now c.search_range.ensures.sound.accepted over.last);
+      done = λ e. absurd (true≢false (sym e ∙ more));
+      cache = searched-in more (has_read c.search_range.ensures.sound (left_whole _ over.left.after over.left.grows));
+    }

@@ -1,6 +1,6 @@
 use Rattle.determinize_lazy.proofs.Common.{ap, arith, cursor_value, get_or, inl, inr, length, Value, ◌∙◌, ◌≡◌}
 use Rattle.determinize_lazy.proofs.finding.Marking.{mark-next}
-use Rattle.determinize_lazy.proofs.lazy.LazyDfa.mark.Goals.{then-id-found, else-id-found}
+use Rattle.determinize_lazy.proofs.lazy.LazyDfa.mark.Goals.{else-id-found, then-id-found}
 use Rattle.determinize_lazy.proofs.lazy.LazyDfa.mark.Goals as goal
 
 pub loop-index-preserved : goal.loop-index-preserved

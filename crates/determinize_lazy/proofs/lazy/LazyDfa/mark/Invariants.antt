@@ -1,5 +1,4 @@
-use Rattle.determinize_lazy.proofs.Common.{cursor_value, take}
-use Rattle.std.specs.Prelude.{Contains}
+use Rattle.determinize_lazy.proofs.Common.{Contains, cursor_value, take}
 use Rattle.determinize_lazy.specs.Marks.{AreMarked}
 use Rattle.determinize_lazy.proofs.lazy.LazyDfa.mark.Given as goal
 

@@ -1,55 +1,87 @@
-use Rattle.determinize_lazy.proofs.Common.{ap, arith, cursor_value, false, Place, place, refl, start_value, units, ◌∙◌}
-use Rattle.determinize_lazy.proofs.Common.{◌≡◌}
+use Rattle.determinize_lazy.proofs.Common.{all_read, ap, arith, cache, cursor_value, false, first_place, HasCome, inl}
+use Rattle.determinize_lazy.proofs.Common.{inr, is_last, Place, place, refl, start_value, true, unit-here, units, ◌≡◌}
 use Rattle.determinize_lazy.proofs.finding.Marking.{marking-end, marking-first, marking-next, marking-over}
 use Rattle.determinize_lazy.proofs.finding.Marks.{all-some, marking-some}
-use Rattle.determinize_lazy.proofs.finding.Searching.{tag-last}
+use Rattle.determinize_lazy.proofs.finding.Searching.{come-next, come_none, come_twice, fails-next, left-at, tag-last}
 use Rattle.determinize_lazy.proofs.steps.Rule.{grows-more}
-use Rattle.determinize_engine.proofs.Texts.{all_read, unit-here}
+use Rattle.determinize_lazy.proofs.walking.CachedWalks.{left_err, left_none}
+use Rattle.determinize_lazy.proofs.lazy.LazyDfa.mark_text.Given.{Over}
+use Rattle.determinize_lazy.proofs.lazy.LazyDfa.mark_text.Goals.{After-mark}
 use Rattle.determinize_lazy.proofs.lazy.LazyDfa.mark_text.Goals as goal
+
+pub returns-in_err-start-clause-left : goal.returns-in_err-start-clause-left
+returns-in_err-start-clause-left g c =
+    left_none c.from_residual.ensures.0 (ap cache c.in_err-start.ensures.unchanged)
 
 pub loop-at-init : goal.loop-at-init
 loop-at-init g c =
     let v = c.args.self.now in
-    let first : cursor_value v.states c.in_ok-start.field-0
-    ≡ start_value v.nfa c.args.start c.args.text.now.behind = c.in_ok-start.ensures.at.value
-    ∙ ap (λ b. start_value v.nfa c.args.start b) c.behind.ensures in record {
-      position = rw c.in_ok-start.ensures.unchanged (c.start-at.ensures.position v
-          c.in_ok-start.ensures.at.cursor_is (rw c.in_ok-start.ensures.at.value c.in_ok-start.ensures.known));
+    let first : cursor_value v.states c.in_ok-start.field-0 ≡ start_value v.nfa c.args.start c.args.text.now.behind
+    = rw (c.in_ok-start.ensures.unchanged, c.behind.ensures) at c.in_ok-start.ensures.value in record {
+      position = c.start-at.ensures.position _ c.in_ok-start.ensures.ready;
       within = omega (arith, c.start-at.ensures.read);
       marking = rw c.in_ok-start.ensures.unchanged
           (marking-first (units c.args.text.now) (c.start-at.ensures.place v _ first));
-      grows = rw c.in_ok-start.ensures.unchanged
-          record { nfa = refl; kind = refl; limit = refl; classes = refl; computed = omega arith };
+      come = rw c.in_ok-start.ensures.unchanged (come_none (c.start-at.ensures.place v _ first));
     }
 
-pub returns-then-is_last-clause-marked : goal.returns-then-is_last-clause-marked
-returns-then-is_last-clause-marked g c =
-    marking-over (c.in_ok-at.ensures.at.come _ (unit-here c.args.text.now)) c.loop-at.invariant.marking c.mark.ensures
-    (tag-last false c.tag_at.result.bits (cursor_value c.search_bytes.new.self.states c.in_ok-at.at.cursor)
-    c.tag_at.ensures c.is_last.ensures c.if-is_last.true)
+pub returns-in_err-at-clause-left : goal.returns-in_err-at-clause-left
+returns-in_err-at-clause-left g c = left_err c.from_residual-in_err-at.ensures.0
+    (c.loop-at.invariant.come.failed _ (c.in_err-at.ensures.failed false _ (unit-here c.args.text.now)))
+    (grows-more c.loop-at.invariant.come.grows c.in_err-at.ensures.grows)
 
-pub returns-then-is_last-clause-some : goal.returns-then-is_last-clause-some
-returns-then-is_last-clause-some g c =
-    all-some (returns-then-is_last-clause-marked g c)
+-- the walk to the next match state
+come : (g : Over) (c : After-mark g) → HasCome false (units c.args.text.now)
+    (first_place (cache c.args.self.now) (start_value c.args.self.now.nfa c.args.start c.args.text.now.behind))
+    (place c.search_bytes.new.self c.in_ok-at.at)
+come g c = come_twice c.loop-at.invariant.come (c.in_ok-at.ensures.at.come false _ (unit-here c.args.text.now))
+
+pub returns-then-is_last : goal.returns-then-is_last
+returns-then-is_last g c =
+    let last : is_last false (cursor_value c.search_bytes.new.self.states c.in_ok-at.at.cursor) ≡ true =
+    tag-last false c.tag_at.result.bits (cursor_value c.search_bytes.new.self.states c.in_ok-at.at.cursor)
+    c.tag_at.ensures c.is_last.ensures c.if-is_last.true in
+    let are = marking-over (c.in_ok-at.ensures.at.come true _ (unit-here c.args.text.now)) c.loop-at.invariant.marking
+    c.mark.ensures last in record {
+      marked = are;
+      some = all-some are;
+      left = left-at (come g (goal.at.returns-then-is_last g c).After-mark) (inr last) _;
+    }
 
 pub returns-in_err-at-2-clause-some : goal.returns-in_err-at-2-clause-some
 returns-in_err-at-2-clause-some g c =
-    marking-some (marking-next (c.in_ok-at.ensures.at.come _ (unit-here c.args.text.now)) c.loop-at.invariant.marking
-    c.mark.ensures c.unit-unit.ensures refl)
+    marking-some (marking-next (c.in_ok-at.ensures.at.come true _ (unit-here c.args.text.now))
+    c.loop-at.invariant.marking c.mark.ensures c.unit-unit.ensures refl)
+
+pub returns-in_err-at-2-clause-left : goal.returns-in_err-at-2-clause-left
+returns-in_err-at-2-clause-left g c =
+    let h = come g (goal.at.returns-in_err-at-2-clause-left g c).After-mark in
+    let more : is_last false (cursor_value c.search_bytes.new.self.states c.in_ok-at.at.cursor) ≡ false =
+    tag-last false c.tag_at.result.bits (cursor_value c.search_bytes.new.self.states c.in_ok-at.at.cursor)
+    c.tag_at.ensures c.is_last.ensures c.if-is_last.false in
+    left_err c.from_residual-in_err-at-2.ensures.0 (fails-next h c.unit-unit.ensures more c.in_err-at-2.ensures.failed)
+    (grows-more h.grows c.in_err-at-2.ensures.grows)
 
 pub loop-at-preserved : goal.loop-at-preserved
-loop-at-preserved g c = record {
-  position = c.in_ok-at-2.ensures.next.position;
-  within = omega (arith, ap (λ (p : Place). p.read) c.in_ok-at-2.ensures.next.place, c.in_ok-at.ensures.at.within);
-  marking = marking-next (c.in_ok-at.ensures.at.come _ (unit-here c.args.text.now)) c.loop-at.invariant.marking
-      c.mark.ensures c.unit-unit.ensures c.in_ok-at-2.ensures.next.place;
-  grows = grows-more c.loop-at.invariant.grows (grows-more c.in_ok-at.ensures.grows c.in_ok-at-2.ensures.grows);
-}
+loop-at-preserved g c =
+    let more : is_last false (cursor_value c.search_bytes.new.self.states c.in_ok-at.at.cursor) ≡ false =
+    tag-last false c.tag_at.result.bits (cursor_value c.search_bytes.new.self.states c.in_ok-at.at.cursor)
+    c.tag_at.ensures c.is_last.ensures c.if-is_last.false in
+    let next = c.in_ok-at-2.ensures.next in record {
+      position = next.position;
+      within = omega (arith, ap (λ (p : Place). p.read) next.place, c.in_ok-at.ensures.at.within);
+      marking = marking-next (c.in_ok-at.ensures.at.come true _ (unit-here c.args.text.now))
+          c.loop-at.invariant.marking c.mark.ensures c.unit-unit.ensures next.place;
+      come = come_twice (come g (goal.at.loop-at-preserved g c).After-mark)
+          (come-next c.unit-unit.ensures more next.place next.grows);
+    }
 
-pub returns-clause-marked : goal.returns-clause-marked
-returns-clause-marked g c =
-    marking-end (units c.args.text.now) (place c.loop-at.self c.loop-at.at) c.loop-at.invariant.marking
-    (all_read c.args.text.now c.loop-at-test.false c.len.ensures.value) c.mark-2.ensures
-
-pub returns-clause-some : goal.returns-clause-some
-returns-clause-some g c = all-some (returns-clause-marked g c)
+pub returns : goal.returns
+returns g c =
+    let past = all_read c.args.text.now c.loop-at-test.false c.len.ensures.value in
+    let are = marking-end (units c.args.text.now) (place c.loop-at.self c.loop-at.at) c.loop-at.invariant.marking past
+    c.mark-2.ensures in record {
+      marked = are;
+      some = all-some are;
+      left = left-at c.loop-at.invariant.come (inl past) _;
+    }

@@ -1,5 +1,5 @@
-use Rattle.determinize_lazy.proofs.Common.{cache, Grows, length, place, start_value, units, ◌+◌, ◌-◌, ◌≤◌}
-use Rattle.determinize_lazy.specs.Private.Listed.{IsListed, IsListedFrom, IsMarking}
+use Rattle.determinize_lazy.proofs.Common.{cache, false, first_place, HasCome, IsListed, IsListedFrom, IsMarking}
+use Rattle.determinize_lazy.proofs.Common.{length, place, start_value, units, ◌+◌, ◌-◌, ◌≤◌}
 use Rattle.determinize_lazy.specs.Private.Searched.{IsPosition}
 use Rattle.determinize_lazy.proofs.lazy.LazyDfa.mark_text.Given as goal
 
@@ -10,7 +10,8 @@ invariant-loop-at g l = record {
   marking : IsMarking l.fn.found (IsListed l.fn.self.nfa l.fn.self.kind
       (start_value l.fn.self.nfa l.fn.start l.text.behind) (units l.text)) l.found
       (IsListedFrom (units l.text) (place l.self l.at));
-  grows : Grows (cache l.fn.self) (cache l.self);
+  come : HasCome false (units l.text)
+      (first_place (cache l.fn.self) (start_value l.fn.self.nfa l.fn.start l.text.behind)) (place l.self l.at);
 }
 
 abbrev pub decreases-loop-at : goal.decreases-loop-at

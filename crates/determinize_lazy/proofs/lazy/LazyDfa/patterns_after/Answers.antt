@@ -1,77 +1,77 @@
-use Rattle.determinize_lazy.proofs.Common.{after_walk, ap, arith, cache, ends_at, false, first_place, IfOk-weaker}
-use Rattle.determinize_lazy.proofs.Common.{inl, inr, is_done}
-use Rattle.determinize_lazy.proofs.Common.{length, Place, place, rules, start_for, start_value, step_of, sym}
-use Rattle.determinize_lazy.proofs.Common.{Text, text_of, units, units_read, ◌∙◌, ◌≡◌}
-use Rattle.determinize_lazy.proofs.finding.Lists.{end-text, lists-end}
-use Rattle.determinize_lazy.proofs.finding.Searching.{end-is}
-use Rattle.determinize_lazy.proofs.steps.Rule.{of_err}
-use Rattle.determinize_lazy.proofs.walking.CachedWalks.{cut_off-whole}
-use Rattle.determinize_lazy.specs.CachedSearches.{after_input, after_search}
+use Rattle.determinize_lazy.proofs.Common.{ap, arith, cache, drop, EndsAt, false, first_place, IfOk-weaker, inl, inr}
+use Rattle.determinize_lazy.proofs.Common.{length, Place, rules, start_for, start_value, subst, sym, Text, text_of}
+use Rattle.determinize_lazy.proofs.Common.{true≢false, units, ◌∙◌, ◌≡◌}
+use Rattle.determinize_lazy.proofs.finding.Lists.{lists-end}
+use Rattle.determinize_lazy.proofs.finding.Searching.{at-text, ends-left}
+use Rattle.determinize_lazy.proofs.walking.CachedWalks.{left_whole}
+use Rattle.determinize_lazy.proofs.walking.Plenty.{has_read, read_err, read_none, searched-in}
 use Rattle.determinize_lazy.proofs.lazy.LazyDfa.patterns_after.Given.{Over}
-use Rattle.determinize_lazy.proofs.lazy.LazyDfa.patterns_after.Goals.{In_ok-at}
+use Rattle.determinize_lazy.proofs.lazy.LazyDfa.patterns_after.Goals.{After-search_to_end}
 use Rattle.determinize_lazy.proofs.lazy.LazyDfa.patterns_after.Goals as goal
 
 -- the text that is read
-text : (g : Over) (c : In_ok-at g) → c.of_input-text.result ≡ text_of c.args.self.now.nfa.reverse c.args.input.now
+text : (g : Over) (c : After-search_to_end g)
+    → c.of_input-text.result ≡ text_of c.args.self.now.nfa.reverse c.args.input.now
 text g c =
     let direction : c.is_reverse.result ≡ c.args.self.now.nfa.reverse = search rules in
     c.of_input-text.ensures ∙ ap (λ b. text_of b c.args.input.now) direction
 
 -- where the search of it ends
-end : (g : Over) (c : In_ok-at g) → let t = text_of c.args.self.now.nfa.reverse c.args.input.now in
-    place c.read_to_end.new.self c.in_ok-at.at ≡ ends_at false (first_place (cache c.args.self.now)
-    (start_value c.args.self.now.nfa (start_for c.args.self.now.nfa c.args.input.now.anchored) t.behind)) (units t)
+end : (g : Over) (c : After-search_to_end g) → let t = text_of c.args.self.now.nfa.reverse c.args.input.now in
+    EndsAt false (units t) (first_place (cache c.args.self.now) (start_value c.args.self.now.nfa
+    (start_for c.args.self.now.nfa c.args.input.now.anchored) t.behind)) c.search_to_end.result c.search_to_end.new.self
 end g c =
     let start : c.start_for-start.result ≡ start_for c.args.self.now.nfa c.get_anchored.result = search rules in
-    end-text (cache c.args.self.now) (start ∙ ap (λ a. start_for c.args.self.now.nfa a) c.get_anchored.ensures)
-    (text g c) c.in_ok-at.ensures.over.place
+    let h : EndsAt false (units c.of_input-text.result) (first_place (cache c.args.self.now)
+    (start_value c.args.self.now.nfa c.start_for-start.result c.of_input-text.result.behind))
+    c.search_to_end.result c.search_to_end.new.self
+    = subst (λ (p : Place). EndsAt false (drop p.read (units c.of_input-text.result)) p c.search_to_end.result
+    c.search_to_end.new.self) (c.start-2.ensures.place c.args.self.now _
+    (rw (c.in_ok-cursor.ensures.unchanged, c.behind.ensures) at c.in_ok-cursor.ensures.value))
+    (rw c.in_ok-cursor.ensures.unchanged at c.search_to_end.ensures) in
+    at-text (λ s t. EndsAt false (units t) (first_place (cache c.args.self.now)
+    (start_value c.args.self.now.nfa s t.behind)) c.search_to_end.result c.search_to_end.new.self)
+    (start ∙ ap (λ a. start_for c.args.self.now.nfa a) c.get_anchored.ensures) (text g c) h
 
--- and the cache that it leaves
-after : (g : Over) (c : In_ok-at g) → let v = c.args.self.now in let t = text_of v.nfa.reverse c.args.input.now in
-    let first = start_value v.nfa (start_for v.nfa c.args.input.now.anchored) t.behind in
-    cache c.read_to_end.new.self
-    ≡ after_walk (cache v) first (units_read (step_of (cache v)) false first (units t))
-after g c =
-    let v = c.args.self.now in let t = text_of v.nfa.reverse c.args.input.now in
-    ap (λ (q : Place). q.cache) (end g c) ∙ (end-is false (units t) (first_place (cache v)
-    (start_value v.nfa (start_for v.nfa c.args.input.now.anchored) t.behind))).0
+pub returns-in_err-cursor-clause-cache : goal.returns-in_err-cursor-clause-cache
+returns-in_err-cursor-clause-cache g c = searched-in (sym c.is_done.ensures ∙ c.if-is_done.false)
+    (read_none c.from_residual.ensures.0 c.in_err-cursor.ensures.unchanged)
 
-pub returns-then-at-len-clause-lists : goal.returns-then-at-len-clause-lists
-returns-then-at-len-clause-lists g c = λ more.
-    let d = (goal.at.returns-then-at-len-clause-lists g c).In_ok-at in
-    lists-end (cache c.args.self.now) _ _ _ _ c.read_to_end.ensures.sound.accepted (end g d)
-    (inl (
-      omega (arith, c.if-at-len.true, c.len.ensures.value, ap (λ (t : Text). length t.bytes) (text g d)),
-      c.new-then-at-len.ensures.items,
-    ))
+pub returns-in_err-at-clause-cache : goal.returns-in_err-at-clause-cache
+returns-in_err-at-clause-cache g c =
+    let ends = end g (goal.at.returns-in_err-at-clause-cache g c).After-search_to_end in
+    searched-in (sym c.is_done.ensures ∙ c.if-is_done.false)
+    (read_err c.from_residual-in_err-at.ensures.0 (rw c.in_err-at.was at ends.failed) ends.grows)
 
-pub returns-then-at-len-clause-after : goal.returns-then-at-len-clause-after
-unfolding after_input after_search
-returns-then-at-len-clause-after g c =
-    let more : is_done c.args.input.now ≡ false = sym c.is_done.ensures ∙ c.if-is_done.false in
-    rw more (after g (goal.at.returns-then-at-len-clause-after g c).In_ok-at)
+pub returns-then-at-len : goal.returns-then-at-len
+returns-then-at-len g c =
+    let d = (goal.at.returns-then-at-len g c).After-search_to_end in
+    let more = sym c.is_done.ensures ∙ c.if-is_done.false in
+    let left = ends-left (end g d) in record {
+      lists = λ _. lists-end (cache c.args.self.now) _ _ _ _ c.in_ok-cursor.ensures.sound.accepted
+          (rw c.in_ok-at.was at (end g d).place) (inl (
+            omega (arith, c.if-at-len.true, c.len.ensures.value, ap (λ (t : Text). length t.bytes) (text g d)),
+            c.new-then-at-len.ensures.items,
+          ));
+      done = λ e. absurd (true≢false (sym e ∙ more));
+      cache = searched-in more (has_read c.in_ok-cursor.ensures.sound
+          (left_whole _ (rw c.in_ok-at.was at left.after) left.grows));
+    }
 
-pub returns-clause-lists : goal.returns-clause-lists
-returns-clause-lists g c = λ more.
-    let d = (goal.at.returns-clause-lists g c).In_ok-at in
-    IfOk-weaker c.patterns_at.result _ _ (λ ids is. lists-end (cache c.args.self.now) _ _ _ _
-    c.read_to_end.ensures.sound.accepted (end g d) (inr (
-      omega (
-        arith,
-        c.if-at-len.false,
-        c.len.ensures.value,
-        ap (λ (t : Text). length t.bytes) (text g d),
-      ),
-      is,
-    ))) c.patterns_at.ensures
+pub returns : goal.returns
+returns g c =
+    let d = (goal.at.returns g c).After-search_to_end in
+    let more = sym c.is_done.ensures ∙ c.if-is_done.false in
+    let left = ends-left (end g d) in record {
+      lists = λ _. IfOk-weaker c.patterns_at.result _ _ (λ ids is. lists-end (cache c.args.self.now) _ _ _ _
+          c.in_ok-cursor.ensures.sound.accepted (rw c.in_ok-at.was at (end g d).place) (inr (
+            omega (arith, c.if-at-len.false, c.len.ensures.value, ap (λ (t : Text). length t.bytes) (text g d)),
+            is,
+          ))) c.patterns_at.ensures;
+      done = λ e. absurd (true≢false (sym e ∙ more));
+      cache = searched-in more (has_read c.in_ok-cursor.ensures.sound
+          (left_whole _ (rw c.in_ok-at.was at left.after) left.grows));
+    }
 
-pub returns-clause-after : goal.returns-clause-after
-unfolding after_input after_search
-returns-clause-after g c =
-    let more : is_done c.args.input.now ≡ false = sym c.is_done.ensures ∙ c.if-is_done.false in
-    IfOk-weaker c.patterns_at.result _ _ (λ ids is. rw more
-    (after g (goal.at.returns-clause-after g c).In_ok-at)) c.patterns_at.ensures
-
-pub returns-clause-failed : goal.returns-clause-failed
-returns-clause-failed g c =
-    of_err _ (cut_off-whole (after g (goal.at.returns-clause-failed g c).In_ok-at))
+pub search_to_end-requires-clause-position : goal.search_to_end-requires-clause-position
+search_to_end-requires-clause-position g c = c.start-2.ensures.position _ c.in_ok-cursor.ensures.ready

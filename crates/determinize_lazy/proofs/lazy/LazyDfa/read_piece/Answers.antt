@@ -1,40 +1,45 @@
-use Rattle.determinize_lazy.proofs.Common.{after_walk, ap, cache, cursor_value, ends_at, Fails, false, first_place}
-use Rattle.determinize_lazy.proofs.Common.{future, HasCome, last_match, LazyValue, length-map, List, map, Option, Place, place, refl}
-use Rattle.determinize_lazy.proofs.Common.{rules, Some, step_of, subst, sym, units_read, ℕ, ◌∙◌, ◌≡◌}
-use Rattle.determinize_engine.proofs.LastUnits.{last_match-within}
-use Rattle.determinize_lazy.proofs.finding.Searching.{end-here, end-is, last-found}
-use Rattle.determinize_lazy.proofs.steps.Rule.{of_err}
-use Rattle.determinize_lazy.proofs.walking.CachedWalks.{cut_off-whole}
+use Rattle.determinize_lazy.proofs.Common.{ap, cache, cursor_value, ends_at, Fails, false, first_place, future, HasCome}
+use Rattle.determinize_lazy.proofs.Common.{IsLeftBy, last_match, last_match-within, LazyValue, length-map, List, map}
+use Rattle.determinize_lazy.proofs.Common.{Option, Place, place, refl, Result, rules, Some, subst, sym, true, ℕ, ◌∙◌}
+use Rattle.determinize_lazy.proofs.Common.{◌≡◌}
+use Rattle.determinize_lazy.proofs.finding.Searching.{end-here, end-is, last-found, left-at}
+use Rattle.determinize_lazy.proofs.steps.Rule.{lazy-known}
+use Rattle.determinize_lazy.proofs.walking.CachedWalks.{left_err}
 use Rattle.determinize_lazy.proofs.lazy.LazyDfa.read_piece.Given.{Over}
 use Rattle.determinize_lazy.proofs.lazy.LazyDfa.read_piece.Goals.{After-found-last}
 use Rattle.determinize_lazy.proofs.lazy.LazyDfa.read_piece.Goals as goal
 
-pub returns-in_err-at-clause-failed : goal.returns-in_err-at-clause-failed
-returns-in_err-at-clause-failed g c =
-    of_err _ (subst (λ p. Fails false c.new-text.result p (cache c.search_bytes.new.self))
-    (c.start.ensures.place c.args.self.now _ refl) c.in_err-at.ensures.failed (map Some c.args.piece.now)
-    (rw c.new-text.ensures (λ i b at. at)))
+pub returns-in_err-at-clause-left : goal.returns-in_err-at-clause-left
+returns-in_err-at-clause-left g c = left_err c.from_residual.ensures.0
+    (subst (λ p. Fails false c.new-text.result p (cache c.search_bytes.new.self))
+    (c.start.ensures.place c.args.self.now _ refl) c.in_err-at.ensures.failed true (map Some c.args.piece.now)
+    (rw c.new-text.ensures (λ i b at. at))) c.in_err-at.ensures.grows
 
--- where the search ends
+-- the search of the piece
+come : (g : Over) (c : After-found-last g) → HasCome false (map Some c.args.piece.now)
+    (first_place (cache c.args.self.now) (cursor_value c.args.self.now.states c.args.start))
+    (place c.search_bytes.new.self c.in_ok-at.at)
+come g c = subst (λ p. HasCome false (map Some c.args.piece.now) p (place c.search_bytes.new.self c.in_ok-at.at))
+    (c.start.ensures.place c.args.self.now _ refl)
+    (c.in_ok-at.ensures.at.come true (map Some c.args.piece.now) (rw c.new-text.ensures (λ i b at. at)))
+
+-- where it ends
 end : (g : Over) (c : After-found-last g)
     → ends_at false (first_place (cache c.args.self.now) (cursor_value c.args.self.now.states c.args.start))
     (map Some c.args.piece.now) ≡ place c.search_bytes.new.self c.in_ok-at.at
-end g c =
-    let come = c.in_ok-at.ensures.at.come (map Some c.args.piece.now) (rw c.new-text.ensures (λ i b at. at)) in
-    end-here (subst (λ p. HasCome false (map Some c.args.piece.now) p (place c.search_bytes.new.self c.in_ok-at.at))
-    (c.start.ensures.place c.args.self.now _ refl) come)
+end g c = end-here (come g c)
     (rw (c.new-text.ensures, ← length-map c.args.piece.now Some) at c.in_ok-at.ensures.stopped)
 
--- and the cache that it leaves
-after : (g : Over) (c : After-found-last g) → cache c.search_bytes.new.self ≡ after_walk (cache c.args.self.now)
-    (cursor_value c.args.self.now.states c.args.start) (units_read (step_of (cache c.args.self.now)) false
-    (cursor_value c.args.self.now.states c.args.start) (map Some c.args.piece.now))
-after g c = rw (end g c) at (end-is false (map Some c.args.piece.now)
-    (first_place (cache c.args.self.now) (cursor_value c.args.self.now.states c.args.start))).0
+-- and what it leaves
+left : {T E : Type 0} (r : Result T E) (g : Over) (c : After-found-last g)
+    → IsLeftBy false (map Some c.args.piece.now)
+    (first_place (cache c.args.self.now) (cursor_value c.args.self.now.states c.args.start)) r
+    (cache c.search_bytes.new.self)
+left r g c = left-at (come g c)
+    (rw (c.new-text.ensures, ← length-map c.args.piece.now Some) at c.in_ok-at.ensures.stopped) r
 
-pub returns-in_err-state-clause-failed : goal.returns-in_err-state-clause-failed
-returns-in_err-state-clause-failed g c =
-    of_err _ (cut_off-whole (after g (goal.at.returns-in_err-state-clause-failed g c).After-found-last))
+pub returns-in_err-state-clause-left : goal.returns-in_err-state-clause-left
+returns-in_err-state-clause-left g c = left _ g (goal.at.returns-in_err-state-clause-left g c).After-found-last
 
 -- the last match is that of the piece
 last_is : (g : Over) (c : After-found-last g) → c.found-last.result
@@ -60,9 +65,12 @@ returns g c =
         state = is ∙ (rw (end g d) at (end-is false us p).1);
         last = last_is g d;
         read = search rules;
-        after = after g d;
       };
-      resolve = rw is c.in_ok-at.ensures.at.position.known.resolve;
-      failed = tt;
-      grows = search rules;
+      resolve = rw (c.in_ok-state.ensures, ← c.self.view_is) (lazy-known c.in_ok-at.at.cursor c.self.invariant
+          (rw (← c.self.view_is) at c.in_ok-at.ensures.at.position.cursor)
+          (rw (← c.self.view_is) at c.in_ok-at.ensures.at.position.known)).resolve;
+      left = left _ g d;
     }
+
+pub search_bytes-requires-clause-position : goal.search_bytes-requires-clause-position
+search_bytes-requires-clause-position g c = c.start.ensures.position _ c.requires

@@ -1,5 +1,5 @@
 use Rattle.determinize_lazy.proofs.Common.{cache, cursor_value, Fails, false, inr, is_last, place, ◌≡◌}
-use Rattle.determinize_lazy.proofs.finding.Searching.{fails-next, goes-next, goes_twice, tag-last}
+use Rattle.determinize_lazy.proofs.finding.Searching.{fails-next, goes-next, goes_twice, more-still, tag-last}
 use Rattle.determinize_lazy.proofs.steps.Rule.{of_err}
 use Rattle.determinize_lazy.proofs.lazy.LazyDfa.search_bytes.Given.{Over}
 use Rattle.determinize_lazy.proofs.lazy.LazyDfa.search_bytes.Goals.{After-byte-byte}
@@ -14,8 +14,11 @@ more g c = tag-last c.args.earliest c.tag_at.result.bits (cursor_value c.loop-at
 pub returns-in_err-next-clause-failed : goal.returns-in_err-next-clause-failed
 returns-in_err-next-clause-failed g c =
     of_err _ {P = Fails c.args.earliest c.args.text.now (place c.args.self.now c.args.from) (cache c.advance.new.self)}
-    (λ us begins. fails-next (c.loop-at.invariant.come us begins) (begins _ _ c.byte-byte.ensures)
-    (more g (goal.at.returns-in_err-next-clause-failed g c).After-byte-byte) c.in_err-next.ensures.failed)
+    (λ e us begins. fails-next (c.loop-at.invariant.come e us begins) (begins _ _ c.byte-byte.ensures)
+    (more-still e c.args.earliest
+    (cursor_value c.loop-at.self.states c.loop-at.at.cursor)
+    (more g (goal.at.returns-in_err-next-clause-failed g c).After-byte-byte))
+    c.in_err-next.ensures.failed)
 
 pub loop-at-preserved : goal.loop-at-preserved
 loop-at-preserved g c =

@@ -1,15 +1,18 @@
-use Rattle.determinize_lazy.proofs.Common.{cache, false, is_done, IsSearch, rules, start_for, sym, text_of, ◌∙◌}
-use Rattle.determinize_lazy.proofs.Common.{◌≡◌}
+use Rattle.determinize_lazy.proofs.Common.{cache, false, is_done, IsSearch, rules, start_for, sym, text_of, ◌∙◌, ◌≡◌}
 use Rattle.determinize_lazy.proofs.finding.Searching.{search-is}
 use Rattle.determinize_engine.proofs.Ranges.{is-result, none-done, offset-within}
-use Rattle.determinize_lazy.specs.CachedSearches.{after_input, after_search}
-use Rattle.determinize_lazy.proofs.walking.Plenty.{keeps_all}
+use Rattle.determinize_lazy.proofs.walking.CachedWalks.{left_whole}
+use Rattle.determinize_lazy.proofs.walking.Plenty.{has_read, read_err, searched-in}
 use Rattle.determinize_lazy.proofs.lazy.LazyDfa.search_input.Given.{Over}
 use Rattle.determinize_lazy.proofs.lazy.LazyDfa.search_input.Goals.{In_ok-found}
 use Rattle.determinize_lazy.proofs.lazy.LazyDfa.search_input.Goals as goal
 
 pub returns-then-is_done-clause-search : goal.returns-then-is_done-clause-search
 returns-then-is_done-clause-search g c = none-done c.args.input.now (sym c.is_done.ensures ∙ c.if-is_done.true)
+
+pub returns-in_err-found-clause-cache : goal.returns-in_err-found-clause-cache
+returns-in_err-found-clause-cache g c = searched-in (sym c.is_done.ensures ∙ c.if-is_done.false)
+    (read_err c.from_residual.ensures.0 c.in_err-found.ensures.over.left.failed c.in_err-found.ensures.over.left.grows)
 
 -- the search of the text
 answer : (g : Over) (c : In_ok-found g) → let v = c.args.self.now in IsSearch v.nfa v.kind
@@ -22,16 +25,12 @@ in_haystack-requires-clause-within g c =
     offset-within c.args.input.now (answer g (goal.at.in_haystack-requires-clause-within g c).In_ok-found)
 
 pub returns : goal.returns
-unfolding after_input after_search
 returns g c =
     let more : is_done c.args.input.now ≡ false = sym c.is_done.ensures ∙ c.if-is_done.false in
     let direction : c.is_reverse.result ≡ c.args.self.now.nfa.reverse = search rules in record {
       search = is-result c.search_range.ensures.sound.accepted more direction c.in_haystack.ensures.value
           c.in_haystack.ensures.within (answer g (goal.at.returns g c).In_ok-found);
       done = search rules;
-      after = rw more c.in_ok-found.ensures.over.after;
-      unchanged = search rules;
-      plenty = λ _. keeps_all c.search_range.ensures.sound c.in_ok-found.ensures.over.after;
-      failed = search rules;
-      grows = search rules;
+      cache = searched-in more (has_read c.search_range.ensures.sound (left_whole _
+          c.in_ok-found.ensures.over.left.after c.in_ok-found.ensures.over.left.grows));
     }

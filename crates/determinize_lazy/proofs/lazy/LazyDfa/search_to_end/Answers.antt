@@ -1,10 +1,9 @@
-use Rattle.determinize_lazy.proofs.Common.{ap, arith, cursor_value, false, IfOk-weaker, inl, inr, is_last, length}
-use Rattle.determinize_lazy.proofs.Common.{on_err_weaker, Place, ℕ, ◌≤◌}
-use Rattle.determinize_lazy.proofs.Common.{slice_get, Some, sym, true≢false, units, ◌+◌, ◌<◌, ◌∙◌, ◌≡◌}
+use Rattle.determinize_lazy.proofs.Common.{all_read, ap, arith, cursor_value, false, IfOk-weaker, inl, inr, is_last}
+use Rattle.determinize_lazy.proofs.Common.{length, on_err_weaker, Place, slice_get, Some, sym, true, true≢false}
+use Rattle.determinize_lazy.proofs.Common.{unit-here, unit-last, units, ℕ, ◌+◌, ◌<◌, ◌∙◌, ◌≡◌, ◌≤◌}
 use Rattle.std.proofs.lemmas.Result.{IfOk-from_err}
 use Rattle.determinize_lazy.proofs.finding.Searching.{come-next, come_twice, end-here, fails-next, tag-last}
-use Rattle.determinize_lazy.proofs.steps.Rule.{of_err, grows-more}
-use Rattle.determinize_engine.proofs.Texts.{all_read, unit-here, unit-last}
+use Rattle.determinize_lazy.proofs.steps.Rule.{grows-more, of_err}
 use Rattle.determinize_lazy.proofs.lazy.LazyDfa.search_to_end.Given.{Over}
 use Rattle.determinize_lazy.proofs.lazy.LazyDfa.search_to_end.Goals.{After-ahead}
 use Rattle.determinize_lazy.proofs.lazy.LazyDfa.search_to_end.Goals as goal
@@ -37,13 +36,13 @@ pub returns-in_err-at : goal.returns-in_err-at
 returns-in_err-at g c = record {
   position = IfOk-from_err _ _ c.from_residual.ensures.0;
   place = IfOk-from_err _ _ c.from_residual.ensures.0;
-  failed = of_err _ (c.in_err-at.ensures.failed _ (unit-here c.args.text.now));
+  failed = of_err _ (c.in_err-at.ensures.failed true _ (unit-here c.args.text.now));
   grows = c.in_err-at.ensures.grows;
 }
 
 pub returns-then-is_last : goal.returns-then-is_last
 returns-then-is_last g c =
-    let h = c.in_ok-at.ensures.at.come _ (unit-here c.args.text.now) in record {
+    let h = c.in_ok-at.ensures.at.come true _ (unit-here c.args.text.now) in record {
       position = c.in_ok-at.ensures.at.position;
       place = sym (end-here h (inr (tag-last c.args.earliest c.tag_at.result.bits
           (cursor_value c.search_bytes.new.self.states c.in_ok-at.at.cursor) c.tag_at.ensures c.is_last.ensures
@@ -55,7 +54,7 @@ returns-then-is_last g c =
 pub returns : goal.returns
 returns g c =
     let d = (goal.at.returns g c).After-ahead in
-    let h = c.in_ok-at.ensures.at.come _ (unit-here c.args.text.now) in record {
+    let h = c.in_ok-at.ensures.at.come true _ (unit-here c.args.text.now) in record {
       position = IfOk-weaker c.advance.result _ _ (λ at n. n.position) c.advance.ensures.next;
       place = IfOk-weaker c.advance.result _ _ (λ at n. sym (end-here
           (come_twice h (come-next (ahead g d).1 (more g d) n.place n.grows))

@@ -1,16 +1,17 @@
-use Rattle.determinize_lazy.proofs.Common.{[], append-nil, cache, cursor_value, drop, drop_all, IsWalking, refl}
-use Rattle.determinize_lazy.proofs.Common.{units, ◌++◌, ◌+◌, ◌∷◌}
-use Rattle.determinize_engine.proofs.Texts.{all_read}
-use Rattle.determinize_lazy.proofs.steps.Rule.{grows-more, of_err}
-use Rattle.determinize_lazy.proofs.walking.CachedWalks.{cut_off-first, cut_off-none, drop-one, walks-on}
+use Rattle.determinize_lazy.proofs.Common.{[], all_read, append-nil, cache, cursor_value, drop, drop_all, IsWalking}
+use Rattle.determinize_lazy.proofs.Common.{refl, units, ◌++◌, ◌+◌, ◌∷◌}
+use Rattle.determinize_lazy.proofs.steps.Rule.{grows-more}
+use Rattle.determinize_lazy.proofs.walking.CachedWalks.{cut_off-first, cut_off-none, drop-one, left_err, left_whole}
+use Rattle.determinize_lazy.proofs.walking.CachedWalks.{walks-on}
 use Rattle.determinize_lazy.proofs.lazy.LazyDfa.walk_on.Given.{Over}
 use Rattle.determinize_lazy.proofs.lazy.LazyDfa.walk_on.Goals.{In_ok-cursor}
 use Rattle.determinize_lazy.proofs.lazy.LazyDfa.walk_on.Goals as goal
 
-pub returns-in_err-cursor-clause-failed : goal.returns-in_err-cursor-clause-failed
-returns-in_err-cursor-clause-failed g c =
-    of_err _ (rw (drop-one _ _ _ c.unit-unit.ensures) at c.loop-read.invariant.walking.failed _
+pub returns-in_err-cursor-clause-left : goal.returns-in_err-cursor-clause-left
+returns-in_err-cursor-clause-left g c = left_err c.from_residual.ensures.0
+    (rw (drop-one _ _ _ c.unit-unit.ensures) at c.loop-read.invariant.walking.failed _
     (cut_off-first c.in_err-cursor.ensures.failed))
+    (grows-more c.loop-read.invariant.walking.grows c.in_err-cursor.ensures.grows)
 
 -- the walk after one more step
 on : (g : Over) (c : In_ok-cursor g) → IsWalking (cache c.args.self.now)
@@ -19,42 +20,36 @@ on : (g : Over) (c : In_ok-cursor g) → IsWalking (cache c.args.self.now)
     (cache c.step.new.self) (cursor_value c.step.new.self.states c.in_ok-cursor.cursor)
     (drop (c.loop-read.read + 1) (units c.args.text.now))
 on g c = walks-on (rw (drop-one _ _ _ c.unit-unit.ensures) at c.loop-read.invariant.walking)
-    c.in_ok-cursor.ensures.at.value c.in_ok-cursor.ensures.after
+    c.in_ok-cursor.ensures.value c.in_ok-cursor.ensures.after c.in_ok-cursor.ensures.grows
 
-pub returns-in_err-push_state-clause-failed : goal.returns-in_err-push_state-clause-failed
-returns-in_err-push_state-clause-failed g c =
-    of_err _ ((on g (goal.at.returns-in_err-push_state-clause-failed g c).In_ok-cursor).failed _ (cut_off-none refl))
+pub returns-in_err-push_state-clause-left : goal.returns-in_err-push_state-clause-left
+returns-in_err-push_state-clause-left g c =
+    let walk = on g (goal.at.returns-in_err-push_state-clause-left g c).In_ok-cursor in
+    left_err c.from_residual-in_err-push_state.ensures.0 (walk.failed _ (cut_off-none refl)) walk.grows
 
-pub returns-in_err-id-clause-failed : goal.returns-in_err-id-clause-failed
-returns-in_err-id-clause-failed g c =
-    of_err _ ((on g (goal.at.returns-in_err-id-clause-failed g c).In_ok-cursor).failed _ (cut_off-none refl))
+pub returns-in_err-id-clause-left : goal.returns-in_err-id-clause-left
+returns-in_err-id-clause-left g c =
+    let walk = on g (goal.at.returns-in_err-id-clause-left g c).In_ok-cursor in
+    left_err c.from_residual-in_err-id.ensures.0 (walk.failed _ (cut_off-none refl)) walk.grows
 
 pub loop-read-preserved : goal.loop-read-preserved
 loop-read-preserved g c = record {
   walking = rw c.in_ok-push_state.ensures (on g (goal.at.loop-read-preserved g c).In_ok-cursor);
-  known = rw (c.in_ok-cursor.ensures.grows.nfa, c.in_ok-cursor.ensures.at.value) c.in_ok-cursor.ensures.known;
-  cursor = c.in_ok-cursor.ensures.at.cursor_is;
-  grows = grows-more c.loop-read.invariant.grows c.in_ok-cursor.ensures.grows;
+  ready = c.in_ok-cursor.ensures.ready;
 }
 
 pub loop-read-preserved-in-Cached : goal.loop-read-preserved-in-Cached
 loop-read-preserved-in-Cached g c =
-    let walk = on g (goal.at.loop-read-preserved-in-Cached g c).In_ok-cursor in
-    let at_id = rw c.in-Cached.is at c.in_ok-cursor.ensures.at.value in record {
+    let walk = on g (goal.at.loop-read-preserved-in-Cached g c).In_ok-cursor in record {
       walking = c.in_ok-id.ensures.walking _ _
           (rw (rw c.in-Cached.is at c.in_ok-push_state.ensures) (rw c.in-Cached.is at walk));
-      known = c.in_ok-id.ensures.known
-          (rw (c.in_ok-cursor.ensures.grows.nfa, at_id) c.in_ok-cursor.ensures.known);
-      cursor = c.in_ok-id.ensures.inside;
-      grows = grows-more c.loop-read.invariant.grows c.in_ok-cursor.ensures.grows;
+      ready = record { cursor = c.in_ok-id.ensures.inside; known = tt };
     }
 
-pub returns-clause-values : goal.returns-clause-values
-returns-clause-values g c =
-    rw (drop_all _ _ (all_read c.args.text.now c.loop-read-test.false c.len.ensures.value), append-nil)
-    at c.loop-read.invariant.walking.values
-
-pub returns-clause-after : goal.returns-clause-after
-returns-clause-after g c =
-    rw (drop_all _ _ (all_read c.args.text.now c.loop-read-test.false c.len.ensures.value))
-    at c.loop-read.invariant.walking.after
+pub returns : goal.returns
+returns g c =
+    let past = all_read c.args.text.now c.loop-read-test.false c.len.ensures.value in
+    let walk = c.loop-read.invariant.walking in record {
+      values = rw (drop_all _ _ past, append-nil) at walk.values;
+      left = left_whole _ (rw (drop_all _ _ past) at walk.after) walk.grows;
+    }

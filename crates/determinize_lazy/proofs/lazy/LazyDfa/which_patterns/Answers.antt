@@ -1,5 +1,10 @@
-use Rattle.determinize_lazy.proofs.Common.{ap, on_ok_weaker, rules, start_for, text_of, ◌∙◌, ◌≡◌}
+use Rattle.determinize_lazy.proofs.Common.{ap, cache, false, first_place, IsLeftBy, IsListed, on_ok_weaker, OnOk, rules}
+use Rattle.determinize_lazy.proofs.Common.{start_for, start_value, sym, text_of, true≢false, units, ◌∙◌, ◌≡◌}
+use Rattle.determinize_lazy.proofs.finding.Searching.{at-text}
+use Rattle.determinize_lazy.specs.Marks.{AreMarked, AreSomeMarked}
 use Rattle.determinize_lazy.proofs.finding.Marking.{marked-matches, some-matches}
+use Rattle.determinize_lazy.proofs.steps.Rule.{lazy-sound}
+use Rattle.determinize_lazy.proofs.walking.Plenty.{has_read, searched-in}
 use Rattle.determinize_lazy.proofs.lazy.LazyDfa.which_patterns.Given.{Over}
 use Rattle.determinize_lazy.proofs.lazy.LazyDfa.which_patterns.Goals.{After-of_input-text}
 use Rattle.determinize_lazy.proofs.lazy.LazyDfa.which_patterns.Goals as goal
@@ -18,14 +23,22 @@ text g c =
     let direction : c.is_reverse.result ≡ c.args.self.now.nfa.reverse = search rules in
     c.of_input-text.ensures ∙ ap (λ b. text_of b c.args.input.now) direction
 
-pub returns-clause-marked : goal.returns-clause-marked
-returns-clause-marked g c = λ all more.
-    let d = (goal.at.returns-clause-marked g c).After-of_input-text in
-    on_ok_weaker c.mark_text.result (marked-matches c.args.self.now.nfa c.mark_text.ensures.sound.accepted
-    c.args.input.now (start g d) (text g d) all) c.mark_text.ensures.marked
-
-pub returns-clause-some : goal.returns-clause-some
-returns-clause-some g c = λ more.
-    let d = (goal.at.returns-clause-some g c).After-of_input-text in
-    some-matches c.args.self.now.nfa c.mark_text.ensures.sound.accepted c.args.input.now (start g d) (text g d)
-    c.args.self.now.kind c.mark_text.ensures.some
+pub returns : goal.returns
+returns g c =
+    let d = (goal.at.returns g c).After-of_input-text in
+    let more = sym c.is_done.ensures ∙ c.if-is_done.false in
+    let sound = lazy-sound c.self.invariant c.self.view_is in record {
+      marked = λ all _. on_ok_weaker c.mark_text.result
+          (marked-matches c.args.self.now.nfa sound.accepted c.args.input.now c.args.self.now.kind all)
+          (at-text (λ s t. OnOk c.mark_text.result (AreMarked c.args.found.now (IsListed c.args.self.now.nfa
+          c.args.self.now.kind (start_value c.args.self.now.nfa s t.behind) (units t)) c.mark_text.new.found))
+          (start g d) (text g d) c.mark_text.ensures.marked);
+      some = λ _. some-matches c.args.self.now.nfa sound.accepted c.args.input.now c.args.self.now.kind
+          (at-text (λ s t. AreSomeMarked c.args.found.now (IsListed c.args.self.now.nfa c.args.self.now.kind
+          (start_value c.args.self.now.nfa s t.behind) (units t)) c.mark_text.new.found)
+          (start g d) (text g d) c.mark_text.ensures.some);
+      done = λ e. absurd (true≢false (sym e ∙ more));
+      cache = searched-in more (has_read sound (at-text (λ s t. IsLeftBy false (units t) (first_place
+          (cache c.args.self.now) (start_value c.args.self.now.nfa s t.behind)) c.mark_text.result
+          (cache c.mark_text.new.self)) (start g d) (text g d) c.mark_text.ensures.left));
+    }
