@@ -15,7 +15,8 @@ loop-word-preserved g c =
       rw (words_next c.args.place k c.args.words.now word c.loop-word-test.true c.word-item.is)
           (c.lesser-least.ensures.added (words_from c.args.place (take k c.args.words.now))
           (drop c.args.place word.now.0, word.now.1) (sym c.byte.ensures.byte) c.loop-word.invariant.0),
-      small_one (c.args.place + 1 ≤ MAX) c.lesser-least.result c.loop-word.least c.byte.result c.lesser-least.ensures.one
+      small_one (c.args.place + 1 ≤ MAX) c.lesser-least.result c.loop-word.least c.byte.result
+          c.lesser-least.ensures.one
           c.loop-word.invariant.1
           c.byte.ensures.small,
     )
