@@ -65,7 +65,7 @@ abbrev pub all_found : Nfa → Text → ℕ → List (List ℕ × Lead) → List
 all_found nfa text i leads =
     flat_map (λ w. flat_map w.1.found (ends nfa.terminator text (literal w.0) i)) leads
 
--- from the state begin the words, each in front of its own state, the earlier preferred
+-- from the state begin the words, each in front of its state, the earlier preferred
 pub record IsTree (old new : BuilderValue) (words : List (List ℕ × ℕ)) (s : ℕ) : Type 0 where
   pub extends : Extends old new
   pub finds : (nfa : Nfa) → Continues new nfa → (text : Text) (leads : List (List ℕ × Lead))
