@@ -5,4 +5,3 @@ pub mod Leftmost
 pub mod Loops
 pub mod Parts
 pub mod RunsInOrder
-pub mod Several

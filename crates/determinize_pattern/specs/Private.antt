@@ -3,3 +3,4 @@ pub mod Compiling
 pub mod Dropping
 pub mod Entries
 pub mod Scanning
+pub mod Words

@@ -1,6 +1,6 @@
 //! Classes of bytes.
 
-ghost use Rattle.std.specs.Prelude.{◌≡◌, ◌≤◌, IfOk, OnOk, false, true};
+ghost use Rattle.std.specs.Prelude.{◌≡◌, ◌≤◌, ◌∷◌, IfOk, IfSome, OnOk, [], false, true};
 ghost use Rattle.std.specs.List.{list_any};
 ghost use Rattle.determinize_below.specs.Semantics.{within};
 ghost use Rattle.determinize_pattern.specs.Classes.{HasBytes, is_apart, is_chosen, pairs};
@@ -72,6 +72,16 @@ impl ClassBytes {
     {
         let ranges = Vec::from_slice(alloc, ranges)?;
         Ok(ClassBytes { ranges })
+    }
+
+    /// Returns the byte of a class of one byte.
+    pub fn single(&self) -> Option<u8>
+        ensures { IfSome result (λ byte. self.now ≡ (byte, byte) ∷ []) }
+    {
+        match self.ranges.as_slice() {
+            [range] if range.start == range.end => Some(range.start),
+            _ => None,
+        }
     }
 
     /// Returns the ranges.

@@ -4,7 +4,7 @@ ghost use Rattle.std.specs.Prelude.{◌≡◌, ◌<◌, ◌+◌, IfErr, IfOk, On
 ghost use Rattle.determinize_below.specs.Semantics as nodes;
 ghost use Rattle.determinize_nfa.specs.Builder.{closed, with_node};
 ghost use Rattle.determinize_pattern.specs.Classes.{pairs};
-ghost use Rattle.determinize_pattern.specs.Private.Compiling.{AddsEach, IsBranch, IsStart, Paid};
+ghost use Rattle.determinize_pattern.specs.Private.Compiling.{AddsEach, IsJoined, Paid};
 ghost use Rattle.determinize_pattern.specs.Private.Entries as entries;
 ghost use Rattle.determinize_pattern.specs.Private.Entries.{leading};
 ghost use Rattle.determinize_pattern.specs.declared.nfa.CompileError.TheVariants.{ExceededSizeLimit};
@@ -148,9 +148,8 @@ impl<A: Allocator + Copy> Compiler<A> {
 
     /// Adds a union of the starts, unless there is one, and returns where they begin.
     pub fn join(&mut self, starts: &[StateID]) -> Result<StateID, CompileError>
-        ensures start { IfOk result (λ s. IsStart self.old.builder self.new.builder starts.now s) }
-        ensures branch { IfOk result
-            (λ s. IsBranch self.old.builder self.new.builder starts.now s) }
+        ensures joined { IfOk result
+            (λ s. IsJoined self.old.builder self.new.builder starts.now s) }
         ensures paid { OnOk result
             (Paid self.old.builder self.old.left self.new.builder self.new.left) }
     {

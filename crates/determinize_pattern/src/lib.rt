@@ -15,11 +15,13 @@ pub mod chars;
 pub mod class;
 mod compiler;
 mod display;
+mod head;
 pub mod laws;
 mod nesting;
 pub mod nfa;
 mod parts;
 pub mod pattern;
+mod prefix_tree;
 mod utf8;
 
 pub use chars::ClassUnicodeRange;

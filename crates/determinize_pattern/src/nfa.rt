@@ -21,7 +21,8 @@ use std::fmt;
 pub struct Config {
     /// The budget of `compile`, for the patterns together: each state costs one, and so does each
     /// part of a pattern each time that it is compiled, once for each place where it may be
-    /// entered. The two states of the prefix are free.
+    /// entered. The bytes with which a pattern or a branch begins cost their states only, which
+    /// others share. The two states of the prefix are free.
     pub state_limit: usize,
     /// The greatest depth of a pattern. The recursion of `compile` is as deep.
     pub nest_limit: u32,
@@ -163,7 +164,8 @@ impl<A: Allocator + Copy> Compiler<A> {
         Ok(ids)
     }
 
-    /// Adds the states of each pattern in front of its match state, and returns where they begin.
+    /// Adds the states of the patterns, each in front of its match state, as words in front of what
+    /// follows them, so that they share prefixes. Returns where they begin.
     fn start(&mut self, patterns: &[Pattern], matches: &[StateID]) -> Result<StateID, CompileError>
         requires { length matches.now ≡ length patterns.now }
         ensures begins { IfOk result (λ s. BeginsAll self.old.builder self.new.builder
@@ -173,12 +175,11 @@ impl<A: Allocator + Copy> Compiler<A> {
         ensures paid { OnOk result
             (Paid self.old.builder self.old.left self.new.builder self.new.left) }
     {
-        let mut starts = Vec::new(self.alloc);
+        let mut words = Vec::new(self.alloc);
         for i in 0..patterns.len() {
-            let mut ids = [matches[i]];
-            self.part(&patterns[i], &mut ids)?;
-            starts.push(ids[0])?;
+            let word = self.head(&patterns[i], matches[i])?;
+            words.push(word)?;
         }
-        self.join(&starts)
+        self.words(&words)
     }
 }

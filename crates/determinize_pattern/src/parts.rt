@@ -5,17 +5,20 @@
 //! several targets, the slice `ids`: it continues at `ids[0]` if it has read a byte, and at
 //! `ids[k]` if it was entered by entry `k` and has read nothing. On return `ids[k]` is that entry.
 
-ghost use Rattle.std.specs.Prelude.{◌≡◌, ◌+◌, ◌<◌, ◌≤◌, IfOk, OnOk, length, map, slice_index};
+ghost use Rattle.std.specs.Prelude.{◌≡◌, ◌+◌, ◌<◌, ◌≤◌, IfOk, OnOk, drop, length, map, slice_index};
 ghost use Rattle.determinize_pattern.specs.Meaning as meanings;
 ghost use Rattle.determinize_pattern.specs.Patterns as patterns;
 ghost use Rattle.determinize_pattern.specs.Patterns.{at_least, choice, meaning, repeated, sequence};
 ghost use Rattle.determinize_pattern.specs.Private.Compiling.{AlwaysReads, IsBegun, IsCompiled, IsUnread, Paid, Precedes};
+ghost use Rattle.determinize_pattern.specs.Private.Words.{IsHead};
 
 use crate::always_reads::always_reads;
 use crate::class::ClassBytes;
 use crate::compiler::{Compiler, set_each};
+use crate::head::{push_word, push_words};
 use crate::nfa::CompileError;
 use crate::pattern::Pattern;
+use crate::prefix_tree::Word;
 use determinize_below::StateID;
 use determinize_below::nfa::Transition;
 use std::alloc::Allocator;
@@ -62,12 +65,12 @@ impl<A: Allocator + Copy> Compiler<A> {
                 sub,
             } => self.repetition(*min, *max, *greedy, sub, ids),
             Pattern::Capture(sub) => self.part(sub, ids),
-            Pattern::Concat(subs) => self.concat(subs, ids),
+            Pattern::Concat(subs) => self.concat(subs, 0, ids),
             Pattern::Alternation(subs) => self.alternation(subs, ids),
         }
     }
 
-    fn literal(&mut self, bytes: &[u8], ids: &mut [StateID]) -> Result<(), CompileError>
+    pub fn literal(&mut self, bytes: &[u8], ids: &mut [StateID]) -> Result<(), CompileError>
         requires { 0 < length ids.old }
         ensures compiled { OnOk result (IsCompiled self.old.builder self.new.builder
             (patterns.literal bytes.now) ids.old ids.new) }
@@ -119,15 +122,22 @@ impl<A: Allocator + Copy> Compiler<A> {
         }
     }
 
+    /// Adds the states of the patterns from a place on.
     #[cycle(part)]
-    fn concat(&mut self, subs: &[Pattern], ids: &mut [StateID]) -> Result<(), CompileError>
-        requires { 0 < length ids.old }
+    fn concat(
+        &mut self,
+        subs: &[Pattern],
+        from: usize,
+        ids: &mut [StateID],
+    ) -> Result<(), CompileError>
+        requires some { 0 < length ids.old }
+        requires within { from ≤ length subs.now }
         ensures compiled { OnOk result (IsCompiled self.old.builder self.new.builder
-            (sequence (map meaning subs.now)) ids.old ids.new) }
+            (sequence (map meaning (drop from subs.now))) ids.old ids.new) }
         ensures paid { OnOk result
             (Paid self.old.builder self.old.left self.new.builder self.new.left) }
     {
-        for i in (0..subs.len()).rev() {
+        for i in (from..subs.len()).rev() {
             self.part(&subs[i], ids)?;
         }
         Ok(())
@@ -177,7 +187,7 @@ impl<A: Allocator + Copy> Compiler<A> {
         Ok(())
     }
 
-    /// Adds one union of all branches, if there are several.
+    /// Adds the branches as words in front of what follows them, so that they share prefixes.
     #[cycle(part)]
     fn branches(&mut self, subs: &[Pattern], next: StateID) -> Result<StateID, CompileError>
         ensures begun { IfOk result (λ s. IsBegun self.old.builder self.new.builder
@@ -185,13 +195,60 @@ impl<A: Allocator + Copy> Compiler<A> {
         ensures paid { OnOk result
             (Paid self.old.builder self.old.left self.new.builder self.new.left) }
     {
-        let mut starts = Vec::new(self.alloc);
+        let mut words = Vec::new(self.alloc);
         for i in 0..subs.len() {
-            let mut ids = [next];
-            self.part(&subs[i], &mut ids)?;
-            starts.push(ids[0])?;
+            let word = self.head(&subs[i], next)?;
+            words.push(word)?;
         }
-        self.join(&starts)
+        self.words(&words)
+    }
+
+    /// Adds the states of what follows the word with which a pattern begins, at the cost of one,
+    /// and returns the word in front of them.
+    #[cycle(part)]
+    pub fn head(&mut self, pattern: &Pattern, next: StateID) -> Result<Word<A>, CompileError>
+        ensures head { IfOk result (λ word. IsHead self.old.builder self.new.builder
+            (meaning pattern.now) next word) }
+        ensures paid { OnOk result
+            (Paid self.old.builder self.old.left self.new.builder self.new.left) }
+    {
+        self.spend(1)?;
+        match pattern {
+            Pattern::Capture(sub) => self.head(sub, next),
+            Pattern::Concat(subs) => self.head_of_all(subs, next),
+            _ => self.head_of_one(pattern, next),
+        }
+    }
+
+    #[cycle(part)]
+    fn head_of_all(&mut self, subs: &[Pattern], next: StateID) -> Result<Word<A>, CompileError>
+        ensures head { IfOk result (λ word. IsHead self.old.builder self.new.builder
+            (sequence (map meaning subs.now)) next word) }
+        ensures paid { OnOk result
+            (Paid self.old.builder self.old.left self.new.builder self.new.left) }
+    {
+        let mut bytes = Vec::new(self.alloc);
+        let count = push_words(&mut bytes, subs)?;
+        let mut ids = [next];
+        self.concat(subs, count, &mut ids)?;
+        Ok(Word::new(bytes, ids[0]))
+    }
+
+    #[cycle(part)]
+    fn head_of_one(&mut self, pattern: &Pattern, next: StateID) -> Result<Word<A>, CompileError>
+        ensures head { IfOk result (λ word. IsHead self.old.builder self.new.builder
+            (meaning pattern.now) next word) }
+        ensures paid { OnOk result
+            (Paid self.old.builder self.old.left self.new.builder self.new.left) }
+    {
+        let mut bytes = Vec::new(self.alloc);
+        let is_word = push_word(&mut bytes, pattern)?;
+        if is_word {
+            return Ok(Word::new(bytes, next));
+        }
+        let mut ids = [next];
+        self.node(pattern, &mut ids)?;
+        Ok(Word::new(bytes, ids[0]))
     }
 
     #[cycle(part)]

@@ -10,6 +10,8 @@ use example_walks::values;
 pub struct Head<'a> {
     /// The number of states of the NFA without the prefix.
     pub states: Option<usize>,
+    /// The greatest number of states of the NFA without the prefix.
+    pub most: Option<usize>,
     /// The greatest number of states.
     pub limit: Option<usize>,
     /// The greatest depth of the patterns.
@@ -30,6 +32,7 @@ impl<'a> Head<'a> {
         };
         let mut head = Head {
             states: None,
+            most: None,
             limit: None,
             nest: None,
             error: None,
@@ -51,6 +54,7 @@ impl<'a> Head<'a> {
         };
         match key {
             "states" => self.states = Some(values::number(value)?),
+            "most" => self.most = Some(values::number(value)?),
             "limit" => self.limit = Some(values::number(value)?),
             "nest" => self.nest = Some(notation::count(value)?),
             "error" => self.error = Some(value),

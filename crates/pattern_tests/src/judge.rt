@@ -139,12 +139,18 @@ impl Judged {
         }
     }
 
-    /// Compares the number of states with the one that is expected, and with the limit.
+    /// Compares the number of states with the one that is expected, and with the greatest ones.
     fn judge_states(&mut self, head: &Head<'_>, states: usize) -> Result<(), AllocError> {
         let states = states.saturating_sub(PREFIX_STATES);
         match head.states {
             Some(wanted) if states != wanted => {
                 writeln!(self.report, "{states} states, and not {wanted}")?;
+            }
+            _ => {}
+        }
+        match head.most {
+            Some(most) if states > most => {
+                writeln!(self.report, "{states} states, and not at most {most}")?;
             }
             _ => {}
         }

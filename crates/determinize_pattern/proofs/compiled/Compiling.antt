@@ -1,6 +1,6 @@
 -- What the calls of the compiler add for the parts of a pattern, but for loops.
 -- Main statements: empty_compiled, one_compiled, look_compiled, then_compiled, choice_compiled, optional_compiled.
--- Used by: Looping, Branching and the proofs of `part`.
+-- Used by: Looping, Heads and the proofs of `part` and `tree`.
 -- Idea: a part that reads needs no target for nothing read, and one that reads nothing none for bytes read.
 use Rattle.std.specs.Prelude.{cond, slice_index, slice_index_or}
 use Rattle.std.proofs.Common.{◌≡◌, ◌-◌, ◌<◌, ◌∙◌, ◌∷◌, ℕ, Bool, Err, IfOk, List, None, Ok, OnOk, Result, [], ap, arith, false, inr, length, refl, replicate, set, suc, true, zero, get_or-set_same, length-set}

@@ -1,23 +1,25 @@
 -- Several patterns, each before its `Match` state, and the NFA of all.
--- Main statements: matches_more, begins_more, finds_none, finds_one, finds_union, finds_all, nfa_of_built.
+-- Main statements: matches_more, begins_more, begins_all, finds_all, nfa_of_built.
 -- Used by: the proofs of `compile` and of the calls that it makes.
 -- Idea: the prefix adds two states, and the NFA has those of the builder.
-use Rattle.std.specs.Prelude.{map, nat_lt, slice_index, slice_index_or}
-use Rattle.std.proofs.Common.{◌≡◌, ◌+◌, ◌<◌, ◌++◌, ◌∙◌, ◌∷◌, ℕ, Err, IfOk, List, Ok, OnOk, Result, [], arith, length, ltb-false, ltb-true, refl, suc}
-use Rattle.std.proofs.lemmas.List.{append-nil, get_or_append_left, get_or_push, length_push}
+use Rattle.std.specs.List.{flat_map}
+use Rattle.std.specs.Prelude.{map, nat_lt, slice_index}
+use Rattle.std.proofs.Common.{◌≡◌, ◌+◌, ◌<◌, ◌++◌, ◌∙◌, ◌∷◌, ℕ, Err, IfOk, List, Ok, OnOk, Result, [], ap, arith, length, ltb-false, ltb-true, refl, suc}
+use Rattle.std.proofs.lemmas.List.{get_or_append_left, get_or_push, length_push, map-append}
 use Rattle.ordered_reach.proofs.Cases.{by_test}
 use Rattle.determinize_below.specs.Semantics.{BinaryUnion, ByteRange, Fail, Match, Nfa, Text, Union, state_at}
-use Rattle.determinize_nfa.specs.Builder.{BuilderValue, built, prefixed, with_match, with_node}
-use Rattle.determinize_pattern.proofs.compiled.Growing.{continues_match, continues_old, extends_same, extends_then, grown, is_new, match_grown}
+use Rattle.determinize_nfa.specs.Builder.{BuilderValue, built, prefixed, with_match}
+use Rattle.determinize_pattern.proofs.compiled.Growing.{continues_match, continues_old, extends_same, extends_then, is_new, match_grown}
 use Rattle.determinize_pattern.proofs.entries.Leftmost.{nfa_of}
-use Rattle.determinize_pattern.proofs.entries.Parts.{fails, pattern_found}
-use Rattle.determinize_pattern.proofs.entries.Several.{union_found}
+use Rattle.determinize_pattern.proofs.compiled.Heads.{Head}
+use Rattle.determinize_pattern.proofs.entries.Parts.{pattern_found}
 use Rattle.determinize_pattern.specs.Compiled.{IsNfaOf}
 use Rattle.determinize_pattern.specs.LeftmostOf.{all_ends}
 use Rattle.determinize_pattern.specs.Meaning.{Re, ends}
 use Rattle.determinize_pattern.specs.declared.nfa.CompileError.{CompileError}
-use Rattle.determinize_pattern.specs.Private.Compiling.{AddsMatches, BeginsAll, Continues, Extends, FindsAll, IsBegun, IsStart}
-use Rattle.determinize_pattern.specs.Private.Entries.{AreStarts, Finds, IsEntry}
+use Rattle.determinize_pattern.specs.Private.Compiling.{AddsMatches, BeginsAll, Continues, Extends, FindsAll}
+use Rattle.determinize_pattern.specs.Patterns.{literal}
+use Rattle.determinize_pattern.specs.Private.Words.{AllFind, IsHead, IsTree, Lead, all_found, words_of}
 
 pub matches_none : (b : BuilderValue) → b.patterns ≡ 0 → AddsMatches b b []
 matches_none b e = record { extends = extends_same b; patterns = e; each = λ nfa h n l. absurd (omega (arith, l)) }
@@ -38,84 +40,95 @@ matches_more old mid new ids s h e g = rw g (record {
       (λ y. let w : Match mid.patterns ≡ Union [] = y in cc) s e));
 })
 
-starts_more : (nfa : Nfa) (n : ℕ) (res : List Re) (ss : List ℕ) (p : Re) (m s : ℕ) → AreStarts nfa n res ss
-    → state_at nfa m ≡ Match (n + length res) → ((text : Text) → IsEntry nfa text p m m s)
-    → AreStarts nfa n (res ++ p ∷ []) (ss ++ s ∷ [])
-starts_more nfa n [] [] p m s h e f = let z : n + 0 ≡ n = omega arith in ((m, rw z at e, f), tt)
-starts_more nfa n [] (t ∷ ss) p m s h e f = absurd h
-starts_more nfa n (re ∷ res) [] p m s h e f = absurd h
-starts_more nfa n (re ∷ res) (t ∷ ss) p m s h e f =
-    let z : n + suc (length res) ≡ suc n + length res = omega arith in
-    (h.0, starts_more nfa (suc n) res ss p m s h.1 (rw z at e) f)
+map_flat_map : (n : ℕ) (f : ℕ → List ℕ) (js : List ℕ)
+    → flat_map (λ j. map {B = ℕ × ℕ} (λ l. (n, l)) (f j)) js ≡ map {B = ℕ × ℕ} (λ l. (n, l)) (flat_map f js)
+map_flat_map n f [] = refl
+map_flat_map n f (j ∷ js) =
+    rw (map-append {B = ℕ × ℕ} (λ (l : ℕ). (n, l)) (f j) (flat_map f js), map_flat_map n f js) refl
 
--- each pattern begins at the state of its number, before its `Match` state
-pub record BeginsEach (old new : BuilderValue) (matches : List ℕ) (res : List Re) (starts : List ℕ) : Type 0 where
+-- the patterns from the number n on begin with these words, each before its own `Match` state
+abbrev pub AreStarts : Nfa → ℕ → List Re → List (List ℕ × ℕ) → Type 0
+AreStarts nfa n [] [] = Unit {0}
+AreStarts nfa n (re ∷ res) (w ∷ ws) =
+    ((m : ℕ) × (state_at nfa m ≡ Match n) × ((text : Text) → Head nfa text re m w)) × AreStarts nfa (suc n) res ws
+AreStarts nfa n _ _ = ⊥
+
+starts_more : (nfa : Nfa) (n : ℕ) (res : List Re) (ws : List (List ℕ × ℕ)) (p : Re) (m : ℕ) (w : List ℕ × ℕ)
+    → AreStarts nfa n res ws → state_at nfa m ≡ Match (n + length res) → ((text : Text) → Head nfa text p m w)
+    → AreStarts nfa n (res ++ p ∷ []) (ws ++ w ∷ [])
+starts_more nfa n [] [] p m w h e f = let z : n + 0 ≡ n = omega arith in ((m, rw z at e, f), tt)
+starts_more nfa n [] (v ∷ ws) p m w h e f = absurd h
+starts_more nfa n (re ∷ res) [] p m w h e f = absurd h
+starts_more nfa n (re ∷ res) (v ∷ ws) p m w h e f =
+    let z : n + suc (length res) ≡ suc n + length res = omega arith in
+    (h.0, starts_more nfa (suc n) res ws p m w h.1 (rw z at e) f)
+
+-- what is found where the word of each pattern ends
+record Leads (nfa : Nfa) (text : Text) (i n : ℕ) (res : List Re) (ws : List (List ℕ × ℕ)) : Type 0 where
+  leads : List (List ℕ × Lead)
+  are : words_of leads ≡ ws
+  find : AllFind nfa text i leads
+  found : all_found nfa text i leads ≡ all_ends nfa.terminator text n res i
+
+leads_of : (nfa : Nfa) (text : Text) (i n : ℕ) (res : List Re) (ws : List (List ℕ × ℕ)) → AreStarts nfa n res ws
+    → Leads nfa text i n res ws
+leads_of nfa text i n [] [] h = record { leads = []; are = refl; find = tt; found = refl }
+leads_of nfa text i n [] (w ∷ ws) h = absurd h
+leads_of nfa text i n (re ∷ res) [] h = absurd h
+leads_of nfa text i n (re ∷ res) (w ∷ ws) h =
+    let later = leads_of nfa text i (suc n) res ws h.1 in
+    let head = h.0.2 text in
+    let lead : Lead = record {
+      state = w.1;
+      found = λ j. map {B = ℕ × ℕ} (λ l. (n, l)) (ends nfa.terminator text head.rest j);
+    } in
+    record {
+      leads = (w.0, lead) ∷ later.leads;
+      are = ap (λ (vs : List (List ℕ × ℕ)). w ∷ vs) later.are;
+      find = (λ j c. pattern_found nfa text head.rest h.0.0 n w.1 j h.0.1 head.entry, later.find);
+      found = rw (later.found, head.same i)
+          (ap (λ (xs : List (ℕ × ℕ)). xs ++ all_ends nfa.terminator text (suc n) res i)
+          (map_flat_map n (ends nfa.terminator text head.rest) (ends nfa.terminator text (literal w.0) i)));
+    }
+
+-- each pattern begins with the word of its number, before its `Match` state
+pub record BeginsEach (old new : BuilderValue) (matches : List ℕ) (res : List Re) (words : List (List ℕ × ℕ))
+    : Type 0 where
   pub extends : Extends old new
   pub begins : (nfa : Nfa) → Continues new nfa
-      → ((n : ℕ) → n < length matches → state_at nfa (slice_index matches n) ≡ Match n) → AreStarts nfa 0 res starts
+      → ((n : ℕ) → n < length matches → state_at nfa (slice_index matches n) ≡ Match n) → AreStarts nfa 0 res words
 
 pub begins_none : (b : BuilderValue) (ms : List ℕ) → BeginsEach b b ms [] []
 begins_none b ms = record { extends = extends_same b; begins = λ nfa h f. tt }
 
-pub begins_more : (old mid new : BuilderValue) (ms : List ℕ) (res : List Re) (ss : List ℕ) (p : Re) (i s : ℕ)
-    → BeginsEach old mid ms res ss → length res ≡ i → i < length ms → IsBegun mid new p (slice_index ms i) s
-    → BeginsEach old new ms (res ++ p ∷ []) (ss ++ s ∷ [])
-begins_more old mid new ms res ss p i s h e l f = record {
-  extends = extends_then old mid new h.extends f.extends;
+pub begins_more : (old mid new : BuilderValue) (ms : List ℕ) (res : List Re) (words : List (List ℕ × ℕ)) (p : Re)
+    (i : ℕ) (word : List ℕ × ℕ) → BeginsEach old mid ms res words → length res ≡ i → i < length ms
+    → IsHead mid new p (slice_index ms i) word → BeginsEach old new ms (res ++ p ∷ []) (words ++ word ∷ [])
+begins_more old mid new ms res words p i word h e l f = record {
+  extends = extends_then old mid new h.extends f.begun.extends;
   begins = λ nfa c g.
       let z : i ≡ 0 + length res = omega (arith, e) in
-      starts_more nfa 0 res ss p (slice_index ms i) s
-      (h.begins nfa (continues_old mid new f.extends nfa c) g) (rw (← z) (g i l)) (f.entry nfa c);
+      starts_more nfa 0 res words p (slice_index ms i) word
+      (h.begins nfa (continues_old mid new f.begun.extends nfa c) g) (rw (← z) (g i l)) (head_of nfa c f);
 }
-
-pub finds_none : (old new : BuilderValue) (ss : List ℕ) (s : ℕ) → length ss ≡ 0 → s ≡ length old.states
-    → new ≡ with_node old Fail → IsStart old new ss s
-finds_none old new (t ∷ ss) s l e g = absurd (omega (arith, l))
-finds_none old new [] s l e g = rw g (record {
-  extends = grown old Fail;
-  finds = λ nfa c text res h k. go nfa c text res h k;
-})
   where
-    go : (nfa : Nfa) → Continues (with_node old Fail) nfa → (text : Text) (res : List Re) → AreStarts nfa 0 res []
-        → (k : ℕ) → Finds nfa text s k (all_ends nfa.terminator text 0 res k)
-    go nfa c text [] h k = fails nfa text s k (is_new old Fail nfa c (λ y. let w : Fail ≡ Union [] = y in cc) s e)
-    go nfa c text (re ∷ res) h k = absurd h
+    head_of : (nfa : Nfa) → Continues new nfa → IsHead mid new p (slice_index ms i) word
+        → (text : Text) → Head nfa text p (slice_index ms i) word
+    head_of nfa c k text =
+        record { rest = k.rest; entry = k.begun.entry nfa c text; same = λ j. k.same nfa.terminator text j }
 
-pub finds_one : (b : BuilderValue) (ss : List ℕ) (s : ℕ) → length ss ≡ 1 → s ≡ slice_index_or ss 0 s → IsStart b b ss s
-finds_one b [] s l e = absurd (omega (arith, l))
-finds_one b (t ∷ u ∷ ss) s l e = absurd (omega (arith, l))
-finds_one b (t ∷ []) s l e = record { extends = extends_same b; finds = λ nfa c text res h k. go nfa text res h k }
-  where
-    go : (nfa : Nfa) (text : Text) (res : List Re) → AreStarts nfa 0 res (t ∷ [])
-        → (k : ℕ) → Finds nfa text s k (all_ends nfa.terminator text 0 res k)
-    go nfa text [] h k = absurd h
-    go nfa text (re ∷ q ∷ res) h k = absurd h.1
-    go nfa text (re ∷ []) h k =
-        let z : s ≡ t = e in
-        let found : List (ℕ × ℕ) = map (λ j. (0, j)) (ends nfa.terminator text re k) in
-        rw (z, append-nil found)
-        (pattern_found nfa text re h.0.0 0 t k h.0.1 (h.0.2 text))
+pub tree_terminator : (old new : BuilderValue) (words : List (List ℕ × ℕ)) (r : Result ℕ CompileError)
+    → IfOk r (λ s. IsTree old new words s) → OnOk r (new.terminator ≡ old.terminator)
+tree_terminator old new words (Ok s) h = h.extends.terminator
+tree_terminator old new words (Err e) h = tt
 
-pub finds_union : (old new : BuilderValue) (ss : List ℕ) (s : ℕ) → 1 < length ss → s ≡ length old.states
-    → new ≡ with_node old (Union ss) → IsStart old new ss s
-finds_union old new [] s l e g = absurd (omega (arith, l))
-finds_union old new (t ∷ ss) s l e g = rw g (record {
-  extends = grown old (Union (t ∷ ss));
-  finds = λ nfa c text res h k. union_found nfa text k s res (t ∷ ss) h
-      (is_new old (Union (t ∷ ss)) nfa c (λ y. let w : Union (t ∷ ss) ≡ Union [] = y in cc) s e);
-})
-
-pub joined_terminator : (old new : BuilderValue) (ss : List ℕ) (r : Result ℕ CompileError)
-    → IfOk r (λ s. IsStart old new ss s) → OnOk r (new.terminator ≡ old.terminator)
-joined_terminator old new ss (Ok s) h = h.extends.terminator
-joined_terminator old new ss (Err e) h = tt
-
-pub begins_all : (old mid new : BuilderValue) (ms ss : List ℕ) (res : List Re) (s : ℕ) → BeginsEach old mid ms res ss
-    → IsStart mid new ss s → BeginsAll old new ms res s
-begins_all old mid new ms ss res s g h = record {
+pub begins_all : (old mid new : BuilderValue) (ms : List ℕ) (words : List (List ℕ × ℕ)) (res : List Re) (s : ℕ)
+    → BeginsEach old mid ms res words → IsTree mid new words s → BeginsAll old new ms res s
+begins_all old mid new ms words res s g h = record {
   extends = extends_then old mid new g.extends h.extends;
-  finds = λ nfa k each text i.
-      h.finds nfa k text res (g.begins nfa (continues_old mid new h.extends nfa k) each) i;
+  finds = λ nfa c each text i.
+      let k = leads_of nfa text i 0 res words (g.begins nfa (continues_old mid new h.extends nfa c) each) in
+      rw k.found at (h.finds nfa c text k.leads k.are i k.find);
 }
 
 pub finds_all : (a b c : BuilderValue) (ms : List ℕ) (res : List Re) (s : ℕ) → AddsMatches a b ms

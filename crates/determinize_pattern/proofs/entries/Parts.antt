@@ -1,6 +1,6 @@
 -- The states at which a sequence, a choice and a pattern before its `Match` state begin.
 -- Main statements: then_entry, or_entry, pattern_found, if_moved, if_stayed.
--- Used by: Loops, Several, Leftmost and the files compiled.
+-- Used by: Loops, Leftmost and the files compiled.
 -- Idea: what a state finds is the join of what its targets find.
 use Rattle.std.specs.List.{flat_map}
 use Rattle.std.specs.Option.{option_to_list}

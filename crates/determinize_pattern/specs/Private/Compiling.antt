@@ -1,11 +1,11 @@
 -- What the calls of the compiler add to a builder: statements on each NFA that has its states.
 use Rattle.std.specs.Prelude.{◌≡◌, ◌+◌, ◌<◌, ◌≤◌, ◌⊎◌, ℕ, Contains, List, [], false, length, slice_index, slice_index_or}
+use Rattle.std.specs.List.{flat_map}
 use Rattle.determinize_below.specs.Semantics.{Fail, Match, Nfa, Node, Text, Union, state_at}
 use Rattle.determinize_nfa.specs.Builder.{BuilderValue}
 use Rattle.determinize_pattern.specs.LeftmostOf.{all_ends}
 use Rattle.determinize_pattern.specs.Meaning.{Re, ends}
-use Rattle.determinize_pattern.specs.Patterns.{choice}
-use Rattle.determinize_pattern.specs.Private.Entries.{AreBranches, AreStarts, Finds, IsEntry}
+use Rattle.determinize_pattern.specs.Private.Entries.{EachFinds, Finds, IsEntry}
 
 -- the NFA has the states of the builder, except for unions without alternates: such a union is the
 -- state of a loop whose alternates are set later
@@ -64,12 +64,6 @@ pub record IsUnread (old new : BuilderValue) (re : Re) (id : ℕ) : Type 0 where
   pub fails : AlwaysReads re
       ⊎ ((nfa : Nfa) → Continues new nfa → state_at nfa id ≡ Fail)
 
--- from the state begins a choice between patterns that begin at these
-pub record IsBranch (old new : BuilderValue) (starts : List ℕ) (s : ℕ) : Type 0 where
-  pub extends : Extends old new
-  pub entry : (nfa : Nfa) → Continues new nfa → (text : Text) (res : List Re) (next : ℕ)
-      → AreBranches nfa text res next starts → IsEntry nfa text (choice res) next next s
-
 -- each of these states is the `Match` of its number
 pub record AddsMatches (old new : BuilderValue) (ids : List ℕ) : Type 0 where
   pub extends : Extends old new
@@ -85,14 +79,14 @@ pub record BeginsAll (old new : BuilderValue) (matches : List ℕ) (res : List R
       → ((n : ℕ) → n < length matches → state_at nfa (slice_index matches n) ≡ Match n)
       → (text : Text) (k : ℕ) → Finds nfa text s k (all_ends nfa.terminator text 0 res k)
 
--- from the state begin the patterns that begin at these
-pub record IsStart (old new : BuilderValue) (starts : List ℕ) (s : ℕ) : Type 0 where
-  pub extends : Extends old new
-  pub finds : (nfa : Nfa) → Continues new nfa → (text : Text) (res : List Re)
-      → AreStarts nfa 0 res starts
-      → (k : ℕ) → Finds nfa text s k (all_ends nfa.terminator text 0 res k)
-
 -- from the state the runs find all patterns
 abbrev pub FindsAll : BuilderValue → List Re → ℕ → Type 0
 FindsAll b res s = (nfa : Nfa) → Continues b nfa → (text : Text) (k : ℕ)
     → Finds nfa text s k (all_ends nfa.terminator text 0 res k)
+
+-- the state finds what these find, one after the other
+pub record IsJoined (old new : BuilderValue) (starts : List ℕ) (s : ℕ) : Type 0 where
+  pub extends : Extends old new
+  pub finds : (nfa : Nfa) → Continues new nfa → (text : Text) (i : ℕ)
+      → (found : List (List (ℕ × ℕ))) → EachFinds nfa text i starts found
+      → Finds nfa text s i (flat_map (λ xs. xs) found)

@@ -1,9 +1,9 @@
 -- What the states of an NFA find, and the states at which a pattern begins.
 use Rattle.std.specs.List.{flat_map}
 use Rattle.std.specs.Option.{option_to_list}
-use Rattle.std.specs.Prelude.{◌≡◌, ℕ, Bool, Contains, List, [], ◌∷◌, cond, map, nat_lt, option_map, suc}
+use Rattle.std.specs.Prelude.{ℕ, Bool, Contains, List, [], ◌∷◌, cond, map, nat_lt, option_map}
 use Rattle.determinize_below.specs.Edges.{pattern_of}
-use Rattle.determinize_below.specs.Semantics.{Match, Nfa, Text, choices, state_at}
+use Rattle.determinize_below.specs.Semantics.{Nfa, Text, choices}
 use Rattle.determinize_below.specs.declared.nfa.transitions.Transition.{Transition}
 use Rattle.determinize_pattern.specs.Meaning.{Re, ends}
 use Rattle.ordered_reach.specs.Walks.{ListsLabels}
@@ -38,17 +38,8 @@ in_order first_wins first second =
 abbrev pub leading : ℕ → List (ℕ × ℕ) → List Transition
 leading next ranges = map (λ r. record { start = r.0; end = r.1; next = next }) ranges
 
--- the patterns from the number n on begin at these states, each before its own `Match` state
-abbrev pub AreStarts : Nfa → ℕ → List Re → List ℕ → Type 0
-AreStarts nfa n [] [] = Unit {0}
-AreStarts nfa n (re ∷ res) (s ∷ ss) =
-    ((m : ℕ) × (state_at nfa m ≡ Match n) × ((text : Text) → IsEntry nfa text re m m s))
-    × AreStarts nfa (suc n) res ss
-AreStarts nfa n _ _ = ⊥
-
--- the patterns begin at these states, and continue at `next`
-abbrev pub AreBranches : Nfa → Text → List Re → ℕ → List ℕ → Type 0
-AreBranches nfa text [] next [] = Unit {0}
-AreBranches nfa text (re ∷ res) next (s ∷ ss) =
-    IsEntry nfa text re next next s × AreBranches nfa text res next ss
-AreBranches nfa text _ next _ = ⊥
+-- from the position, each of these states finds the list at its place
+abbrev pub EachFinds : Nfa → Text → ℕ → List ℕ → List (List (ℕ × ℕ)) → Type 0
+EachFinds nfa text i [] [] = Unit {0}
+EachFinds nfa text i (s ∷ ss) (xs ∷ xss) = Finds nfa text s i xs × EachFinds nfa text i ss xss
+EachFinds nfa text i _ _ = ⊥

@@ -3,7 +3,7 @@ use Rattle.std.proofs.lemmas.Grind.{common_steps, get_or_default_zero}
 use Rattle.std.proofs.lemmas.List.{drop_all, drop_more, get_or_read, take_all, take_rest}
 use Rattle.std.proofs.lemmas.Result.{IfOk-weaker, on_ok_weaker}
 use Rattle.determinize_pattern.specs.Patterns.{meaning}
-use Rattle.determinize_pattern.proofs.compiled.Branching.{begun_branches, branches_more, branches_none}
+use Rattle.determinize_pattern.proofs.compiled.Heads.{head_made, heads_begun, heads_more, heads_none, none_head, word_head}
 use Rattle.determinize_pattern.proofs.compiled.Looping.{again_begun, plus_compiled}
 use Rattle.determinize_pattern.proofs.compiled.Compiling.{begun_of, choice_compiled, compiled_after, empty_compiled, look_compiled, nothing_compiled, on_both, one_compiled, only_compiled, optional_compiled, precedes_more, precedes_none, repeated_some, then_compiled}
 use Rattle.determinize_pattern.proofs.compiled.Growing.{less_left, map_take_more}
@@ -38,8 +38,11 @@ node-returns-in-Look-clause-compiled g t c =
     (λ each. rw (c.in-Look.is, meaning_look) (look_compiled _ _ _ _ _ each)) c.look_each.ensures.added
 
 pub concat-loop-i-init : goal.concat-loop-i-init
-concat-loop-i-init g t c =
-    (rw (drop_all (length c.args.subs.now) c.args.subs.now (omega arith)) (empty_compiled _ _), omega arith)
+concat-loop-i-init g t c = (
+  rw (drop_all (length c.args.subs.now) c.args.subs.now (omega arith)) (empty_compiled _ _),
+  omega arith,
+  c.requires.within,
+)
 
 pub concat-loop-i-preserved : goal.concat-loop-i-preserved
 concat-loop-i-preserved g t c =
@@ -47,8 +50,9 @@ concat-loop-i-preserved g t c =
     let back : i - 1 + 1 ≡ i = omega arith in
     let sub = c.index-subs-i.result in (
       rw (drop_more c.args.subs.now (i - 1) sub (omega arith), back, ← c.index-subs-i.is)
-          (then_compiled _ _ _ _ _ _ _ _ c.requires c.loop-i.invariant.0 c.in_ok-part.ensures.compiled),
+          (then_compiled _ _ _ _ _ _ _ _ c.requires.some c.loop-i.invariant.0 c.in_ok-part.ensures.compiled),
       omega (arith, c.loop-i.invariant.1, c.in_ok-part.ensures.paid),
+      omega arith,
     )
 
 pub choices-loop-i-init : goal.choices-loop-i-init
@@ -80,28 +84,42 @@ alternation-returns-then-ids-eq1-clause-compiled g t c =
     only_compiled _ _ _ c.args.ids.now c.args.ids.now _ c.if-ids-eq1.true refl (rw first at c.in_ok-ids.ensures.begun)
 
 pub branches-loop-i-init : goal.branches-loop-i-init
-branches-loop-i-init g t c = (rw c.new-starts.ensures.items (branches_none _ _), omega arith)
+branches-loop-i-init g t c = (rw c.new-words.ensures.items (heads_none _ _), omega arith)
 
 pub branches-loop-i-preserved : goal.branches-loop-i-preserved
-branches-loop-i-preserved g t c =
-    let i = c.loop-i.i in
-    let sub = c.index-subs-i.result in
-    let entry = get_or_default_zero c.part.new.ids 0 c.index-ids-0.result
-    (omega (arith, c.in_ok-part.ensures.compiled.len)) in (
-      rw (
-        map_take_more meaning c.args.subs.now i sub (omega arith) c.index-subs-i.is,
-        c.in_ok-push.ensures.items,
-        entry,
-      )
-          (branches_more _ _ _ _ _ _ _ _ c.loop-i.invariant.0 (begun_of _ _ _ _ _ c.in_ok-part.ensures.compiled)),
-      omega (arith, c.loop-i.invariant.1, c.in_ok-part.ensures.paid),
-    )
+branches-loop-i-preserved g t c = (
+  rw (
+    map_take_more meaning c.args.subs.now c.loop-i.i c.index-subs-i.result (omega arith) c.index-subs-i.is,
+    c.in_ok-push.ensures.items,
+  )
+      (heads_more _ _ _ _ _ _ _ _ c.loop-i.invariant.0 c.in_ok-word.ensures.head),
+  omega (arith, c.loop-i.invariant.1, c.in_ok-word.ensures.paid),
+)
 
 pub branches-returns-clause-begun : goal.branches-returns-clause-begun
-branches-returns-clause-begun g t c = IfOk-weaker c.join.result _ _
-    (λ s h. begun_branches _ _ _ (map meaning c.args.subs.now) _ _ s
+branches-returns-clause-begun g t c = IfOk-weaker c.words.result _ _
+    (λ s h. heads_begun _ _ _ (map meaning c.args.subs.now) _ _ s
     (rw (take_all c.loop-i.i c.args.subs.now (omega arith)) at c.loop-i.invariant.0) (rw c.deref.ensures.value at h))
-    c.join.ensures.branch
+    c.words.ensures.tree
+
+pub head_of_all-returns-clause-head : goal.head_of_all-returns-clause-head
+head_of_all-returns-clause-head g t c =
+    let entry = get_or_default_zero c.concat.new.ids 0 c.index-ids-0.result
+    (omega (arith, c.in_ok-concat.ensures.compiled.len)) in
+    rw (c.new.ensures, entry) (head_made _ _ _ _ _ _ _ (begun_of _ _ _ _ _ c.in_ok-concat.ensures.compiled)
+    (rw c.new-bytes.ensures.items at c.in_ok-count.ensures.same))
+
+pub head_of_one-returns-then-is_word-clause-head : goal.head_of_one-returns-then-is_word-clause-head
+head_of_one-returns-then-is_word-clause-head g t c =
+    let pushed = rw (c.if-is_word.true, c.new-bytes.ensures.items) at c.in_ok-is_word.ensures in
+    rw c.new.ensures (word_head _ _ _ _ pushed.0 pushed.1 pushed.2)
+
+pub head_of_one-returns-clause-head : goal.head_of_one-returns-clause-head
+head_of_one-returns-clause-head g t c =
+    let none = rw (c.if-is_word.false, c.new-bytes.ensures.items) at c.in_ok-is_word.ensures in
+    let entry = get_or_default_zero c.node.new.ids 0 c.index-ids-0.result
+    (omega (arith, c.in_ok-node.ensures.compiled.len)) in
+    rw (c.new-2.ensures, entry) (none_head _ _ _ _ _ _ none (begun_of _ _ _ _ _ c.in_ok-node.ensures.compiled))
 
 round : (g : _) (t : _) (c : goal.plus-After-drop-body-2 g t) → c.index.result.now ≡ slice_index c.part.new.ids 1
 round g t c = grind (arith, common_steps)
@@ -220,7 +238,8 @@ pub node-returns-in-Alternation-clause-paid : goal.node-returns-in-Alternation-c
 node-returns-in-Alternation-clause-paid g t c = c.alternation.ensures.paid
 
 pub concat-returns-clause-compiled : goal.concat-returns-clause-compiled
-concat-returns-clause-compiled g t c = let start : c.loop-i.i ≡ 0 = omega arith in rw start at c.loop-i.invariant.0
+concat-returns-clause-compiled g t c =
+    let start : c.loop-i.i ≡ c.args.from = omega (arith, c.loop-i.invariant.2) in rw start at c.loop-i.invariant.0
 
 pub concat-returns-clause-paid : goal.concat-returns-clause-paid
 concat-returns-clause-paid g t c = c.loop-i.invariant.1
@@ -239,7 +258,7 @@ alternation-returns-then-ids-eq1-clause-paid g t c = c.in_ok-ids.ensures.paid
 
 pub branches-returns-clause-paid : goal.branches-returns-clause-paid
 branches-returns-clause-paid g t c =
-    on_ok_weaker c.join.result (λ paid. omega (arith, c.loop-i.invariant.1, paid)) c.join.ensures.paid
+    on_ok_weaker c.words.result (λ paid. omega (arith, c.loop-i.invariant.1, paid)) c.words.ensures.paid
 
 pub copies-returns-clause-paid : goal.copies-returns-clause-paid
 copies-returns-clause-paid g t c = c.loop-done.invariant.2

@@ -1,7 +1,7 @@
-use Rattle.std.proofs.Common.{◌≡◌, ◌<◌, drop, length, map, take}
+use Rattle.std.proofs.Common.{◌≡◌, ◌<◌, ◌≤◌, drop, length, map, take}
 use Rattle.determinize_pattern.specs.Private.Compiling.{IsCompiled, Precedes}
 use Rattle.determinize_pattern.specs.Patterns.{choice, sequence, copies, meaning, up_to}
-use Rattle.determinize_pattern.proofs.compiled.Branching.{Branches}
+use Rattle.determinize_pattern.proofs.compiled.Heads.{AreHeads}
 use Rattle.determinize_pattern.specs.Private.Compiling.{Paid}
 use Rattle.determinize_pattern.proofs.compiler.Compiler.+part.Given as goal
 
@@ -15,6 +15,7 @@ abbrev pub invariant-concat-loop-i : goal.invariant-concat-loop-i
 invariant-concat-loop-i g l =
     IsCompiled l.fn.self.builder l.self.builder (sequence (map meaning (drop l.i l.subs))) l.fn.ids l.ids
     × Paid l.fn.self.builder l.fn.self.left l.self.builder l.self.left
+    × (l.from ≤ l.i)
 
 abbrev pub invariant-copies-loop-done : goal.invariant-copies-loop-done
 invariant-copies-loop-done g l =
@@ -28,5 +29,5 @@ invariant-up_to-loop-done g l =
 
 abbrev pub invariant-branches-loop-i : goal.invariant-branches-loop-i
 invariant-branches-loop-i g l =
-    Branches l.fn.self.builder l.self.builder (map meaning (take l.i l.subs)) l.fn.next l.starts.items
+    AreHeads l.fn.self.builder l.self.builder (map meaning (take l.i l.subs)) l.fn.next l.words.items
     × Paid l.fn.self.builder l.fn.self.left l.self.builder l.self.left
