@@ -1,33 +1,75 @@
-//! The arguments of the program.
+//! The patterns, the files and the settings that the arguments give.
 
-use crate::error::Error;
-use determinize_regex::{Error as RegexError, Regex, RegexConfig};
-use std::alloc::{AllocError, Global};
-use std::env::Args;
-use std::fs;
+use std::alloc::Global;
 
-/// The options and operands of the program.
+/// The patterns, the files and the settings.
 #[derive(Drop)]
 pub struct Options {
-    /// The texts of the patterns, of which the first is pattern 0.
-    pub patterns: Vec<String>,
-    /// The names of the files; `-` is standard input. Without one, standard input is read.
-    pub files: Vec<String>,
-    /// What is printed of each line that is selected.
-    pub shows: Shows,
+    /// The patterns, of which the first is pattern 0.
+    pub patterns: Vec<Vec<u8>>,
+    /// The names of the files; `-` is standard input.
+    pub files: Vec<Vec<u8>>,
+    pub settings: Settings,
+}
+
+/// How lines are selected, and what is printed.
+#[derive(Clone, Copy)]
+pub struct Settings {
+    pub action: Action,
+    /// Whether the patterns are texts.
+    pub is_fixed: bool,
+    /// Whether the ASCII letters of the patterns match in both cases.
+    pub ignores_case: bool,
+    /// What a match must be.
+    pub whole: Whole,
     /// Whether lines without a match are selected, and not those with one.
     pub inverts: bool,
-    /// Whether the letters of the patterns match in both cases.
-    pub ignores_case: bool,
+    /// The greatest number of selected lines of a file.
+    pub max_count: u64,
+    /// The byte that ends a line.
+    pub terminator: u8,
+    pub binary: Binary,
+    /// Whether the files below directories are searched.
+    pub is_recursive: bool,
+    /// Whether there are no messages about files that cannot be read.
+    pub is_silent: bool,
+    pub shows: Shows,
     /// Whether the number of each line is printed.
     pub numbers: bool,
     /// Whether the offset of each line or match is printed.
     pub offsets: bool,
-    /// Whether the usage is printed, and nothing is searched.
-    pub helps: bool,
+    /// Whether the number of the pattern of each match is printed.
+    pub pattern_numbers: bool,
+    pub names: Names,
+    pub colors: Colors,
+    /// How many lines are printed before each selected line, and after it.
+    pub before: Option<u64>,
+    pub after: Option<u64>,
+    /// How many are if these say nothing.
+    pub around: Option<u64>,
 }
 
-/// What is printed of the lines that are selected. Of two options the later one here counts.
+/// What the program does.
+#[derive(Clone, Copy, PartialEq, Eq)]
+pub enum Action {
+    Search,
+    PrintUsage,
+    PrintVersion,
+}
+
+/// What a match must be.
+#[derive(Clone, Copy, PartialEq, Eq, PartialOrd, Ord)]
+pub enum Whole {
+    /// Any part of a line.
+    Part,
+    /// A part without a word character before or after it.
+    Word,
+    /// A line.
+    Line,
+}
+
+/// What is printed of the lines that are selected. Of two options the later one here counts, and of
+/// the two of names the one that was given last.
 #[derive(Clone, Copy, PartialEq, Eq, PartialOrd, Ord)]
 pub enum Shows {
     /// Each line.
@@ -38,209 +80,100 @@ pub enum Shows {
     Count,
     /// The name of each file that has one.
     Names,
+    /// The name of each file that has none.
+    OtherNames,
     /// Nothing: only the exit status says whether there is one.
     Nothing,
 }
 
-/// What the next argument is taken for.
+/// How a file is searched that has a zero byte.
 #[derive(Clone, Copy, PartialEq, Eq)]
-enum Next {
-    /// An option, or else an operand.
-    Any,
-    /// The pattern of `-e`.
-    Pattern,
-    /// An operand: the options have ended.
-    Operand,
+pub enum Binary {
+    /// That it has a selected line is said, and none is printed.
+    Noted,
+    /// As any other.
+    Text,
+    /// As one without matches.
+    Skipped,
+}
+
+/// When the name of a file is printed.
+#[derive(Clone, Copy, PartialEq, Eq)]
+pub enum Names {
+    /// If there may be several files.
+    IfSeveral,
+    Always,
+    Never,
+}
+
+/// When colors are printed.
+#[derive(Clone, Copy, PartialEq, Eq)]
+pub enum Colors {
+    /// If standard output is a terminal that has them.
+    IfTerminal,
+    Always,
+    Never,
 }
 
 impl Options {
     /// Returns the options of a program without arguments.
-    fn new(alloc: Global) -> Options {
+    pub fn new(alloc: Global) -> Options {
         Options {
             patterns: Vec::new(alloc),
             files: Vec::new(alloc),
-            shows: Shows::Lines,
-            inverts: false,
+            settings: Settings::new(),
+        }
+    }
+}
+
+impl Settings {
+    /// Returns the usual settings.
+    fn new() -> Settings {
+        Settings {
+            action: Action::Search,
+            is_fixed: false,
             ignores_case: false,
+            whole: Whole::Part,
+            inverts: false,
+            max_count: u64::MAX,
+            terminator: b'\n',
+            binary: Binary::Noted,
+            is_recursive: false,
+            is_silent: false,
+            shows: Shows::Lines,
             numbers: false,
             offsets: false,
-            helps: false,
+            pattern_numbers: false,
+            names: Names::IfSeveral,
+            colors: Colors::Never,
+            before: None,
+            after: None,
+            around: None,
         }
     }
 
-    /// Returns the options of the arguments, without the name of the program. The first operand is
-    /// a pattern, unless `-e` gives one. Any other one is a pattern too if it has one of the signs
-    /// ``[(*+?|^${\`` and there is no file of this name, and a file otherwise.
-    pub fn read(rt: &HostRuntime, args: Args) -> Result<Options, Error> {
-        let mut options = Options::new(rt.alloc());
-        match options.take_all(rt, args) {
-            Ok(()) => Ok(options),
-            Err(error) => Err(error),
-        }
+    /// Returns how many lines are printed before each selected one.
+    pub fn before(&self) -> u64 {
+        self.before.or(self.around).unwrap_or(0)
     }
 
-    /// Takes all arguments.
-    fn take_all(&mut self, rt: &HostRuntime, args: Args) -> Result<(), Error> {
-        let mut operands = Vec::new(rt.alloc());
-        let mut next = Next::Any;
-        for arg in args {
-            next = self.take(rt.alloc(), arg, next, &mut operands)?;
-        }
-        if next == Next::Pattern {
-            return Err(Error::MissingPattern);
-        }
-        self.take_operands(rt, operands)
+    /// Returns how many lines are printed after each selected one.
+    pub fn after(&self) -> u64 {
+        self.after.or(self.around).unwrap_or(0)
     }
 
-    /// Returns the patterns, compiled.
-    pub fn regex(&self, alloc: Global) -> Result<Regex, Error> {
-        let mut config = RegexConfig::new();
-        config.flags.case_insensitive = self.ignores_case;
-        let texts = self.texts(alloc)?;
-        match Regex::new_many(alloc, texts.as_slice(), config) {
-            Ok(regex) => Ok(regex),
-            Err(error) => Err(self.error_of(alloc, error)),
-        }
+    /// Returns whether groups of lines are separated: whether an option speaks of lines around.
+    pub fn separates(&self) -> bool {
+        self.before.is_some() || self.after.is_some() || self.around.is_some()
     }
 
-    /// Returns the texts of the patterns.
-    fn texts(&self, alloc: Global) -> Result<Vec<&str>, AllocError> {
-        let mut texts = Vec::new(alloc);
-        for pattern in &self.patterns {
-            texts.push(pattern.as_str())?;
-        }
-        Ok(texts)
+    /// Returns whether lines are printed, or matches.
+    pub fn prints_lines(&self) -> bool {
+        self.shows <= Shows::Matches
     }
 
-    /// Returns an error of the patterns with the text in which it is.
-    fn error_of(&self, alloc: Global, error: RegexError) -> Error {
-        match error {
-            RegexError::Compile(error) => Error::Compile(error),
-            RegexError::Parse { index, error } => {
-                let text = match self.patterns.get(index) {
-                    Some(pattern) => pattern.as_str(),
-                    None => "",
-                };
-                match String::from_str(alloc, text) {
-                    Ok(text) => Error::Parse { text, error },
-                    Err(error) => Error::from(error),
-                }
-            }
-        }
+    /// Returns whether one selected line decides what is printed of a file.
+    pub fn needs_one(&self) -> bool {
+        self.shows >= Shows::Names
     }
-
-    /// Takes an argument, and returns what the next one is.
-    fn take(
-        &mut self,
-        alloc: Global,
-        arg: String,
-        next: Next,
-        operands: &mut Vec<String>,
-    ) -> Result<Next, Error> {
-        match next {
-            Next::Pattern => {
-                self.patterns.push(arg)?;
-                Ok(Next::Any)
-            }
-            Next::Any if !is_operand(arg.as_str()) => match self.take_option(alloc, arg.as_str()) {
-                Ok(Some(next)) => Ok(next),
-                Ok(None) => Err(Error::UnknownOption(arg)),
-                Err(error) => Err(error),
-            },
-            Next::Any | Next::Operand => {
-                operands.push(arg)?;
-                Ok(next)
-            }
-        }
-    }
-
-    /// Takes an option: `--help`, `--`, which ends the options, or letters after a hyphen. Returns
-    /// what the next argument is, or `None` if there is no such option.
-    fn take_option(&mut self, alloc: Global, option: &str) -> Result<Option<Next>, Error> {
-        match option {
-            "--" => Ok(Some(Next::Operand)),
-            "--help" => {
-                self.helps = true;
-                Ok(Some(Next::Any))
-            }
-            _ => self.take_letters(alloc, option),
-        }
-    }
-
-    /// Takes the letters of an option, and returns what the next argument is, or `None` if there is
-    /// no option of one of the letters. What follows `e` is a pattern; if it is empty, the next
-    /// argument is.
-    fn take_letters(&mut self, alloc: Global, option: &str) -> Result<Option<Next>, Error> {
-        let letters = option.strip_prefix('-').unwrap_or(option);
-        let Some((letters, pattern)) = letters.split_once('e') else {
-            return Ok(self.set_all(letters, Next::Any));
-        };
-        if pattern.is_empty() {
-            return Ok(self.set_all(letters, Next::Pattern));
-        }
-        self.patterns.push(String::from_str(alloc, pattern)?)?;
-        Ok(self.set_all(letters, Next::Any))
-    }
-
-    /// Sets the options of the letters, and returns what the next argument is, or `None` if there
-    /// is no option of one of them.
-    fn set_all(&mut self, letters: &str, next: Next) -> Option<Next> {
-        for letter in letters.as_bytes() {
-            if !self.set(*letter) {
-                return None;
-            }
-        }
-        Some(next)
-    }
-
-    /// Sets the option of a letter. Returns whether there is one.
-    fn set(&mut self, letter: u8) -> bool {
-        match letter {
-            b'b' => self.offsets = true,
-            b'c' => self.shows = self.shows.max(Shows::Count),
-            b'i' => self.ignores_case = true,
-            b'l' => self.shows = self.shows.max(Shows::Names),
-            b'n' => self.numbers = true,
-            b'o' => self.shows = self.shows.max(Shows::Matches),
-            b'q' => self.shows = Shows::Nothing,
-            b'v' => self.inverts = true,
-            _ => return false,
-        }
-        true
-    }
-
-    /// Takes the operands, once all options are known.
-    fn take_operands(&mut self, rt: &HostRuntime, operands: Vec<String>) -> Result<(), Error> {
-        for operand in operands {
-            if self.patterns.is_empty() || is_pattern(rt, operand.as_str()) {
-                self.patterns.push(operand)?;
-            } else {
-                self.files.push(operand)?;
-            }
-        }
-        if self.patterns.is_empty() && !self.helps {
-            return Err(Error::NoPattern);
-        }
-        Ok(())
-    }
-}
-
-/// Returns whether an argument is an operand, and no option.
-fn is_operand(arg: &str) -> bool {
-    !arg.starts_with('-') || arg.len() == 1
-}
-
-/// Returns whether an operand behind the first pattern is one more pattern, and no file.
-fn is_pattern(rt: &HostRuntime, operand: &str) -> bool {
-    has_sign(operand) && matches!(fs::exists(rt, operand), Ok(false))
-}
-
-/// Returns whether a text has one of the signs that patterns have, and names of files seldom.
-fn has_sign(text: &str) -> bool {
-    for byte in text.as_bytes() {
-        if let b'[' | b'(' | b'*' | b'+' | b'?' | b'|' | b'^' | b'$' | b'{' | b'\\' = byte {
-            return true;
-        }
-    }
-    false
 }

@@ -1,0 +1,148 @@
+//! The names of the options.
+
+/// An option.
+#[derive(Clone, Copy, PartialEq, Eq)]
+pub enum Flag {
+    AfterContext,
+    BeforeContext,
+    BinaryAsText,
+    BinaryFiles,
+    BinarySkipped,
+    ByteOffset,
+    Color,
+    Context,
+    Count,
+    ExtendedRegexp,
+    File,
+    FilesWithMatches,
+    FilesWithoutMatch,
+    FixedStrings,
+    Help,
+    IgnoreCase,
+    InvertMatch,
+    LineNumber,
+    LineRegexp,
+    MaxCount,
+    NoFilename,
+    NoMessages,
+    NullData,
+    OnlyMatching,
+    PatternNumber,
+    Quiet,
+    Recursive,
+    Regexp,
+    Version,
+    WithFilename,
+    WordRegexp,
+}
+
+/// Whether an option has a value.
+#[derive(Clone, Copy, PartialEq, Eq)]
+pub enum Takes {
+    Nothing,
+    /// A value, which may only follow an equals sign.
+    Optional,
+    /// A value, which may be the next argument.
+    Value,
+}
+
+/// What the name of an option, or the beginning of one, means.
+#[derive(Clone, Copy, PartialEq, Eq)]
+pub enum Named {
+    Nothing,
+    One(Flag),
+    Several,
+}
+
+/// The letter of an option without one.
+const NONE: u8 = b'-';
+
+/// Each option with its letter and its name.
+const NAMES: [(u8, &str, Flag); 33] = [
+    (b'A', "after-context", Flag::AfterContext),
+    (b'B', "before-context", Flag::BeforeContext),
+    (b'C', "context", Flag::Context),
+    (b'E', "extended-regexp", Flag::ExtendedRegexp),
+    (b'F', "fixed-strings", Flag::FixedStrings),
+    (b'H', "with-filename", Flag::WithFilename),
+    (b'I', "", Flag::BinarySkipped),
+    (b'L', "files-without-match", Flag::FilesWithoutMatch),
+    (b'V', "version", Flag::Version),
+    (b'a', "text", Flag::BinaryAsText),
+    (b'b', "byte-offset", Flag::ByteOffset),
+    (b'c', "count", Flag::Count),
+    (b'e', "regexp", Flag::Regexp),
+    (b'f', "file", Flag::File),
+    (b'h', "no-filename", Flag::NoFilename),
+    (b'i', "ignore-case", Flag::IgnoreCase),
+    (b'l', "files-with-matches", Flag::FilesWithMatches),
+    (b'm', "max-count", Flag::MaxCount),
+    (b'n', "line-number", Flag::LineNumber),
+    (b'o', "only-matching", Flag::OnlyMatching),
+    (b'q', "quiet", Flag::Quiet),
+    (b'r', "recursive", Flag::Recursive),
+    (b's', "no-messages", Flag::NoMessages),
+    (b'v', "invert-match", Flag::InvertMatch),
+    (b'w', "word-regexp", Flag::WordRegexp),
+    (b'x', "line-regexp", Flag::LineRegexp),
+    (b'z', "null-data", Flag::NullData),
+    (NONE, "binary-files", Flag::BinaryFiles),
+    (NONE, "color", Flag::Color),
+    (NONE, "colour", Flag::Color),
+    (NONE, "help", Flag::Help),
+    (NONE, "pattern-number", Flag::PatternNumber),
+    (NONE, "silent", Flag::Quiet),
+];
+
+impl Flag {
+    /// Returns the option of a letter.
+    pub fn from_letter(letter: u8) -> Option<Flag> {
+        for (own, _, flag) in &NAMES {
+            if *own == letter && letter != NONE {
+                return Some(*flag);
+            }
+        }
+        None
+    }
+
+    /// Returns the option of a name, or else the one whose name begins like this.
+    pub fn from_name(name: &[u8]) -> Named {
+        let mut named = Named::Nothing;
+        for (_, own, flag) in &NAMES {
+            let own = own.as_bytes();
+            if own == name {
+                return Named::One(*flag);
+            }
+            if own.starts_with(name) {
+                named = named.or(*flag);
+            }
+        }
+        named
+    }
+
+    /// Returns whether the option has a value.
+    pub fn takes(self) -> Takes {
+        match self {
+            Flag::AfterContext
+            | Flag::BeforeContext
+            | Flag::BinaryFiles
+            | Flag::Context
+            | Flag::File
+            | Flag::MaxCount
+            | Flag::Regexp => Takes::Value,
+            Flag::Color => Takes::Optional,
+            _ => Takes::Nothing,
+        }
+    }
+}
+
+impl Named {
+    /// Returns what a beginning means with which one more name begins.
+    fn or(self, flag: Flag) -> Named {
+        match self {
+            Named::Nothing => Named::One(flag),
+            Named::One(other) if other == flag => self,
+            _ => Named::Several,
+        }
+    }
+}
