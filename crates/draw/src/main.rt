@@ -10,10 +10,15 @@ use determinize_pattern::{CompileError, Config, Pattern, compile};
 use determinize_syntax::{ParseError, parse};
 use std::alloc::{AllocError, AllocFailed, Global};
 use std::env::{self, Args};
-use std::io::{self, Print};
+use std::fmt;
+use std::io::{self, Print, Write};
+use std::process::ExitCode;
 
 /// The greatest number of states of the DFA before it is minimized.
 const LIMIT: usize = 1000;
+
+/// The exit status after an error.
+const FAILED: u8 = 2;
 
 /// A graph of the patterns.
 #[derive(Clone, Copy)]
@@ -35,11 +40,20 @@ impl Graph {
     }
 }
 
+/// The graphs to print, and the texts of the patterns.
+#[derive(Drop)]
+struct Request {
+    graphs: Vec<Graph>,
+    texts: Vec<String>,
+}
+
 /// An error that ends the program.
-#[derive(Debug, Drop)]
+#[derive(Drop)]
 enum Error {
+    /// There is no graph, or no pattern.
+    NothingToDraw,
     /// A pattern was not understood.
-    Parse(ParseError),
+    Parse { text: String, error: ParseError },
     /// The NFA of the patterns was not built.
     Compile(CompileError),
     /// Their DFA was not built.
@@ -48,9 +62,18 @@ enum Error {
     Io(io::Error),
 }
 
-impl From<ParseError> for Error {
-    fn from(error: ParseError) -> Error {
-        Error::Parse(error)
+impl fmt::Display for Error {
+    fn fmt<W: fmt::Write>(&self, f: &mut fmt::Formatter<W>) -> fmt::Result {
+        match self {
+            Error::NothingToDraw => f.write_str("usage: draw (nfa | dfa | search).. PATTERN.."),
+            Error::Parse { text, error } => {
+                let marked = error.display(text.as_str());
+                write!(f, "\n{marked}")
+            }
+            Error::Compile(error) => fmt::Display::fmt(error, f),
+            Error::Dfa(error) => fmt::Display::fmt(error, f),
+            Error::Io(error) => fmt::Display::fmt(error, f),
+        }
     }
 }
 
@@ -84,14 +107,30 @@ impl From<io::Error> for Error {
     }
 }
 
-/// Returns the patterns of the arguments, behind the names of graphs.
-fn read_patterns(alloc: Global, args: Args) -> Result<Vec<Pattern>, Error> {
-    let mut patterns = Vec::new(alloc);
+/// Returns the graphs and patterns that the arguments name, the graphs first.
+fn read_request(alloc: Global, args: Args) -> Result<Request, Error> {
+    let mut graphs = Vec::new(alloc);
+    let mut texts = Vec::new(alloc);
     for arg in args {
-        if patterns.is_empty() && Graph::from_name(arg.as_str()).is_some() {
-            continue;
+        match Graph::from_name(arg.as_str()) {
+            Some(graph) if texts.is_empty() => graphs.push(graph)?,
+            _ => texts.push(arg)?,
         }
-        patterns.push(parse(alloc, arg.as_str())?)?;
+    }
+    if graphs.is_empty() || texts.is_empty() {
+        return Err(Error::NothingToDraw);
+    }
+    Ok(Request { graphs, texts })
+}
+
+/// Returns the patterns of the texts.
+fn parse_all(alloc: Global, texts: Vec<String>) -> Result<Vec<Pattern>, Error> {
+    let mut patterns = Vec::new(alloc);
+    for text in texts {
+        match parse(alloc, text.as_str()) {
+            Ok(pattern) => patterns.push(pattern)?,
+            Err(error) => return Err(Error::Parse { text, error }),
+        }
     }
     Ok(patterns)
 }
@@ -127,34 +166,33 @@ fn smallest(alloc: Global, nfa: &NFA) -> Result<Dfa<&NFA>, Error> {
     Ok(dfa.minimize(alloc)?)
 }
 
-/// Prints each graph that the arguments name before the patterns.
-fn print_graphs(rt: &HostRuntime, nfa: &NFA, dfa: &Dfa<&NFA>) -> io::Result<()> {
-    for arg in args(rt)? {
-        match Graph::from_name(arg.as_str()) {
-            Some(graph) => print_graph(rt, graph, nfa, dfa)?,
-            None => break,
-        }
+/// Prints a graph of an NFA. The DFA is built only for a graph of it.
+fn print_graph(rt: &HostRuntime, graph: Graph, nfa: &NFA) -> Result<(), Error> {
+    match graph {
+        Graph::Nfa => print_nfa(rt, nfa)?,
+        Graph::Dfa => print_dfa(rt, &smallest(rt.alloc(), nfa)?)?,
+        Graph::Search => print_search(rt, rt.alloc(), &smallest(rt.alloc(), nfa)?)?,
     }
     Ok(())
 }
 
-/// Prints a graph.
-fn print_graph(rt: &HostRuntime, graph: Graph, nfa: &NFA, dfa: &Dfa<&NFA>) -> io::Result<()> {
-    match graph {
-        Graph::Nfa => print_nfa(rt, nfa),
-        Graph::Dfa => print_dfa(rt, dfa),
-        Graph::Search => print_search(rt, rt.alloc(), dfa),
+/// Prints the graphs that the arguments name.
+fn run(rt: &HostRuntime) -> Result<(), Error> {
+    let Request { graphs, texts } = read_request(rt.alloc(), args(rt)?)?;
+    let patterns = parse_all(rt.alloc(), texts)?;
+    let nfa = compile(rt.alloc(), patterns.as_slice(), Config::new())?;
+    for graph in &graphs {
+        print_graph(rt, *graph, &nfa)?;
     }
+    Ok(())
 }
 
-/// Prints the graphs of patterns.
-fn print_patterns(rt: &HostRuntime, patterns: &[Pattern]) -> Result<(), Error> {
-    let nfa = compile(rt.alloc(), patterns, Config::new())?;
-    let dfa = smallest(rt.alloc(), &nfa)?;
-    Ok(print_graphs(rt, &nfa, &dfa)?)
-}
-
-fn main(rt: HostRuntime) -> Result<(), Error> {
-    let patterns = read_patterns(rt.alloc(), args(&rt)?)?;
-    print_patterns(&rt, patterns.as_slice())
+fn main(rt: HostRuntime) -> ExitCode {
+    match run(&rt) {
+        Ok(()) => ExitCode::SUCCESS,
+        Err(error) => {
+            let _ = writeln!(rt.stderr(), "draw: {error}");
+            ExitCode::from(FAILED)
+        }
+    }
 }
