@@ -6,3 +6,4 @@ pub mod Reads
 pub mod Starting
 pub mod Trees
 pub mod Heads
+pub mod Words

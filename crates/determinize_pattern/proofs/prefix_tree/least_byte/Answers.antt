@@ -1,7 +1,7 @@
 use Rattle.std.below.core.specs.declared.int.usize.TheConstants.{MAX}
 use Rattle.std.proofs.Common.{◌+◌, ◌≤◌, arith, drop, refl, sym, take}
 use Rattle.std.proofs.lemmas.List.{take_all}
-use Rattle.determinize_pattern.proofs.compiled.Trees.{small_one, words_next}
+use Rattle.determinize_pattern.proofs.compiled.Words.{small_one, words_next}
 use Rattle.determinize_pattern.specs.Private.Words.{words_from}
 use Rattle.determinize_pattern.proofs.prefix_tree.least_byte.Goals as goal
 

@@ -1,5 +1,5 @@
 use Rattle.std.proofs.Common.{◌∙◌, sym}
-use Rattle.determinize_pattern.proofs.compiled.Trees.{least_kept, least_low, least_new, least_none}
+use Rattle.determinize_pattern.proofs.compiled.Words.{least_kept, least_low, least_new, least_none}
 use Rattle.determinize_pattern.proofs.prefix_tree.lesser.Goals as goal
 
 pub returns-in-Some-clause-added : goal.returns-in-Some-clause-added

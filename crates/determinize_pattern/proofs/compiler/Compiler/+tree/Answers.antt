@@ -3,7 +3,8 @@ use Rattle.std.proofs.lemmas.Grind.{common_steps}
 use Rattle.std.proofs.lemmas.List.{length-drop, take_all, take_rest}
 use Rattle.std.proofs.lemmas.Result.{IfOk-weaker}
 use Rattle.determinize_pattern.proofs.compiled.Compiling.{ok_both}
-use Rattle.determinize_pattern.proofs.compiled.Trees.{arms_more, arms_none, group_tree, no_tree, sparse_tree, tree_joined, trees_more, trees_none, word_tree, words_next, words_range}
+use Rattle.determinize_pattern.proofs.compiled.Trees.{arms_more, arms_none, group_tree, no_tree, sparse_tree, tree_joined, trees_more, trees_none, word_tree}
+use Rattle.determinize_pattern.proofs.compiled.Words.{words_next, words_range}
 use Rattle.determinize_pattern.specs.Private.Words.{words_from}
 use Rattle.determinize_pattern.proofs.compiler.Compiler.+tree.Goals as goal
 

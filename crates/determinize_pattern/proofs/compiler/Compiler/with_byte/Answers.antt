@@ -1,5 +1,5 @@
 use Rattle.std.proofs.Common.{◌∙◌, sym}
-use Rattle.determinize_pattern.proofs.compiled.Trees.{found_more, found_same}
+use Rattle.determinize_pattern.proofs.compiled.Words.{found_more, found_same}
 use Rattle.determinize_pattern.proofs.compiler.Compiler.with_byte.Goals.{then-has+in_ok-push, else-has}
 use Rattle.determinize_pattern.proofs.compiler.Compiler.with_byte.Goals as goal
 
