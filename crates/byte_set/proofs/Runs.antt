@@ -35,7 +35,7 @@ IsRun-lanes bits v given m long looked marked =
     IsRun-marks bits v 0 16 (omega arith) (omega arith) m
     (marked ∙ ap (λ u. mask_l (map is_some_bit u)) (looked ∙ ap (map bits) (sym (take_all 16 v (omega arith)))))
 
--- with 64 lanes the lowest set bit tells, also where there is none
+-- of 64 lanes the number of zeros below the lowest set bit, which is 64 if no bit is set
 pub trailing_64 : (m : ℕ) → cond (eqb m 0) 64 (count_trailing_zeros 64 m) ≡ count_trailing_zeros 64 m
 trailing_64 m =
     ⊎_elim (λ none. ap (λ k. cond (eqb k 0) 64 (count_trailing_zeros 64 k)) none

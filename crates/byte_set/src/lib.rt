@@ -13,6 +13,8 @@ ghost use Rattle.byte_set.specs.Tables.{bits_of, passes, same_bits, set_of};
 
 mod lanes;
 mod tables;
+#[cfg(test)]
+mod tests;
 
 use lanes::{FEW, FEWER, LookUp, MANY, One, Tables};
 use std::marker::Model;

@@ -35,7 +35,7 @@ fn entry(members: &[bool; 256], first: usize) -> u8
     entry
 }
 
-/// Returns the only byte that has a flag, or `None` if there is another one, or none.
+/// Returns the byte that has a flag if there is exactly one, and else `None`.
 pub(crate) fn only_member(members: &[bool; 256]) -> Option<u8>
     ensures { IfSome result (IsOnly members.now) }
 {
