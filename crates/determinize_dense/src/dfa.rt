@@ -14,7 +14,8 @@ ghost use Rattle.determinize_dense.specs.declared.error.DfaError.TheVariants.{To
 use crate::build::Builder;
 use crate::error::DfaError;
 use crate::rows::Rows;
-use crate::scans::TABLES;
+use crate::scans::SETS;
+use byte_set::ByteSet;
 use determinize_below::alphabet::ByteClasses;
 use determinize_below::{AsNfa, MatchKind, NFA, PatternID};
 use determinize_core::start::{StartSlot, start_kind_of};
@@ -36,8 +37,8 @@ const LIST: usize = size_of::<Vec<PatternID>>();
 ///
 /// First is the row of the dead state, then come the rows that list patterns, then those that a
 /// search scans out of, and then the others. So after the first 64 bytes a search mostly compares
-/// once for each byte. The first four rows that are scanned out of have a table of 256 bytes each,
-/// by which a scan reads eight bytes at once: a kilobyte in each `Dfa`, however few rows it has.
+/// once for each byte. The first eight rows that are scanned out of have a set of the bytes that
+/// leave them, by which a scan reads up to 64 bytes at once: 34 bytes each, in the `Dfa` itself.
 pub struct Dfa<R: AsNfa, A: Allocator = Global> {
     pub(crate) nfa: R,
     pub(crate) match_kind: MatchKind,
@@ -54,9 +55,8 @@ pub struct Dfa<R: AsNfa, A: Allocator = Global> {
     pub(crate) last_special: usize,
     /// The number of the first row that is scanned out of, if there is one.
     pub(crate) first_scanned: usize,
-    /// The tables of the first rows that are scanned out of: for each byte 0 if it does not leave
-    /// the row, and else 1.
-    pub(crate) leaving: [[u8; 256]; TABLES],
+    /// The sets of the bytes that leave the first rows that are scanned out of.
+    pub(crate) leaving: [ByteSet; SETS],
     /// `SCALE` divided by the length of a row, rounded down, plus 1. Its product with the offset of
     /// row `r` is at least `r` times `SCALE`, and less than `r + 1` times. So a search needs no
     /// division to look up the patterns of a row.
@@ -225,8 +225,8 @@ impl<R: AsNfa, A: Allocator + Copy> Dfa<R, A> {
 
     /// Returns the heap memory of the DFA in bytes, without spare capacity: four bytes for each
     /// entry, and for each row 24 bytes and four for each pattern that it lists. An allocator that
-    /// has a size is not counted, although each row has a copy of it. The tables for scans are in
-    /// the `Dfa` itself.
+    /// has a size is not counted, although each row has a copy of it. The sets for scans are in the
+    /// `Dfa` itself.
     pub fn memory_usage(&self) -> usize
         ensures { result ≡ min (bytes_of self.now.table) usize.MAX }
     {

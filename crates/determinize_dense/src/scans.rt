@@ -1,27 +1,29 @@
 //! Scans: a search stays in a row while the bytes that it reads do not leave it. Pauses say when it
 //! does not scan; no match depends on them.
 //!
-//! The first few rows that are scanned out of have a table of 256 bytes each, by which a scan reads
-//! eight bytes of a text at once.
+//! The first few rows that are scanned out of have a set of the bytes that leave them. By it a scan
+//! reads many bytes of a text at once.
 
-ghost use Rattle.std.specs.Prelude.{◌+◌, ◌<◌, ◌≤◌, ◌^◌, ℕ, IsTrue, length};
+ghost use Rattle.std.specs.Prelude.{◌+◌, ◌<◌, ◌≤◌, ℕ, IsTrue, length};
 ghost use Rattle.std.specs.Option.{IfSome};
+ghost use Rattle.byte_set.specs.Sets.{HasNone, is_member};
 ghost use Rattle.determinize_dense.specs.Private.Rows.{IsOffset, IsRowAt};
-ghost use Rattle.determinize_dense.specs.Private.Scans.{AreAllStaying, AreZeros, IsStaying};
+ghost use Rattle.determinize_dense.specs.Private.Scans.{AreAllStaying, IsPassed, IsStaying};
 ghost use Rattle.determinize_dense.specs.Private.Searching.{IsScan};
 
 use crate::dfa::Dfa;
 use crate::rows::Rows;
+use byte_set::ByteSet;
 use determinize_below::AsNfa;
 use determinize_engine::state_table::MAX_STATES;
 use determinize_engine::text::Text;
 use std::alloc::Allocator;
 
-/// The number of rows that have a table.
-pub(crate) const TABLES: usize = 4;
+/// The number of rows that have a set.
+pub(crate) const SETS: usize = 8;
 
-/// The number of bytes that a scan reads at once.
-const AT_ONCE: usize = 8;
+/// The number of bytes that a scan looks up first, all at once.
+const AT_ONCE: usize = 16;
 
 /// The number of bytes that a search reads before it scans.
 pub(crate) const FIRST: usize = 64;
@@ -77,64 +79,96 @@ impl Pauses {
     }
 }
 
-/// Returns whether a table has a 0 for each of eight bytes of a text, from an index on.
+/// Returns whether none of the next sixteen bytes of a text is in a set.
+///
+/// - `read` is the number of bytes read before.
 #[inline(always)]
-fn are_zeros(table: &[u8; 256], text: &Text<'_>, from: usize) -> bool
-    requires within { from + AT_ONCE ≤ length text.now.bytes }
-    requires limit { from + AT_ONCE < 2 ^ 63 }
-    ensures { IsTrue result → AreZeros table.now text.now from (from + AT_ONCE) }
+fn has_none(set: &ByteSet, text: &Text<'_>, read: usize) -> bool
+    requires { read + AT_ONCE ≤ length text.now.bytes }
+    ensures { IsTrue result
+        → HasNone (is_member set.now) text.now.bytes read (read + AT_ONCE) }
 {
-    let mut any = 0;
-    for index in 0..AT_ONCE {
-        any |= table[usize::from(text.byte(from + index))];
+    let (bytes, is_backward) = text.haystack_bytes();
+    if is_backward {
+        return set.has_none(bytes, bytes.len() - read - AT_ONCE);
     }
-    any == 0
+    set.has_none(bytes, read)
+}
+
+/// Returns the index of the next byte of a text that is in a set, or the length of the text.
+///
+/// - `read` is the number of bytes read before.
+#[inline(never)]
+fn find(set: &ByteSet, text: &Text<'_>, read: usize) -> usize
+    requires { read ≤ length text.now.bytes }
+    ensures { IsPassed set.now text.now read result }
+{
+    let (bytes, is_backward) = text.haystack_bytes();
+    let len = bytes.len();
+    if is_backward {
+        match set.rfind(bytes, 0, len - read) {
+            Some(index) => len - 1 - index,
+            None => len,
+        }
+    } else {
+        match set.find(bytes, read, len) {
+            Some(index) => index,
+            None => len,
+        }
+    }
 }
 
 impl<R: AsNfa, A: Allocator + Copy> Rows<R, A> {
-    /// Returns the table of a row: for each byte 0 if it does not leave the row, and else 1.
-    fn leaving(&self, row: usize) -> [u8; 256]
-        requires { row < length self.now.table.patterns }
+    /// Returns the set of the bytes that leave a row, or of all bytes if the row is after the last
+    /// one that is scanned out of.
+    fn leaving(&self, row: usize, last: usize) -> ByteSet
+        requires { last < length self.now.table.patterns }
         ensures { IsStaying self.now.table row result }
     {
-        let mut leaving = [1; 256];
+        if row > last {
+            return ByteSet::all();
+        }
+        let mut leaving = [true; 256];
         for byte in 0..=u8::MAX {
             if self.entry(row, usize::from(self.classes.get(byte))) == row {
-                leaving[usize::from(byte)] = 0;
+                leaving[usize::from(byte)] = false;
             }
         }
-        leaving
+        ByteSet::new(&leaving)
     }
 
-    /// Returns the tables of up to four rows: row `first` and those after it, up to `last`. A table
-    /// without a row is all 1.
-    pub(crate) fn all_leaving(&self, first: usize, last: usize) -> [[u8; 256]; TABLES]
+    /// Returns the sets of row `first` and the rows after it. `last` is the last row that is
+    /// scanned out of.
+    pub(crate) fn all_leaving(&self, first: usize, last: usize) -> [ByteSet; SETS]
         requires first { first ≤ MAX_STATES }
         requires last { last < length self.now.table.patterns }
         ensures { AreAllStaying self.now.table first result }
     {
-        let mut tables = [[1; 256]; TABLES];
-        for index in 0..TABLES {
-            if first + index <= last {
-                tables[index] = self.leaving(first + index);
-            }
-        }
-        tables
+        [
+            self.leaving(first, last),
+            self.leaving(first + 1, last),
+            self.leaving(first + 2, last),
+            self.leaving(first + 3, last),
+            self.leaving(first + 4, last),
+            self.leaving(first + 5, last),
+            self.leaving(first + 6, last),
+            self.leaving(first + 7, last),
+        ]
     }
 }
 
 impl<R: AsNfa, A: Allocator + Copy> Dfa<R, A> {
-    /// Returns the table of a row, if it has one: 0 only for bytes that do not leave the row.
+    /// Returns the set of a row, if it has one: each byte that leaves the row is in it.
     ///
     /// - `row` is the offset of the row.
     #[inline(always)]
-    fn leaving(&self, row: usize) -> Option<&[u8; 256]>
+    fn leaving(&self, row: usize) -> Option<&ByteSet>
         requires { IsOffset self.now.table row }
-        ensures { IfSome result (λ table. (r : ℕ) → IsRowAt self.now.table row r
-            → IsStaying self.now.table r table.now) }
+        ensures { IfSome result (λ set. (r : ℕ) → IsRowAt self.now.table row r
+            → IsStaying self.now.table r set.now) }
     {
         let number = self.row_number(row);
-        if number < self.first_scanned || number - self.first_scanned >= TABLES {
+        if number < self.first_scanned || number - self.first_scanned >= SETS {
             return None;
         }
         Some(&self.leaving[number - self.first_scanned])
@@ -157,44 +191,9 @@ impl<R: AsNfa, A: Allocator + Copy> Dfa<R, A> {
         read
     }
 
-    /// Returns the index of the first byte that leaves a row, or a smaller index: eight bytes are
-    /// read at a time, for as long as none of the eight leaves the row by its table. Without a
-    /// table it is `read`.
-    ///
-    /// - `row` is the offset of the row, and `read` the number of bytes read before.
-    #[inline(always)]
-    fn scan_by_table(&self, row: usize, text: &Text<'_>, read: usize) -> usize
-        requires row { IsOffset self.now.table row }
-        requires read { read ≤ length text.now.bytes }
-        ensures { IsScan self.now.table row text.now read (length text.now.bytes) result }
-    {
-        let Some(table) = self.leaving(row) else {
-            return read;
-        };
-        let mut read = read;
-        while text.len() - read >= AT_ONCE && are_zeros(table, text, read) {
-            read += AT_ONCE;
-        }
-        read
-    }
-
     /// Returns the index of the first byte from `read` on that leaves a row, or the length of the
-    /// text: by the table of the row, if it has one, and then byte by byte.
-    ///
-    /// - `row` is the offset of the row, and `read` the number of bytes read before.
-    #[inline(never)]
-    fn scan_far(&self, row: usize, text: &Text<'_>, read: usize) -> usize
-        requires row { IsOffset self.now.table row }
-        requires read { read ≤ length text.now.bytes }
-        ensures { IsScan self.now.table row text.now read (length text.now.bytes) result }
-    {
-        let read = self.scan_by_table(row, text, read);
-        self.scan_upto(row, text, read, text.len())
-    }
-
-    /// Returns the index of the first byte from `read` on that leaves a row, or the length of the
-    /// text, but `read` where a scan by the table of the row would be over at once: fewer than
-    /// eight bytes are left, or one of the next eight leaves the row.
+    /// text, but `read` where a scan by the set of the row would be over soon: fewer than sixteen
+    /// bytes are left, or one of the next sixteen leaves the row.
     ///
     /// - `row` is the offset of the row, and `read` the number of bytes read before.
     ///
@@ -206,12 +205,12 @@ impl<R: AsNfa, A: Allocator + Copy> Dfa<R, A> {
         requires read { read ≤ length text.now.bytes }
         ensures { IsScan self.now.table row text.now read (length text.now.bytes) result }
     {
-        let Some(table) = self.leaving(row) else {
+        let Some(set) = self.leaving(row) else {
             return self.scan_upto(row, text, read, text.len());
         };
-        if text.len() - read < AT_ONCE || !are_zeros(table, text, read) {
+        if text.len() - read < AT_ONCE || !has_none(set, text, read) {
             return read;
         }
-        self.scan_far(row, text, read + AT_ONCE)
+        find(set, text, read + AT_ONCE)
     }
 }

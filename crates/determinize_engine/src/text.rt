@@ -118,6 +118,14 @@ impl<'h> Text<'h> {
         self.bytes.len()
     }
 
+    /// Returns the bytes in the order of the haystack, and whether they are read backward.
+    #[inline(always)]
+    pub fn haystack_bytes(&self) -> (&'h [u8], bool)
+        ensures { self.now.bytes ≡ in_order result.1 result.0.now }
+    {
+        (self.bytes, self.is_backward)
+    }
+
     /// Returns the byte at an index.
     #[inline(always)]
     #[tactic(auto, using(crate::proofs::Texts::reading))]

@@ -1,5 +1,5 @@
 -- The order of rows: row 0, the rows that list patterns, those that are scanned, and the others.
-use Rattle.std.specs.Prelude.{◌≡◌, ◌<◌, ◌≤◌, ℕ, List, [], length, slice_index, true}
+use Rattle.std.specs.Prelude.{◌≡◌, ◌<◌, ◌≤◌, ℕ, Bool, List, [], length, slice_index, true}
 use Rattle.determinize_state.specs.Value.{is_nonempty}
 use Rattle.determinize_dense.specs.Dfa.{IsDfaOf}
 use Rattle.determinize_dense.specs.Least.{IsLeast}
@@ -21,10 +21,10 @@ pub record IsOrdered (d : Table) (last_match last_special : ℕ) : Type 0 where
   pub none : ListsNoneAbove d last_match
   pub more : last_match ≤ last_special
 
--- a DFA in order, whose entries are stored as offsets, with the tables of rows from the first one
+-- a DFA in order, whose entries are stored as offsets, with the sets of rows from the first one
 -- that is scanned on, and the inverse of its row length
 pub record IsArranged (v : DfaValue) (offsets : List ℕ) (last_match last_special first_scanned : ℕ)
-    (leaving : List (List ℕ)) (inverse : ℕ) : Type 0 where
+    (leaving : List (List Bool)) (inverse : ℕ) : Type 0 where
   pub stored : IsStored v offsets
   pub ordered : IsOrdered v.table last_match last_special
   pub staying : AreAllStaying v.table first_scanned leaving
