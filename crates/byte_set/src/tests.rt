@@ -1,4 +1,4 @@
-//! Texts of each length up to 200 from each of 64 indexes, beside loops over their bytes.
+//! Texts of each length up to 200 from each of 64 indexes, compared with loops over their bytes.
 
 ghost use Rattle.std.specs.Prelude.{◌≤◌};
 

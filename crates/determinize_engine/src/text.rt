@@ -118,7 +118,7 @@ impl<'h> Text<'h> {
         self.bytes.len()
     }
 
-    /// Returns the bytes in the order of the haystack, and whether they are read backward.
+    /// Returns the bytes in the order of the haystack, and whether the text reads them in reverse.
     #[inline(always)]
     pub fn haystack_bytes(&self) -> (&'h [u8], bool)
         ensures { self.now.bytes ≡ in_order result.1 result.0.now }
