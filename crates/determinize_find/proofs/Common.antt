@@ -24,7 +24,6 @@ pub use Rattle.determinize_engine.specs.Searches.{has_start, HasMatch, in_haysta
 unfoldable pub use Rattle.determinize_engine.specs.Searches.{last_in}
 pub use Rattle.determinize_engine.specs.UnitsRead.{units_read}
 pub use Rattle.determinize_find.specs.Certain.{certain_after, certain_match, IsUnsettled}
-pub use Rattle.determinize_find.specs.Endings.{IsEnding}
 pub use Rattle.determinize_find.specs.Idle.{IsIdle}
 pub use Rattle.determinize_find.specs.Laws.{EachBusyHasBegun, EachCertainIsPreferred, EachIdleIsFresh}
 pub use Rattle.determinize_find.specs.Laws.{EachInputHasMatches, EachStartIsCovered, end_of}
@@ -48,13 +47,11 @@ pub use Rattle.determinize_nfa.proofs.runs.SameChoices.{free_more, one_choice, s
 pub use Rattle.determinize_nfa.proofs.runs.Shifts.{each_run_moves, each_run_reads_forward, slice_get-drop}
 pub use Rattle.determinize_nfa.specs.Leftmost.{IsLeftmost, IsLeftmostMatch, NothingFrom}
 pub use Rattle.determinize_nfa.specs.Prefix.{HasPrefix, HasPrefixApart, leads_to}
-pub use Rattle.determinize_nfa.specs.Reversal.{IsReverseOf, turned, upto}
 pub use Rattle.determinize_nfa.specs.Runs.{AcceptsFrom, since}
 pub use Rattle.determinize_start.specs.StartKinds.{byte_before}
 pub use Rattle.ordered_reach.proofs.graph.PathMaps.{path_agree}
 pub use Rattle.ordered_reach.proofs.lists.Elements.{Contains_In}
 pub use Rattle.ordered_reach.proofs.lists.Lexicographic.{Before-asym, Before-trans, same_least}
-pub use Rattle.std.proofs.Common.{Fits, IfOk, w8}
 pub use Rattle.std.proofs.lemmas.Bool.{cases_eq, cases_lt, cases_order, le-ltb, lt-ltb, ltb-false, ltb-true, ne_eqb}
 pub use Rattle.std.proofs.lemmas.List.{drop-append-le, drop-drop, drop-take, drop_all, length-drop, nil_from_length}
 pub use Rattle.std.proofs.lemmas.List.{take-append-le, take-take, take_rest}

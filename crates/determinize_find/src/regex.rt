@@ -20,6 +20,7 @@ ghost use Rattle.determinize_find.specs.FullMatches.{IsFullMatch};
 ghost use Rattle.determinize_find.specs.Private.Begins.{IsBeginOf, IsEndOf};
 ghost use Rattle.determinize_find.specs.Private.Windows.{IsCertain, IsFresh, IsInside};
 ghost use Rattle.determinize_nfa.specs.Reversal.{IsReverseOf, IsTooLarge, most_states};
+ghost use Rattle.determinize_find.specs.Regexes.{IsBackward, IsForward, value_of, with_limit};
 ghost use Rattle.determinize_find.specs.Streams.{IsEndScan};
 ghost use Rattle.determinize_lazy.specs.MostBytes.{most_bytes};
 ghost use Rattle.determinize_table.specs.CacheBytes.{cache_bytes};
@@ -47,24 +48,19 @@ use std::marker::Model;
 pub struct Regex<F: Engine, B: Engine<Error = F::Error>> {
     forward: F,
     backward: B,
-    // Whether it is known that the prefix of the NFA is apart (`has_prefix_apart`).
-    is_apart: bool,
+    // Set only if the prefix of the NFA is apart (`has_prefix_apart`), which is else not known.
+    is_known_apart: bool,
 }
 
 impl<F: Engine, B: Engine<Error = F::Error>> Model for Regex<F, B> {
-    ghost use Rattle.determinize_find.specs.Regexes.{RegexValue};
+    ghost use Rattle.determinize_find.specs.Regexes.{RegexValue, value_of};
     ghost use Rattle.determinize_find.specs.Private.Pairs.{IsPair};
 
     ghost Value = { RegexValue };
 
-    ghost view = { λ r. record {
-      nfa = (F.engine r.forward).nfa;
-      backward = (B.engine r.backward).nfa;
-      limit = (F.engine r.forward).limit;
-      limit_backward = (B.engine r.backward).limit;
-    } };
+    ghost view = { λ r. value_of (F.engine r.forward) (B.engine r.backward) };
 
-    ghost invariant = { λ r. IsPair (F.engine r.forward) (B.engine r.backward) r.is_apart };
+    ghost invariant = { λ r. IsPair (F.engine r.forward) (B.engine r.backward) r.is_known_apart };
 }
 
 impl<F: Engine, B: Engine<Error = F::Error>> Regex<F, B> {
@@ -80,52 +76,33 @@ impl<F: Engine, B: Engine<Error = F::Error>> Regex<F, B> {
         requires forward { (F.engine forward).nfa.reverse ≡ false }
         requires prefix { HasPrefix (F.engine forward).nfa }
         requires reverse { IsReverseOf (B.engine backward).nfa (F.engine forward).nfa }
-        ensures { result ≡ record {
-          nfa = (F.engine forward).nfa;
-          backward = (B.engine backward).nfa;
-          limit = (F.engine forward).limit;
-          limit_backward = (B.engine backward).limit;
-        } }
+        ensures { result ≡ value_of (F.engine forward) (B.engine backward) }
     {
         Regex {
             forward,
             backward,
-            is_apart: false,
+            is_known_apart: false,
         }
     }
 
     /// Returns the DFA that finds the ends of matches.
     pub fn forward(&self) -> &F
-        ensures nfa { (F.engine result.now).nfa ≡ self.now.nfa }
-        ensures forward { self.now.nfa.reverse ≡ false }
-        ensures prefix { HasPrefix self.now.nfa }
-        ensures kind { (F.engine result.now).kind ≡ kinds.LeftmostFirst }
-        ensures limit { (F.engine result.now).limit ≡ self.now.limit }
+        ensures { IsForward self.now (F.engine result.now) }
     {
         &self.forward
     }
 
     /// Returns the DFA that reads backward and finds the starts of matches.
     pub fn backward(&self) -> &B
-        ensures nfa { (B.engine result.now).nfa ≡ self.now.backward }
-        ensures reverse { IsReverseOf (B.engine result.now).nfa self.now.nfa }
-        ensures kind { (B.engine result.now).kind ≡ kinds.All }
-        ensures limit { (B.engine result.now).limit ≡ self.now.limit_backward }
+        ensures { IsBackward self.now (B.engine result.now) }
     {
         &self.backward
     }
 
     /// Returns both DFAs, the one that finds the ends of matches first.
     pub fn into_engines(self) -> (F, B)
-        ensures nfa { (F.engine result.0).nfa ≡ self.nfa }
-        ensures forward { self.nfa.reverse ≡ false }
-        ensures prefix { HasPrefix self.nfa }
-        ensures kind { (F.engine result.0).kind ≡ kinds.LeftmostFirst }
-        ensures limit { (F.engine result.0).limit ≡ self.limit }
-        ensures nfa_backward { (B.engine result.1).nfa ≡ self.backward }
-        ensures reverse { IsReverseOf (B.engine result.1).nfa self.nfa }
-        ensures kind_backward { (B.engine result.1).kind ≡ kinds.All }
-        ensures limit_backward { (B.engine result.1).limit ≡ self.limit_backward }
+        ensures forward { IsForward self (F.engine result.0) }
+        ensures backward { IsBackward self (B.engine result.1) }
     {
         (self.forward, self.backward)
     }
@@ -281,18 +258,13 @@ impl<R: AsNfa, Q: AsNfa, A: Allocator + Copy> Regex<LazyDfa<R, A>, LazyDfa<Q, A>
         requires forward { (R.nfa nfa).reverse ≡ false }
         requires prefix { HasPrefix (R.nfa nfa) }
         requires reverse { IsReverseOf (Q.nfa backward) (R.nfa nfa) }
-        ensures { result ≡ record {
-          nfa = R.nfa nfa;
-          backward = Q.nfa backward;
-          limit = limit;
-          limit_backward = limit;
-        } }
+        ensures { result ≡ with_limit (R.nfa nfa) (Q.nfa backward) limit }
     {
-        let is_apart = has_prefix_apart(nfa.nfa());
+        let is_known_apart = has_prefix_apart(nfa.nfa());
         Regex {
             forward: LazyDfa::new_by_class(alloc, nfa, MatchKind::LeftmostFirst, limit),
             backward: LazyDfa::new_by_class(alloc, backward, MatchKind::All, limit),
-            is_apart,
+            is_known_apart,
         }
     }
 
@@ -304,12 +276,7 @@ impl<R: AsNfa, Q: AsNfa, A: Allocator + Copy> Regex<LazyDfa<R, A>, LazyDfa<Q, A>
         alloc: C,
         limit: usize,
     ) -> Regex<LazyDfa<&NFA<R::N>, C>, LazyDfa<&NFA<Q::N>, C>>
-        ensures value { result ≡ record {
-          nfa = self.now.nfa;
-          backward = self.now.backward;
-          limit = limit;
-          limit_backward = limit;
-        } }
+        ensures value { result ≡ with_limit self.now.nfa self.now.backward limit }
         ensures accepted { IsAccepted self.now.nfa }
     {
         Regex {
@@ -317,7 +284,7 @@ impl<R: AsNfa, Q: AsNfa, A: Allocator + Copy> Regex<LazyDfa<R, A>, LazyDfa<Q, A>
                 .forward
                 .borrowed(alloc, MatchKind::LeftmostFirst, limit),
             backward: self.backward.borrowed(alloc, MatchKind::All, limit),
-            is_apart: self.is_apart,
+            is_known_apart: self.is_known_apart,
         }
     }
 
@@ -480,7 +447,7 @@ impl<R: AsNfa, A: Allocator + Copy, B: Engine<Error = AllocError>> Regex<LazyDfa
     fn is_apart(&self) -> bool
         ensures { Decides result (HasPrefixApart self.now.nfa) }
     {
-        self.is_apart || has_prefix_apart(self.forward.nfa())
+        self.is_known_apart || has_prefix_apart(self.forward.nfa())
     }
 
     /// Returns whether the search of the bytes of a haystack from an index on has read some of
