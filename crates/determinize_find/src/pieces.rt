@@ -12,8 +12,8 @@ ghost use Rattle.determinize_find.specs.Idle.{IsIdle};
 ghost use Rattle.determinize_find.specs.LeftmostIn.{moved};
 ghost use Rattle.determinize_nfa.specs.Prefix.{HasPrefixApart};
 ghost use Rattle.determinize_find.specs.Private.Windows.{HasMoved, IsCertain, IsFresh, IsInside};
-ghost use Rattle.determinize_find.specs.Private.Windows.{IsPlaceOf, past_match, with_bytes};
-ghost use Rattle.determinize_find.specs.Private.Windows.{with_scan};
+ghost use Rattle.determinize_find.specs.Private.Windows.{IsPlaceOf, IsStep, past_match};
+ghost use Rattle.determinize_find.specs.Private.Windows.{with_bytes, with_scan};
 ghost use Rattle.determinize_find.specs.Streams.{IsAdvance, IsFed, IsFeeding, IsFinished};
 ghost use Rattle.determinize_find.specs.Streams.{IsFoundInBlock, IsKept, IsSearching};
 ghost use Rattle.determinize_find.specs.Streams.{IsStream, KeepsFew, KeptFewInBlocks, count_kept};
@@ -296,12 +296,8 @@ impl<A: Allocator + Copy> Pieces<A> {
         &mut self,
         regex: &mut Regex<LazyDfa<R, A>, B>,
     ) -> Result<Option<Match>, AllocError>
-        ensures moved { IsSearching regex.old.nfa self.old
-            → HasMoved regex.old.nfa self.old self.new }
-        ensures certain { IsSearching regex.old.nfa self.old → IfOk result (λ next. IfSome next
-            (λ m. IsCertain regex.old.nfa self.new.kept self.new.start m)) }
-        ensures few { IsSearching regex.old.nfa self.old → IfOk result
-            (λ next. IfNone next (KeepsFew regex.old.nfa self.new)) }
+        ensures step { IsSearching regex.old.nfa self.old
+            → IsStep regex.old.nfa self.old self.new result }
         ensures inside { IfOk result (λ next. IfSome next
             (λ m. IsInside (length self.new.kept) self.new.start m)) }
         ensures taken { IfOk result (λ next. IfSome next
@@ -313,10 +309,10 @@ impl<A: Allocator + Copy> Pieces<A> {
         let next = self.certain_now(regex)?;
         if next.is_some() {
             self.end_scan();
-        } else {
-            self.settle(regex)?;
+            return Ok(next);
         }
-        Ok(next)
+        self.settle(regex)?;
+        Ok(None)
     }
 
     /// Returns the next match if it is certain, as `certain` does. But an empty match where the one
@@ -326,12 +322,8 @@ impl<A: Allocator + Copy> Pieces<A> {
         &mut self,
         regex: &mut Regex<LazyDfa<R, A>, B>,
     ) -> Result<Option<Match>, AllocError>
-        ensures moved { IsSearching regex.old.nfa self.old
-            → HasMoved regex.old.nfa self.old self.new }
-        ensures certain { IsSearching regex.old.nfa self.old → IfOk result (λ next. IfSome next
-            (λ m. IsCertain regex.old.nfa self.new.kept self.new.start m)) }
-        ensures few { IsSearching regex.old.nfa self.old → IfOk result
-            (λ next. IfNone next (KeepsFew regex.old.nfa self.new)) }
+        ensures step { IsSearching regex.old.nfa self.old
+            → IsStep regex.old.nfa self.old self.new result }
         ensures place { IfOk result (λ next. IfSome next (λ m. IsPlaceOf m self.new)) }
         ensures left { left_in [] self.new ≤ left_in [] self.old }
         ensures same { regex.new ≡ regex.old }

@@ -1,6 +1,6 @@
 //! The leftmost match by two searches: one forward for its end, and one backward for its start.
 
-ghost use Rattle.std.specs.Prelude.{◌≡◌, ◌+◌, ◌++◌, ◌-◌, ◌<◌, ◌≤◌, ℕ, List, None, Option, [], drop};
+ghost use Rattle.std.specs.Prelude.{◌≡◌, ◌+◌, ◌++◌, ◌-◌, ◌<◌, ◌≤◌, ℕ, List, None, Option, []};
 ghost use Rattle.std.specs.Prelude.{false, length, min, true, IfErr, IfOk, IsSome, Ok, OnErr, OnOk};
 ghost use Rattle.std.specs.Bool.{Decides};
 ghost use Rattle.std.specs.Option.{IfNone, IfSome};
@@ -8,7 +8,6 @@ ghost use Rattle.determinize_below.specs.Edges.{pattern_count};
 ghost use Rattle.determinize_below.specs.Nfa.{IsAccepted};
 ghost use Rattle.determinize_below.specs.Search.{is_done};
 ghost use Rattle.determinize_below.specs.declared.search.MatchKind.TheVariants as kinds;
-ghost use Rattle.determinize_start.specs.StartKinds.{byte_before};
 ghost use Rattle.determinize_engine.specs.Searches.{HasMatch, has_start};
 ghost use Rattle.determinize_find.specs.Certain.{IsUnsettled};
 ghost use Rattle.determinize_find.specs.Idle.{IsIdle};
@@ -21,7 +20,7 @@ ghost use Rattle.determinize_find.specs.Private.Begins.{IsBeginOf, IsEndOf};
 ghost use Rattle.determinize_find.specs.Private.Windows.{IsCertain, IsFresh, IsInside};
 ghost use Rattle.determinize_nfa.specs.Reversal.{IsReverseOf, IsTooLarge, most_states};
 ghost use Rattle.determinize_find.specs.Regexes.{IsBackward, IsForward, value_of, with_limit};
-ghost use Rattle.determinize_find.specs.Streams.{IsEndScan};
+ghost use Rattle.determinize_find.specs.Streams.{IsEndScan, IsScanOf};
 ghost use Rattle.determinize_lazy.specs.MostBytes.{most_bytes};
 ghost use Rattle.determinize_table.specs.CacheBytes.{cache_bytes};
 
@@ -379,8 +378,7 @@ impl<R: AsNfa, A: Allocator + Copy, B: Engine<Error = AllocError>> Regex<LazyDfa
     #[inline(always)]
     pub(crate) fn scan(&mut self, haystack: &[u8], start: usize) -> Result<Scan<A>, AllocError>
         requires { start ≤ length haystack.now }
-        ensures scan { IfOk result (λ scan. IsEndScan self.old.nfa
-            (byte_before haystack.now start) (drop start haystack.now) scan) }
+        ensures scan { IfOk result (IsScanOf self.old.nfa haystack.now start) }
         ensures read { IfOk result (λ scan. scan.read ≡ length haystack.now - start) }
         ensures same { self.new ≡ self.old }
     {
@@ -416,12 +414,10 @@ impl<R: AsNfa, A: Allocator + Copy, B: Engine<Error = AllocError>> Regex<LazyDfa
     ) -> Result<Option<Match>, AllocError>
         requires within { start ≤ length haystack.now }
         requires read { scan.now.read ≡ length haystack.now - start }
-        ensures certain { IsEndScan self.old.nfa (byte_before haystack.now start)
-            (drop start haystack.now) scan.now → IfOk result (λ found. IfSome found
-            (λ m. IsCertain self.old.nfa haystack.now start m)) }
-        ensures unsettled { IsEndScan self.old.nfa (byte_before haystack.now start)
-            (drop start haystack.now) scan.now → IfOk result (λ found. IfNone found
-            (IsUnsettled self.old.nfa scan.now)) }
+        ensures certain { IsScanOf self.old.nfa haystack.now start scan.now → IfOk result
+            (λ found. IfSome found (λ m. IsCertain self.old.nfa haystack.now start m)) }
+        ensures unsettled { IsScanOf self.old.nfa haystack.now start scan.now → IfOk result
+            (λ found. IfNone found (IsUnsettled self.old.nfa scan.now)) }
         ensures inside { IfOk result (λ found. IfSome found
             (λ m. IsInside (length haystack.now) start m)) }
         ensures same { self.new ≡ self.old }
@@ -455,8 +451,7 @@ impl<R: AsNfa, A: Allocator + Copy, B: Engine<Error = AllocError>> Regex<LazyDfa
     /// them, regardless of what follows.
     pub(crate) fn is_idle(&self, haystack: &[u8], start: usize, scan: &Scan<A>) -> bool
         requires within { start ≤ length haystack.now }
-        ensures fresh { IsEndScan self.now.nfa (byte_before haystack.now start)
-            (drop start haystack.now) scan.now → result ≡ true
+        ensures fresh { IsScanOf self.now.nfa haystack.now start scan.now → result ≡ true
             → IsFresh self.now.nfa haystack.now start }
         ensures idle { HasPrefixApart self.now.nfa → IsIdle self.now.nfa scan.now
             → start < length haystack.now → result ≡ true }

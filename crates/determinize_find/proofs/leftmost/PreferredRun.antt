@@ -1,6 +1,6 @@
 -- The preferred match from a start state has the pattern and the end of the leftmost match.
 -- Main statements: from_start, to_start, each_preferred_is_leftmost, each_anchored_is_leftmost.
--- Used by: `laws::prefix_law`, TwoSearches, InputMatches, Begun, Certain, and ListsOfPatterns of `determinize_regex`.
+-- Used by: `laws::prefix_law`, TwoSearches, InputMatches, Begun, and ListsOfPatterns of `determinize_regex`.
 -- Idea: after the prefix a run that skips fewer bytes is preferred, so the preferred run begins leftmost.
 use Rattle.determinize_find.proofs.Common.{Accepts, AcceptsFrom, All, ap, arith, Before, Before-asym, HasPrefix, length}
 use Rattle.determinize_find.proofs.Common.{List, Match, Nfa, None, NothingFrom, pattern_in, refl, shape, skip}

@@ -1,5 +1,5 @@
 use Rattle.determinize_find.proofs.Common.{arith, IfSome_then, inl, None, of_err, refl, rules, ◌∙◌, ◌≡◌}
-use Rattle.determinize_find.proofs.streams.Kept.{advanced, in_block}
+use Rattle.determinize_find.proofs.streams.Steps.{advanced, in_block}
 use Rattle.determinize_find.proofs.pieces.Pieces.advance.Goals as goal
 
 pub returns-in_err-next-clause-read : goal.returns-in_err-next-clause-read

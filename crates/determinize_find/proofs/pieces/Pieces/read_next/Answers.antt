@@ -1,5 +1,5 @@
 use Rattle.determinize_find.proofs.Common.{sym, []}
-use Rattle.determinize_find.proofs.streams.Kept.{advanced}
+use Rattle.determinize_find.proofs.streams.Steps.{advanced}
 use Rattle.determinize_find.proofs.pieces.Pieces.read_next.Goals as goal
 
 pub returns-clause-read : goal.returns-clause-read
