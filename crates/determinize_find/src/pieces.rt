@@ -373,36 +373,10 @@ impl<A: Allocator + Copy> Pieces<A> {
         Ok(Some(found))
     }
 
-    /// Reads the first block of a piece, and returns the next match if it is then certain.
-    fn read_next<R: AsNfa, B: Engine<Error = AllocError>>(
-        &mut self,
-        regex: &mut Regex<LazyDfa<R, A>, B>,
-        piece: &mut &[u8],
-    ) -> Result<Option<Match>, AllocError>
-        ensures read { IsSearching regex.old.nfa self.old → IsAdvance regex.old.nfa
-            self.old self.new piece.old.now piece.new.now result }
-        ensures few { IsSearching regex.old.nfa self.old → IfOk result
-            (λ next. IfNone next (KeepsFew regex.old.nfa self.new)) }
-        ensures kept { IfOk result (λ next. IfSome next (λ m. IsKept self.new m)) }
-        ensures left { left_in piece.new.now self.new ≤ left_in piece.old.now self.old }
-        ensures fewer { IfOk result (λ next. IfSome next
-            (λ m. left_in piece.new.now self.new < left_in piece.old.now self.old)) }
-        ensures shorter { IfOk result (λ next. 0 < length piece.old.now
-            → length piece.new.now < length piece.old.now) }
-        ensures small { length piece.old.now ≤ length piece.new.now + 4096 }
-        ensures same { regex.new ≡ regex.old }
-    {
-        let (block, rest) = piece.split_at(piece.len().min(BLOCK));
-        self.keep(regex, block)?;
-        *piece = rest;
-        self.take_next(regex)
-    }
-
     /// Reads a piece of the text until the next match is certain, and returns that match. The piece
     /// is then what is left of it. `None` means that all of it was read.
     ///
-    /// The piece is read in blocks of 4096 bytes, and a match is returned with the block that makes
-    /// it certain. Its bytes are kept (`bytes_of`) until the next call of `advance` or `feed`.
+    /// The bytes of the match are kept (`bytes_of`) until the next call of `advance` or `feed`.
     ///
     /// Returns `AllocError` as `feed` does. The piece is then what is left after the blocks that
     /// were read. To continue, call it again with what is left, through a `Regex` as `feed` needs.
@@ -426,7 +400,10 @@ impl<A: Allocator + Copy> Pieces<A> {
     {
         let mut next = self.take_next(regex)?;
         while next.is_none() && !piece.is_empty() {
-            next = self.read_next(regex, piece)?;
+            let (block, rest) = piece.split_at(piece.len().min(BLOCK));
+            self.keep(regex, block)?;
+            *piece = rest;
+            next = self.take_next(regex)?;
         }
         Ok(next)
     }
@@ -470,10 +447,8 @@ impl<A: Allocator + Copy> Pieces<A> {
     /// Reads the next piece of the text, and adds matches, in order. A piece may be empty. Through
     /// a `Regex` of another NFA than the pieces before, the matches may be any.
     ///
-    /// At the end of each block of 4096 bytes, and at the end of the piece, no match is left that
-    /// is certain (`certain_match`). At most one byte before the search that is then under way is
-    /// kept, and no other if that search is idle and the prefix of the NFA is apart. `bytes_kept`
-    /// never grows by more than the bytes that are read.
+    /// The end of the piece is the end of a block. `bytes_kept` never grows by more than the bytes
+    /// that are read.
     ///
     /// Returns `AllocError` if an allocation fails, if a cache would need more than 16647160
     /// states, if the pieces have more than `usize::MAX` bytes together, or if the pieces before

@@ -213,6 +213,15 @@ module _ {nfa : Nfa} {haystack : List ℕ} {start end : ℕ} {asked : Asked} {m 
   order : own.match.start ≤ own.match.end
   order = omega (arith, lie.order, own.start, own.end)
 
+  -- the match begins at the first position from which a run accepts that ends with it
+  begins_first : (k begin : ℕ) → begin ≡ asked.start + k → IsFirstStart nfa (text_of false asked) own.match.end k
+      → m.start ≡ begin
+  begins_first k begin at first =
+      let late = first.first own.match.start own.leftmost.choices own.match.pattern order own.leftmost.accepts in
+      by_cases (cases_lt k own.match.start)
+      (λ l. absurd (own.leftmost.leftmost k l first.choices own.match.end first.pattern first.accepts))
+      (λ l. omega (arith, at, own.start))
+
   module _ {backward : Nfa} (is : IsReverseOf backward nfa) (forward : nfa.reverse ≡ false) where
     -- it finds where the match begins
     pub some_found : IsSearchResult backward kinds.All (before_end haystack start end) None → ⊥
@@ -223,10 +232,7 @@ module _ {nfa : Nfa} {haystack : List ℕ} {start end : ℕ} {asked : Asked} {m 
         → m.start ≡ h.offset
     begin_found h s =
         let (k, at, first) = first_back is forward asked own.match.end (rw e.same e.within) high h (rw same at s) in
-        let late = first.first own.match.start own.leftmost.choices own.match.pattern order own.leftmost.accepts in
-        by_cases (cases_lt k own.match.start)
-        (λ l. absurd (own.leftmost.leftmost k l first.choices own.match.end first.pattern first.accepts))
-        (λ l. omega (arith, at, own.start))
+        begins_first k h.offset at first
 
 -- a search backward of a whole range finds its start exactly where the whole range is a match
 module _ {forward backward : EngineValue} {flag : Bool} (pair : IsPair forward backward flag) (asked : Asked)

@@ -13,7 +13,7 @@ use Rattle.determinize_find.proofs.Common.{false≢true, from, HasMoved, HasPref
 use Rattle.determinize_find.proofs.Common.{is_touching, IsAdvance, IsCertain, IsEndScan, IsFed, IsFinished}
 use Rattle.determinize_find.proofs.Common.{IsFoundInBlock, IsFresh, IsFrontFed, IsKept, IsLeftmostIn}
 use Rattle.determinize_find.proofs.Common.{IsNext, IsPartFed, IsSearching, IsStream, IsUnsettled, KeepsFew, KeptFewAt}
-use Rattle.determinize_find.proofs.Common.{KeptFewInBlocks, length, length-append, length-drop, List, map}
+use Rattle.determinize_find.proofs.Common.{KeptFewInBlocks, left_in, length, length-append, length-drop, List, map}
 use Rattle.determinize_find.proofs.Common.{Match, min, moved, Nfa, nil_from_length, None, Option, option_map}
 use Rattle.determinize_find.proofs.Common.{option_to_list, pattern_in, pattern_of, place, reach, refl, Result, Scanned}
 use Rattle.determinize_find.proofs.Common.{Some, Streamed, sym, take-append-le, take_all, take_at, tests_capture}
@@ -328,21 +328,28 @@ skipped {nfa} {now} old (Some m) t window certain none =
     record { fed = λ list. fed_skipped nfa now m list window certain t; searching = rw none tt }
 
 -- a part of a piece was read, and nothing found in it; then more was read
+pub front_joined : {nfa : Nfa} {old now new : Streamed} {piece rest others : List ℕ} {found : List Match}
+    → IsFrontFed nfa old now piece rest [] → IsFrontFed nfa now new rest others found
+    → IsFrontFed nfa old new piece others found
+front_joined a b = record {
+  front = a.front ++ b.front;
+  cut = rw (append_assoc, b.cut) a.cut;
+  fed = joined a.fed b.fed;
+}
+
 pub advanced : {E : Type 0} {nfa : Nfa} {old now new : Streamed} {piece rest others : List ℕ}
     {result : Result (Option Match) E} → IsFrontFed nfa old now piece rest []
     → IsAdvance nfa now new rest others result → IsAdvance nfa old new piece others result
 advanced {E} {nfa} {old} {now} {new} {piece} {rest} {others} {result} a b = record {
-  fed = IfOk-weaker result _ _ (λ next h. both h) b.fed;
-  failed = on_err_weaker result (λ (h : IsFrontFed nfa now new rest others []). both h) b.failed;
+  fed = IfOk-weaker result _ _ (λ next h. front_joined a h) b.fed;
+  failed = on_err_weaker result (λ (h : IsFrontFed nfa now new rest others []). front_joined a h) b.failed;
   searching = b.searching;
 }
-  where
-    both : {found : List Match} → IsFrontFed nfa now new rest others found → IsFrontFed nfa old new piece others found
-    both c = record {
-      front = a.front ++ c.front;
-      cut = rw (append_assoc, c.cut) a.cut;
-      fed = joined a.fed c.fed;
-    }
+
+-- the bytes of a block are counted as kept once they are read
+pub left_kept : (s new : Streamed) (block rest piece : List ℕ) → new ≡ with_scan new.scan (with_bytes block s)
+    → block ++ rest ≡ piece → left_in rest new ≤ left_in piece s
+left_kept s new block rest piece kept cut = rw (kept, ← cut) (simp length-append (omega arith))
 
 -- where nothing was read
 pub front_none : {nfa : Nfa} {old new : Streamed} {found : List Match} (piece : List ℕ)
