@@ -13,19 +13,14 @@ pub use Rattle.determinize_core.proofs.Common.{sym, take_all, take_at, Text, tru
 pub use Rattle.determinize_core.proofs.Common.{◌+◌, ◌-◌, ◌<◌, ◌==◌, ◌∙◌, ◌∷◌, ◌≡◌, ◌≤◌, ◌⊎◌}
 unfoldable pub use Rattle.determinize_core.proofs.Common.{chain, reach, step}
 pub use Rattle.determinize_below.specs.Edges.{is_match_node, tests_capture}
-pub use Rattle.determinize_below.specs.Reached.{known, known_choices}
 pub use Rattle.determinize_below.specs.declared.search.Anchored.TheVariants.{No, Pattern, Yes}
 pub use Rattle.determinize_below.specs.declared.search.Match.{Match}
 pub use Rattle.determinize_core.proofs.walk.Farthest.{no_run_leaves_the_text}
-pub use Rattle.determinize_core.specs.Value.{Value}
 pub use Rattle.determinize_engine.proofs.SearchMatches.{preferred}
 pub use Rattle.determinize_engine.specs.Scans.{IsScan, IsSettled, Scanned}
 pub use Rattle.determinize_engine.specs.Searches.{has_start, HasMatch, in_haystack, IsSearchResult, start_for, text_of}
 unfoldable pub use Rattle.determinize_engine.specs.Searches.{last_in}
-pub use Rattle.determinize_engine.specs.UnitsRead.{units_read}
 pub use Rattle.determinize_find.specs.Certain.{certain_after, certain_match, IsUnsettled}
-pub use Rattle.determinize_find.specs.Endings.{IsEnding}
-pub use Rattle.determinize_find.specs.Idle.{IsIdle}
 pub use Rattle.determinize_find.specs.Laws.{EachBusyHasBegun, EachCertainIsPreferred, EachIdleIsFresh}
 pub use Rattle.determinize_find.specs.Laws.{EachInputHasMatches, EachStartIsCovered, end_of}
 pub use Rattle.determinize_find.specs.LeftmostIn.{is_anchored, IsLeftmostIn, latest, moved}
@@ -36,7 +31,7 @@ pub use Rattle.determinize_find.specs.Private.Left.{left}
 pub use Rattle.determinize_find.specs.Private.Windows.{end_before, HasMoved, IsCertain, IsFresh, with_bytes, with_scan}
 pub use Rattle.determinize_find.specs.Private.Windows.{without_first}
 pub use Rattle.determinize_find.specs.Streams.{before, IsAdvance, IsEndScan, IsFed, IsFinished, IsFoundInBlock}
-pub use Rattle.determinize_find.specs.Streams.{IsFrontFed, IsKept, IsKeptScan, IsPartFed, IsSearching, IsStream}
+pub use Rattle.determinize_find.specs.Streams.{IsFrontFed, IsKept, IsKeptScan, IsPartFed, IsScanOf, IsSearching, IsStream}
 pub use Rattle.determinize_find.specs.Streams.{KeepsFew, KeptFewAt, KeptFewInBlocks, left_in, place, Streamed, whole}
 pub use Rattle.determinize_lazy.proofs.steps.Rule.{of_err}
 pub use Rattle.determinize_nfa.proofs.prefixes.AfterPrefix.{none_leaves, parted, pass_all, shape, stays_out, u_not_a}
@@ -44,23 +39,17 @@ pub use Rattle.determinize_nfa.proofs.prefixes.AfterPrefix.{u_not_x, unshape}
 pub use Rattle.determinize_nfa.proofs.prefixes.Skips.{pass, pass_first, skip, skip_before, skip_same}
 pub use Rattle.determinize_nfa.proofs.runs.Choices.{choice_cases, choice_later, choices_under, true_at, under_later}
 pub use Rattle.determinize_nfa.proofs.runs.Mirrors.{or_some, slice_get-take}
-pub use Rattle.determinize_nfa.proofs.runs.SameChoices.{free_more, one_choice, same_choices}
 pub use Rattle.determinize_nfa.proofs.runs.Shifts.{each_run_moves, each_run_reads_forward, slice_get-drop}
 pub use Rattle.determinize_nfa.specs.Leftmost.{IsLeftmost, IsLeftmostMatch, NothingFrom}
 pub use Rattle.determinize_nfa.specs.Prefix.{HasPrefix, HasPrefixApart, leads_to}
-pub use Rattle.determinize_nfa.specs.Reversal.{IsReverseOf, turned, upto}
 pub use Rattle.determinize_nfa.specs.Runs.{AcceptsFrom, since}
 pub use Rattle.determinize_start.specs.StartKinds.{byte_before}
-pub use Rattle.ordered_reach.proofs.graph.PathMaps.{path_agree}
-pub use Rattle.ordered_reach.proofs.lists.Elements.{Contains_In}
 pub use Rattle.ordered_reach.proofs.lists.Lexicographic.{Before-asym, Before-trans, same_least}
-pub use Rattle.std.proofs.Common.{Fits, IfOk, w8}
 pub use Rattle.std.proofs.lemmas.Bool.{cases_eq, cases_lt, cases_order, le-ltb, lt-ltb, ltb-false, ltb-true, ne_eqb}
 pub use Rattle.std.proofs.lemmas.List.{drop-append-le, drop-drop, drop-take, drop_all, length-drop, nil_from_length}
 pub use Rattle.std.proofs.lemmas.List.{take-append-le, take-take, take_rest}
 pub use Rattle.std.proofs.lemmas.List.Elements.{All-append, All-drop, All-from_get_or, All-take}
 pub use Rattle.std.proofs.lemmas.Option.{IfSome_then, none-some, slice_get_within}
-pub use Rattle.std.proofs.lemmas.Result.{on_err_weaker}
 pub use Rattle.std.specs.List.{slice_range}
 pub use Rattle.std.specs.Prelude.{All, slice_index_or}
 pub use Rattle.std.specs.Slice.Iter.{chunks_rest, chunks_size}

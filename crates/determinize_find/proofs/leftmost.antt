@@ -1,4 +1,3 @@
-pub mod FullMatches
 pub mod PreferredRun
 pub mod SearchInTurn
 pub mod TwoSearches

@@ -53,9 +53,13 @@ pub record IsEndScan (nfa : Nfa) (behind : Option ℕ) (bytes : List ℕ) (s : S
   pub resolve : AllResolve nfa s.state.states
   pub scan : IsScan nfa LeftmostFirst nfa.start_unanchored behind bytes s
 
+-- the search has read a haystack from an index on
+abbrev pub IsScanOf : Nfa → List ℕ → ℕ → Scanned → Type 0
+IsScanOf nfa haystack start s = IsEndScan nfa (byte_before haystack start) (drop start haystack) s
+
 -- the search has read the kept bytes from the start on
 abbrev pub IsKeptScan : Nfa → Streamed → Scanned → Type 0
-IsKeptScan nfa s scan = IsEndScan nfa (byte_before s.kept s.start) (drop s.start s.kept) scan
+IsKeptScan nfa s scan = IsScanOf nfa s.kept s.start scan
 
 -- so has the one that is under way
 abbrev pub IsSearching : Nfa → Streamed → Type 0

@@ -1,4 +1,4 @@
-//! Laws of the leftmost match, as public functions with empty bodies.
+//! What holds of every leftmost match, stated by the contracts of functions with empty bodies.
 
 ghost use Rattle.std.specs.Prelude.{◌<◌, ◌≤◌, All, length};
 ghost use Rattle.determinize_find.specs.Laws.{EachAnchoredIsLeftmost, EachBusyHasBegun, EachCertainIsPreferred, EachIdleIsFresh, EachInputHasMatches, EachLeftmostInIsOne, EachLeftmostIsOne, EachMatchesAreApart, EachMatchesAreOne, EachPreferredIsLeftmost, EachStartIsCovered};

@@ -12,8 +12,8 @@ ghost use Rattle.determinize_find.specs.Idle.{IsIdle};
 ghost use Rattle.determinize_find.specs.LeftmostIn.{moved};
 ghost use Rattle.determinize_nfa.specs.Prefix.{HasPrefixApart};
 ghost use Rattle.determinize_find.specs.Private.Windows.{HasMoved, IsCertain, IsFresh, IsInside};
-ghost use Rattle.determinize_find.specs.Private.Windows.{IsPlaceOf, past_match, with_bytes};
-ghost use Rattle.determinize_find.specs.Private.Windows.{with_scan};
+ghost use Rattle.determinize_find.specs.Private.Windows.{IsPlaceOf, IsStep, past_match};
+ghost use Rattle.determinize_find.specs.Private.Windows.{with_bytes, with_scan};
 ghost use Rattle.determinize_find.specs.Streams.{IsAdvance, IsFed, IsFeeding, IsFinished};
 ghost use Rattle.determinize_find.specs.Streams.{IsFoundInBlock, IsKept, IsSearching};
 ghost use Rattle.determinize_find.specs.Streams.{IsStream, KeepsFew, KeptFewInBlocks, count_kept};
@@ -296,12 +296,8 @@ impl<A: Allocator + Copy> Pieces<A> {
         &mut self,
         regex: &mut Regex<LazyDfa<R, A>, B>,
     ) -> Result<Option<Match>, AllocError>
-        ensures moved { IsSearching regex.old.nfa self.old
-            → HasMoved regex.old.nfa self.old self.new }
-        ensures certain { IsSearching regex.old.nfa self.old → IfOk result (λ next. IfSome next
-            (λ m. IsCertain regex.old.nfa self.new.kept self.new.start m)) }
-        ensures few { IsSearching regex.old.nfa self.old → IfOk result
-            (λ next. IfNone next (KeepsFew regex.old.nfa self.new)) }
+        ensures step { IsSearching regex.old.nfa self.old
+            → IsStep regex.old.nfa self.old self.new result }
         ensures inside { IfOk result (λ next. IfSome next
             (λ m. IsInside (length self.new.kept) self.new.start m)) }
         ensures taken { IfOk result (λ next. IfSome next
@@ -313,10 +309,10 @@ impl<A: Allocator + Copy> Pieces<A> {
         let next = self.certain_now(regex)?;
         if next.is_some() {
             self.end_scan();
-        } else {
-            self.settle(regex)?;
+            return Ok(next);
         }
-        Ok(next)
+        self.settle(regex)?;
+        Ok(None)
     }
 
     /// Returns the next match if it is certain, as `certain` does. But an empty match where the one
@@ -326,12 +322,8 @@ impl<A: Allocator + Copy> Pieces<A> {
         &mut self,
         regex: &mut Regex<LazyDfa<R, A>, B>,
     ) -> Result<Option<Match>, AllocError>
-        ensures moved { IsSearching regex.old.nfa self.old
-            → HasMoved regex.old.nfa self.old self.new }
-        ensures certain { IsSearching regex.old.nfa self.old → IfOk result (λ next. IfSome next
-            (λ m. IsCertain regex.old.nfa self.new.kept self.new.start m)) }
-        ensures few { IsSearching regex.old.nfa self.old → IfOk result
-            (λ next. IfNone next (KeepsFew regex.old.nfa self.new)) }
+        ensures step { IsSearching regex.old.nfa self.old
+            → IsStep regex.old.nfa self.old self.new result }
         ensures place { IfOk result (λ next. IfSome next (λ m. IsPlaceOf m self.new)) }
         ensures left { left_in [] self.new ≤ left_in [] self.old }
         ensures same { regex.new ≡ regex.old }
@@ -381,36 +373,10 @@ impl<A: Allocator + Copy> Pieces<A> {
         Ok(Some(found))
     }
 
-    /// Reads the first block of a piece, and returns the next match if it is then certain.
-    fn read_next<R: AsNfa, B: Engine<Error = AllocError>>(
-        &mut self,
-        regex: &mut Regex<LazyDfa<R, A>, B>,
-        piece: &mut &[u8],
-    ) -> Result<Option<Match>, AllocError>
-        ensures read { IsSearching regex.old.nfa self.old → IsAdvance regex.old.nfa
-            self.old self.new piece.old.now piece.new.now result }
-        ensures few { IsSearching regex.old.nfa self.old → IfOk result
-            (λ next. IfNone next (KeepsFew regex.old.nfa self.new)) }
-        ensures kept { IfOk result (λ next. IfSome next (λ m. IsKept self.new m)) }
-        ensures left { left_in piece.new.now self.new ≤ left_in piece.old.now self.old }
-        ensures fewer { IfOk result (λ next. IfSome next
-            (λ m. left_in piece.new.now self.new < left_in piece.old.now self.old)) }
-        ensures shorter { IfOk result (λ next. 0 < length piece.old.now
-            → length piece.new.now < length piece.old.now) }
-        ensures small { length piece.old.now ≤ length piece.new.now + 4096 }
-        ensures same { regex.new ≡ regex.old }
-    {
-        let (block, rest) = piece.split_at(piece.len().min(BLOCK));
-        self.keep(regex, block)?;
-        *piece = rest;
-        self.take_next(regex)
-    }
-
     /// Reads a piece of the text until the next match is certain, and returns that match. The piece
     /// is then what is left of it. `None` means that all of it was read.
     ///
-    /// The piece is read in blocks of 4096 bytes, and a match is returned with the block that makes
-    /// it certain. Its bytes are kept (`bytes_of`) until the next call of `advance` or `feed`.
+    /// The bytes of the match are kept (`bytes_of`) until the next call of `advance` or `feed`.
     ///
     /// Returns `AllocError` as `feed` does. The piece is then what is left after the blocks that
     /// were read. To continue, call it again with what is left, through a `Regex` as `feed` needs.
@@ -434,7 +400,10 @@ impl<A: Allocator + Copy> Pieces<A> {
     {
         let mut next = self.take_next(regex)?;
         while next.is_none() && !piece.is_empty() {
-            next = self.read_next(regex, piece)?;
+            let (block, rest) = piece.split_at(piece.len().min(BLOCK));
+            self.keep(regex, block)?;
+            *piece = rest;
+            next = self.take_next(regex)?;
         }
         Ok(next)
     }
@@ -478,10 +447,8 @@ impl<A: Allocator + Copy> Pieces<A> {
     /// Reads the next piece of the text, and adds matches, in order. A piece may be empty. Through
     /// a `Regex` of another NFA than the pieces before, the matches may be any.
     ///
-    /// At the end of each block of 4096 bytes, and at the end of the piece, no match is left that
-    /// is certain (`certain_match`). At most one byte before the search that is then under way is
-    /// kept, and no other if that search is idle and the prefix of the NFA is apart. `bytes_kept`
-    /// never grows by more than the bytes that are read.
+    /// The end of the piece is the end of a block. `bytes_kept` never grows by more than the bytes
+    /// that are read.
     ///
     /// Returns `AllocError` if an allocation fails, if a cache would need more than 16647160
     /// states, if the pieces have more than `usize::MAX` bytes together, or if the pieces before

@@ -1,6 +1,6 @@
 //! The leftmost match by two searches: one forward for its end, and one backward for its start.
 
-ghost use Rattle.std.specs.Prelude.{◌≡◌, ◌+◌, ◌++◌, ◌-◌, ◌<◌, ◌≤◌, ℕ, List, None, Option, [], drop};
+ghost use Rattle.std.specs.Prelude.{◌≡◌, ◌+◌, ◌++◌, ◌-◌, ◌<◌, ◌≤◌, ℕ, List, None, Option, []};
 ghost use Rattle.std.specs.Prelude.{false, length, min, true, IfErr, IfOk, IsSome, Ok, OnErr, OnOk};
 ghost use Rattle.std.specs.Bool.{Decides};
 ghost use Rattle.std.specs.Option.{IfNone, IfSome};
@@ -8,7 +8,6 @@ ghost use Rattle.determinize_below.specs.Edges.{pattern_count};
 ghost use Rattle.determinize_below.specs.Nfa.{IsAccepted};
 ghost use Rattle.determinize_below.specs.Search.{is_done};
 ghost use Rattle.determinize_below.specs.declared.search.MatchKind.TheVariants as kinds;
-ghost use Rattle.determinize_start.specs.StartKinds.{byte_before};
 ghost use Rattle.determinize_engine.specs.Searches.{HasMatch, has_start};
 ghost use Rattle.determinize_find.specs.Certain.{IsUnsettled};
 ghost use Rattle.determinize_find.specs.Idle.{IsIdle};
@@ -20,7 +19,8 @@ ghost use Rattle.determinize_find.specs.FullMatches.{IsFullMatch};
 ghost use Rattle.determinize_find.specs.Private.Begins.{IsBeginOf, IsEndOf};
 ghost use Rattle.determinize_find.specs.Private.Windows.{IsCertain, IsFresh, IsInside};
 ghost use Rattle.determinize_nfa.specs.Reversal.{IsReverseOf, IsTooLarge, most_states};
-ghost use Rattle.determinize_find.specs.Streams.{IsEndScan};
+ghost use Rattle.determinize_find.specs.Regexes.{IsBackward, IsForward, value_of, with_limit};
+ghost use Rattle.determinize_find.specs.Streams.{IsEndScan, IsScanOf};
 ghost use Rattle.determinize_lazy.specs.MostBytes.{most_bytes};
 ghost use Rattle.determinize_table.specs.CacheBytes.{cache_bytes};
 
@@ -47,24 +47,19 @@ use std::marker::Model;
 pub struct Regex<F: Engine, B: Engine<Error = F::Error>> {
     forward: F,
     backward: B,
-    // Whether it is known that the prefix of the NFA is apart (`has_prefix_apart`).
-    is_apart: bool,
+    // Set only if the prefix of the NFA is apart (`has_prefix_apart`), which is else not known.
+    is_known_apart: bool,
 }
 
 impl<F: Engine, B: Engine<Error = F::Error>> Model for Regex<F, B> {
-    ghost use Rattle.determinize_find.specs.Regexes.{RegexValue};
+    ghost use Rattle.determinize_find.specs.Regexes.{RegexValue, value_of};
     ghost use Rattle.determinize_find.specs.Private.Pairs.{IsPair};
 
     ghost Value = { RegexValue };
 
-    ghost view = { λ r. record {
-      nfa = (F.engine r.forward).nfa;
-      backward = (B.engine r.backward).nfa;
-      limit = (F.engine r.forward).limit;
-      limit_backward = (B.engine r.backward).limit;
-    } };
+    ghost view = { λ r. value_of (F.engine r.forward) (B.engine r.backward) };
 
-    ghost invariant = { λ r. IsPair (F.engine r.forward) (B.engine r.backward) r.is_apart };
+    ghost invariant = { λ r. IsPair (F.engine r.forward) (B.engine r.backward) r.is_known_apart };
 }
 
 impl<F: Engine, B: Engine<Error = F::Error>> Regex<F, B> {
@@ -80,52 +75,33 @@ impl<F: Engine, B: Engine<Error = F::Error>> Regex<F, B> {
         requires forward { (F.engine forward).nfa.reverse ≡ false }
         requires prefix { HasPrefix (F.engine forward).nfa }
         requires reverse { IsReverseOf (B.engine backward).nfa (F.engine forward).nfa }
-        ensures { result ≡ record {
-          nfa = (F.engine forward).nfa;
-          backward = (B.engine backward).nfa;
-          limit = (F.engine forward).limit;
-          limit_backward = (B.engine backward).limit;
-        } }
+        ensures { result ≡ value_of (F.engine forward) (B.engine backward) }
     {
         Regex {
             forward,
             backward,
-            is_apart: false,
+            is_known_apart: false,
         }
     }
 
     /// Returns the DFA that finds the ends of matches.
     pub fn forward(&self) -> &F
-        ensures nfa { (F.engine result.now).nfa ≡ self.now.nfa }
-        ensures forward { self.now.nfa.reverse ≡ false }
-        ensures prefix { HasPrefix self.now.nfa }
-        ensures kind { (F.engine result.now).kind ≡ kinds.LeftmostFirst }
-        ensures limit { (F.engine result.now).limit ≡ self.now.limit }
+        ensures { IsForward self.now (F.engine result.now) }
     {
         &self.forward
     }
 
     /// Returns the DFA that reads backward and finds the starts of matches.
     pub fn backward(&self) -> &B
-        ensures nfa { (B.engine result.now).nfa ≡ self.now.backward }
-        ensures reverse { IsReverseOf (B.engine result.now).nfa self.now.nfa }
-        ensures kind { (B.engine result.now).kind ≡ kinds.All }
-        ensures limit { (B.engine result.now).limit ≡ self.now.limit_backward }
+        ensures { IsBackward self.now (B.engine result.now) }
     {
         &self.backward
     }
 
     /// Returns both DFAs, the one that finds the ends of matches first.
     pub fn into_engines(self) -> (F, B)
-        ensures nfa { (F.engine result.0).nfa ≡ self.nfa }
-        ensures forward { self.nfa.reverse ≡ false }
-        ensures prefix { HasPrefix self.nfa }
-        ensures kind { (F.engine result.0).kind ≡ kinds.LeftmostFirst }
-        ensures limit { (F.engine result.0).limit ≡ self.limit }
-        ensures nfa_backward { (B.engine result.1).nfa ≡ self.backward }
-        ensures reverse { IsReverseOf (B.engine result.1).nfa self.nfa }
-        ensures kind_backward { (B.engine result.1).kind ≡ kinds.All }
-        ensures limit_backward { (B.engine result.1).limit ≡ self.limit_backward }
+        ensures forward { IsForward self (F.engine result.0) }
+        ensures backward { IsBackward self (B.engine result.1) }
     {
         (self.forward, self.backward)
     }
@@ -281,18 +257,13 @@ impl<R: AsNfa, Q: AsNfa, A: Allocator + Copy> Regex<LazyDfa<R, A>, LazyDfa<Q, A>
         requires forward { (R.nfa nfa).reverse ≡ false }
         requires prefix { HasPrefix (R.nfa nfa) }
         requires reverse { IsReverseOf (Q.nfa backward) (R.nfa nfa) }
-        ensures { result ≡ record {
-          nfa = R.nfa nfa;
-          backward = Q.nfa backward;
-          limit = limit;
-          limit_backward = limit;
-        } }
+        ensures { result ≡ with_limit (R.nfa nfa) (Q.nfa backward) limit }
     {
-        let is_apart = has_prefix_apart(nfa.nfa());
+        let is_known_apart = has_prefix_apart(nfa.nfa());
         Regex {
             forward: LazyDfa::new_by_class(alloc, nfa, MatchKind::LeftmostFirst, limit),
             backward: LazyDfa::new_by_class(alloc, backward, MatchKind::All, limit),
-            is_apart,
+            is_known_apart,
         }
     }
 
@@ -304,12 +275,7 @@ impl<R: AsNfa, Q: AsNfa, A: Allocator + Copy> Regex<LazyDfa<R, A>, LazyDfa<Q, A>
         alloc: C,
         limit: usize,
     ) -> Regex<LazyDfa<&NFA<R::N>, C>, LazyDfa<&NFA<Q::N>, C>>
-        ensures value { result ≡ record {
-          nfa = self.now.nfa;
-          backward = self.now.backward;
-          limit = limit;
-          limit_backward = limit;
-        } }
+        ensures value { result ≡ with_limit self.now.nfa self.now.backward limit }
         ensures accepted { IsAccepted self.now.nfa }
     {
         Regex {
@@ -317,7 +283,7 @@ impl<R: AsNfa, Q: AsNfa, A: Allocator + Copy> Regex<LazyDfa<R, A>, LazyDfa<Q, A>
                 .forward
                 .borrowed(alloc, MatchKind::LeftmostFirst, limit),
             backward: self.backward.borrowed(alloc, MatchKind::All, limit),
-            is_apart: self.is_apart,
+            is_known_apart: self.is_known_apart,
         }
     }
 
@@ -412,8 +378,7 @@ impl<R: AsNfa, A: Allocator + Copy, B: Engine<Error = AllocError>> Regex<LazyDfa
     #[inline(always)]
     pub(crate) fn scan(&mut self, haystack: &[u8], start: usize) -> Result<Scan<A>, AllocError>
         requires { start ≤ length haystack.now }
-        ensures scan { IfOk result (λ scan. IsEndScan self.old.nfa
-            (byte_before haystack.now start) (drop start haystack.now) scan) }
+        ensures scan { IfOk result (IsScanOf self.old.nfa haystack.now start) }
         ensures read { IfOk result (λ scan. scan.read ≡ length haystack.now - start) }
         ensures same { self.new ≡ self.old }
     {
@@ -449,12 +414,10 @@ impl<R: AsNfa, A: Allocator + Copy, B: Engine<Error = AllocError>> Regex<LazyDfa
     ) -> Result<Option<Match>, AllocError>
         requires within { start ≤ length haystack.now }
         requires read { scan.now.read ≡ length haystack.now - start }
-        ensures certain { IsEndScan self.old.nfa (byte_before haystack.now start)
-            (drop start haystack.now) scan.now → IfOk result (λ found. IfSome found
-            (λ m. IsCertain self.old.nfa haystack.now start m)) }
-        ensures unsettled { IsEndScan self.old.nfa (byte_before haystack.now start)
-            (drop start haystack.now) scan.now → IfOk result (λ found. IfNone found
-            (IsUnsettled self.old.nfa scan.now)) }
+        ensures certain { IsScanOf self.old.nfa haystack.now start scan.now → IfOk result
+            (λ found. IfSome found (λ m. IsCertain self.old.nfa haystack.now start m)) }
+        ensures unsettled { IsScanOf self.old.nfa haystack.now start scan.now → IfOk result
+            (λ found. IfNone found (IsUnsettled self.old.nfa scan.now)) }
         ensures inside { IfOk result (λ found. IfSome found
             (λ m. IsInside (length haystack.now) start m)) }
         ensures same { self.new ≡ self.old }
@@ -480,7 +443,7 @@ impl<R: AsNfa, A: Allocator + Copy, B: Engine<Error = AllocError>> Regex<LazyDfa
     fn is_apart(&self) -> bool
         ensures { Decides result (HasPrefixApart self.now.nfa) }
     {
-        self.is_apart || has_prefix_apart(self.forward.nfa())
+        self.is_known_apart || has_prefix_apart(self.forward.nfa())
     }
 
     /// Returns whether the search of the bytes of a haystack from an index on has read some of
@@ -488,8 +451,7 @@ impl<R: AsNfa, A: Allocator + Copy, B: Engine<Error = AllocError>> Regex<LazyDfa
     /// them, regardless of what follows.
     pub(crate) fn is_idle(&self, haystack: &[u8], start: usize, scan: &Scan<A>) -> bool
         requires within { start ≤ length haystack.now }
-        ensures fresh { IsEndScan self.now.nfa (byte_before haystack.now start)
-            (drop start haystack.now) scan.now → result ≡ true
+        ensures fresh { IsScanOf self.now.nfa haystack.now start scan.now → result ≡ true
             → IsFresh self.now.nfa haystack.now start }
         ensures idle { HasPrefixApart self.now.nfa → IsIdle self.now.nfa scan.now
             → start < length haystack.now → result ≡ true }

@@ -3,15 +3,15 @@
 -- Used by: `plain::find_at` and `find_in_turn`, all on leftmost matches, and searches in turn of `determinize_linear`.
 -- Idea: the text from a later index is the rest of the text, where runs keep their choices (Shifts), and the first
 -- index with a match is the least one where a run accepts.
-use Rattle.determinize_find.proofs.Common.{Accepts, AcceptsFrom, ap, arith, Asked, before_at, between}
-use Rattle.determinize_find.proofs.Common.{by_cases, byte_before, cases_lt, cond, drop, drop-drop, drop-take}
-use Rattle.determinize_find.proofs.Common.{each_run_moves, each_run_reads_forward, false, from, HalfMatch, is_anchored}
-use Rattle.determinize_find.proofs.Common.{IsLeftmost, IsLeftmostIn, IsLeftmostMatch, IsSearchResult, latest, le-ltb}
-use Rattle.determinize_find.proofs.Common.{LeftmostFirst, length, length-drop, List, lt-ltb, ltb-false, ltb-true, Match}
-use Rattle.determinize_find.proofs.Common.{moved, nat_tests, Nfa, no_run_leaves_the_text, None, none-some, NothingFrom}
-use Rattle.determinize_find.proofs.Common.{Option, option_map, refl, since, slice_get, slice_get-drop}
-use Rattle.determinize_find.proofs.Common.{slice_get-take, slice_range, Some, some_injective, suc, sym, Text, text_of}
-use Rattle.determinize_find.proofs.Common.{Yes, zero, ℕ, ◌+◌, ◌-◌, ◌<◌, ◌≡◌, ◌≤◌}
+use Rattle.determinize_find.proofs.Common.{Accepts, AcceptsFrom, ap, arith, Asked, before_at, between, by_cases}
+use Rattle.determinize_find.proofs.Common.{byte_before, cases_lt, cond, drop, drop-drop, drop-take, each_run_moves}
+use Rattle.determinize_find.proofs.Common.{each_run_reads_forward, false, from, HalfMatch, is_anchored, IsLeftmost}
+use Rattle.determinize_find.proofs.Common.{IsLeftmostIn, IsLeftmostMatch, IsSearchResult, latest, le-ltb, LeftmostFirst}
+use Rattle.determinize_find.proofs.Common.{length, length-drop, List, lt-ltb, ltb-false, ltb-true, Match, moved}
+use Rattle.determinize_find.proofs.Common.{nat_tests, Nfa, no_run_leaves_the_text, None, none-some, NothingFrom, Option}
+use Rattle.determinize_find.proofs.Common.{option_map, refl, since, slice_get, slice_get-drop, slice_get-take}
+use Rattle.determinize_find.proofs.Common.{slice_range, Some, some_injective, suc, sym, Text, text_of, Yes, zero, ℕ}
+use Rattle.determinize_find.proofs.Common.{◌+◌, ◌-◌, ◌<◌, ◌≡◌, ◌≤◌}
 use Rattle.determinize_find.specs.Private.BestAt.{from_index, IsBestFrom, IsBestIn}
 
 -- a run from a later position is one over the text from an earlier one on

@@ -1,27 +1,30 @@
 -- A search forward finds the end of the leftmost match, and one backward its start.
--- Main statements: starts_differ, leftmost_end, found_in, some_found, begin_found.
+-- Main statements: starts_differ, leftmost_end, found_in, some_found, begin_found, full_none, full_some.
 -- Used by: the calls of `Regex`, and of starts_differ Rests and FoundOfPatterns of `determinize_regex`.
--- Idea: runs of any pattern that end where the leftmost match ends begin where it does or later, so the farthest
--- backward is its start.
+-- Idea: the farthest run backward is the first start of a run that ends there. Runs of any pattern that end where the
+-- leftmost match ends begin where it does or later, so for its end that is its start.
 use Rattle.determinize_find.proofs.Common.{Accepts, AcceptsFrom, All, All-drop, All-from_get_or, All-take, arith, Asked}
-use Rattle.determinize_find.proofs.Common.{between, Bool, by_cases, by_test, cases_lt, cond, end_of, false}
-use Rattle.determinize_find.proofs.Common.{false≢true, Fits, HalfMatch, has_start, HasMatch, HasPrefix, IfOk}
-use Rattle.determinize_find.proofs.Common.{in_haystack, is_anchored, is_done, IsEnded, IsEnding, IsLeftmost}
-use Rattle.determinize_find.proofs.Common.{IsLeftmostIn, IsReverseOf, IsSearchResult, last_in, le-ltb, LeftmostFirst}
-use Rattle.determinize_find.proofs.Common.{length, length-drop, length-take, List, lt-ltb, Match, moved, ne_eqb, Nfa}
-use Rattle.determinize_find.proofs.Common.{No, no_run_leaves_the_text, None, Option, option_map, or_some, Pattern, refl}
-use Rattle.determinize_find.proofs.Common.{Result, slice_get-drop, slice_get-take, slice_get_past, slice_index_or}
-use Rattle.determinize_find.proofs.Common.{slice_range, Some, start_for, sym, take-take, Text, text_of, true, turned}
-use Rattle.determinize_find.proofs.Common.{u_not_a, upto, w8, Yes, [], ℕ, ◌+◌, ◌-◌, ◌<◌, ◌∙◌, ◌≡◌, ◌≤◌}
+use Rattle.determinize_find.proofs.Common.{between, Bool, by_cases, by_test, cases_lt, cond, end_of, false, false≢true}
+use Rattle.determinize_find.proofs.Common.{HalfMatch, has_start, HasMatch, HasPrefix, in_haystack, is_anchored, is_done}
+use Rattle.determinize_find.proofs.Common.{IsEnded, IsLeftmost, IsLeftmostIn, IsSearchResult, last_in, le-ltb}
+use Rattle.determinize_find.proofs.Common.{LeftmostFirst, length, length-drop, length-take, List, lt-ltb, Match, moved}
+use Rattle.determinize_find.proofs.Common.{ne_eqb, Nfa, No, no_run_leaves_the_text, None, Option, option_map, or_some}
+use Rattle.determinize_find.proofs.Common.{Pattern, refl, Result, slice_get-drop, slice_get-take, slice_get_past}
+use Rattle.determinize_find.proofs.Common.{slice_index_or, slice_range, Some, start_for, sym, take-take, Text, text_of}
+use Rattle.determinize_find.proofs.Common.{true, u_not_a, Yes, [], ℕ, ◌+◌, ◌-◌, ◌<◌, ◌∙◌, ◌≡◌, ◌≤◌}
 use Rattle.determinize_below.specs.declared.search.Anchored.{Anchored}
 use Rattle.determinize_find.proofs.leftmost.SearchInTurn.{found_past, in_text, IsInText, leftmost_in, none_in_text}
 use Rattle.determinize_find.proofs.leftmost.PreferredRun.{each_anchored_is_leftmost, each_preferred_is_leftmost}
 use Rattle.determinize_find.proofs.leftmost.PreferredRun.{to_start}
 use Rattle.determinize_find.proofs.matches.OneList.{length-range, lies, LiesIn}
 use Rattle.determinize_engine.specs.Engines.{EngineValue}
+use Rattle.determinize_find.specs.FullMatches.{IsFullMatch}
 use Rattle.determinize_find.specs.Private.Pairs.{IsPair}
-use Rattle.determinize_core.proofs.Common.{Decides, Err, IsFarthestMatch, IsPreferredMatch, length-reverse, nat_eq, Ok}
+use Rattle.determinize_core.proofs.Common.{Decides, Err, IsPreferredMatch, length-reverse, nat_eq, Ok}
 use Rattle.determinize_below.specs.declared.search.MatchKind.TheVariants as kinds
+use Rattle.determinize_find.specs.Endings.{IsEnding}
+use Rattle.determinize_nfa.specs.Reversal.{IsReverseOf, turned, upto}
+use Rattle.std.proofs.Common.{Fits, IfOk, w8}
 
 -- with the usual prefix the starts are two states
 pub starts_differ : (nfa : Nfa) → HasPrefix nfa → nat_eq nfa.start_unanchored nfa.start_anchored ≡ false
@@ -123,6 +126,71 @@ pub text-back : (asked : Asked) (j : ℕ) → asked.start + j ≤ asked.end → 
 text-back asked j l within =
     grind (arith, take-take, slice_get-take, slice_get-drop, or_some, slice_get_past, length-take, length-drop)
 
+-- the first position from which a run accepts that ends here
+record IsFirstStart (nfa : Nfa) (text : Text) (end k : ℕ) : Type 0 where
+  order : k ≤ end
+  choices : List ℕ
+  pattern : ℕ
+  accepts : AcceptsFrom nfa text k nfa.start_anchored choices end pattern
+  first : (i : ℕ) (cs : List ℕ) (y : ℕ) → i ≤ end → AcceptsFrom nfa text i nfa.start_anchored cs end y → k ≤ i
+
+-- a search backward from a position of a range
+module _ {backward nfa : Nfa} (is : IsReverseOf backward nfa) (forward : nfa.reverse ≡ false) (asked : Asked) (j : ℕ)
+    (within : asked.end ≤ length asked.haystack) (low : asked.start + j ≤ asked.end) where
+  -- what it searches, and what it reads
+  abbrev before : Asked
+  before = before_end asked.haystack asked.start (asked.start + j)
+
+  abbrev back : Text
+  back = turned (upto (text_of false asked) j)
+
+  inside : j ≤ length (slice_range asked.haystack asked.start asked.end)
+  inside = omega (arith, length-range asked within)
+
+  reads_back : backward.reverse ≡ true
+  reads_back = rw (is.direction, forward)
+
+  back_is : text_of backward.reverse before ≡ back
+  back_is = rw reads_back (text-back asked j low within)
+
+  -- each run that ends there is one backward from there
+  turn : (k : ℕ) → k ≤ j → (cs : List ℕ) (y : ℕ) → AcceptsFrom nfa (text_of false asked) k nfa.start_anchored cs j y
+      → (ds : List ℕ) × (x : ℕ)
+      × Accepts backward (text_of backward.reverse before) backward.start_anchored ds (j - k) x
+  turn k l cs y acc = rw back_is ((is.begins (text_of false asked) j k inside l).1 (cs, y, acc))
+
+  -- so without a match none does
+  none_back : IsSearchResult backward kinds.All before None → (k : ℕ) → k ≤ j → (cs : List ℕ) (y : ℕ)
+      → AcceptsFrom nfa (text_of false asked) k nfa.start_anchored cs j y → ⊥
+  none_back s k l cs y acc =
+      let order : asked.start ≤ asked.start + j = omega arith in
+      let (ds, x, run) = turn k l cs y acc in s.none (le-ltb _ _ order) (ds, j - k, x, run)
+
+  -- and a match is the first start of one
+  first_back : (h : HalfMatch) → IsSearchResult backward kinds.All before (Some h)
+      → (k : ℕ) × (h.offset ≡ asked.start + k) × IsFirstStart nfa (text_of false asked) j k
+  first_back h s =
+      let (i, offset, (listed, far)) = s.farthest refl in
+      let at : h.offset ≡ asked.start + j - i = rw reads_back at offset in
+      let (cs, accepts) = (listed.1.accepted h.pattern).0 (0, omega arith, refl) in
+      let acc : Accepts backward back backward.start_anchored cs i h.pattern = rw back_is at accepts in
+      let size = (no_run_leaves_the_text backward backward.start_anchored back cs i).1 h.pattern acc in
+      let high : i ≤ j = omega (arith, simp (length-reverse, length-take) at size) in
+      let z : j - (j - i) ≡ i = omega arith in
+      let (ds, y, run) = (is.begins (text_of false asked) j (j - i) inside (omega arith)).0
+      (cs, h.pattern, rw z acc) in (
+        j - i,
+        omega arith,
+        record {
+          order = omega arith;
+          choices = ds;
+          pattern = y;
+          accepts = run;
+          first = λ k es x l acc.
+              let (fs, v, run) = turn k l es x acc in omega (arith, far fs (j - k) v run);
+        },
+      )
+
 -- the start of a leftmost match with this end
 module _ {nfa : Nfa} {haystack : List ℕ} {start end : ℕ} {asked : Asked} {m : Match}
     (e : IsEnded nfa haystack start end asked m) where
@@ -135,60 +203,62 @@ module _ {nfa : Nfa} {haystack : List ℕ} {start end : ℕ} {asked : Asked} {m 
   pub ended_within : (start ≤ end) × (end ≤ length haystack)
   ended_within = (omega (arith, lie, e.starts, e.ends), omega (arith, lie, e.within, e.ends))
 
-  -- the match in the text, and what a search backward from its end reads
-  abbrev n : Match
-  n = own.match
+  -- what a search backward from its end searches
+  same : before_end haystack start end ≡ before_end asked.haystack asked.start (asked.start + own.match.end)
+  same = cc (e.same, e.starts, e.ends, own.end)
 
-  abbrev back : Text
-  back = turned (upto (text_of false asked) n.end)
+  high : asked.start + own.match.end ≤ asked.end
+  high = omega (arith, own.end, lie.high)
 
-  inside : n.end ≤ length (slice_range asked.haystack asked.start asked.end)
-  inside = omega (arith, length-range asked (rw e.same e.within), own.end, lie.high)
+  order : own.match.start ≤ own.match.end
+  order = omega (arith, lie.order, own.start, own.end)
+
+  -- the match begins at the first position from which a run accepts that ends with it
+  begins_first : (k begin : ℕ) → begin ≡ asked.start + k → IsFirstStart nfa (text_of false asked) own.match.end k
+      → m.start ≡ begin
+  begins_first k begin at first =
+      let late = first.first own.match.start own.leftmost.choices own.match.pattern order own.leftmost.accepts in
+      by_cases (cases_lt k own.match.start)
+      (λ l. absurd (own.leftmost.leftmost k l first.choices own.match.end first.pattern first.accepts))
+      (λ l. omega (arith, at, own.start))
 
   module _ {backward : Nfa} (is : IsReverseOf backward nfa) (forward : nfa.reverse ≡ false) where
-    reads_back : backward.reverse ≡ true
-    reads_back = rw (is.direction, forward)
-
-    back_is : text_of backward.reverse (before_end haystack start end) ≡ back
-    back_is =
-        let same : before_end haystack start end ≡ before_end asked.haystack asked.start (asked.start + n.end)
-        = cc (e.same, e.starts, e.ends, own.end) in
-        rw (same, reads_back) (text-back asked n.end (omega (arith, own.end, lie.high)) (rw e.same e.within))
-
-    -- a run accepts where the match begins
-    accepts_back : (cs : List ℕ) × (y : ℕ) × Accepts backward back backward.start_anchored cs (n.end - n.start) y
-    accepts_back =
-        (is.begins (text_of false asked) n.end n.start inside (omega (arith, lie.order, own.start, own.end))).1
-        (own.leftmost.choices, n.pattern, own.leftmost.accepts)
-
-    -- so a search backward finds one
+    -- it finds where the match begins
     pub some_found : IsSearchResult backward kinds.All (before_end haystack start end) None → ⊥
-    some_found s =
-        let (cs, y, acc) = accepts_back in s.none (le-ltb _ _ ended_within.0) (cs, n.end - n.start, y, rw back_is acc)
+    some_found s = none_back is forward asked own.match.end (rw e.same e.within) high (rw same at s) own.match.start
+        order own.leftmost.choices own.match.pattern own.leftmost.accepts
 
-    -- and none accepts farther, if the match is the leftmost
-    farthest_back : (h : HalfMatch) → IsFarthestMatch backward backward.start_anchored back (Some h)
-        → h.offset + n.start ≡ n.end
-    farthest_back h (first, far) =
-        let (cs, acc) = (first.1.accepted h.pattern).0 (0, omega arith, refl) in
-        let low = (no_run_leaves_the_text backward backward.start_anchored back cs h.offset).1 h.pattern acc in
-        let high : h.offset ≤ n.end = omega (arith, simp (length-reverse, length-take) at low) in
-        let z : n.end - (n.end - h.offset) ≡ h.offset = omega arith in
-        let (ds, y, run) = (is.begins (text_of false asked) n.end (n.end - h.offset) inside (omega arith)).0
-        (cs, h.pattern, rw z acc) in
-        by_cases (cases_lt (n.end - h.offset) n.start)
-        (λ k. absurd (own.leftmost.leftmost (n.end - h.offset) k ds n.end y run))
-        (λ k. let (ds, y, acc) = accepts_back in
-        omega (arith, lie.order, own.start, own.end, far ds (n.end - n.start) y acc))
-
-    -- and it is where the match begins
     pub begin_found : (h : HalfMatch) → IsSearchResult backward kinds.All (before_end haystack start end) (Some h)
         → m.start ≡ h.offset
     begin_found h s =
-        let (i, offset, far) = s.farthest refl in
-        let at : h.offset ≡ end - i = rw reads_back at offset in
-        let back = farthest_back record { pattern = h.pattern; offset = i } (rw back_is at far) in
-        omega (arith, at, back, own.start, own.end, e.ends, ended_within.0)
+        let (k, at, first) = first_back is forward asked own.match.end (rw e.same e.within) high h (rw same at s) in
+        begins_first k h.offset at first
+
+-- a search backward of a whole range finds its start exactly where the whole range is a match
+module _ {forward backward : EngineValue} {flag : Bool} (pair : IsPair forward backward flag) (asked : Asked)
+    (within : asked.end ≤ length asked.haystack) where
+  abbrev size : ℕ
+  size = asked.end - asked.start
+
+  whole_is : asked.start ≤ asked.end
+      → record asked { anchored = Yes } ≡ before_end asked.haystack asked.start (asked.start + size)
+  whole_is l = let end : asked.start + size ≡ asked.end = omega arith in rw end refl
+
+  pub full_none : IsSearchResult backward.nfa kinds.All (record asked { anchored = Yes }) None
+      → IsFullMatch forward.nfa asked → ⊥
+  full_none s (l, cs, y, acc) = none_back pair.reverse pair.reads_forward asked size within (omega arith)
+      (rw (whole_is l) at s) 0 (omega arith) cs y acc
+
+  pub full_some : (h : HalfMatch) → IsSearchResult backward.nfa kinds.All (record asked { anchored = Yes }) (Some h)
+      → (h.offset ≡ asked.start → IsFullMatch forward.nfa asked)
+      × (IsFullMatch forward.nfa asked → h.offset ≡ asked.start)
+  full_some h s =
+      let l : asked.start ≤ asked.end = omega (arith, s.within) in
+      let (k, at, first) = first_back pair.reverse pair.reads_forward asked size within (omega arith) h
+      (rw (whole_is l) at s) in (
+        λ e. let z : k ≡ 0 = omega arith in (l, first.choices, first.pattern, rw z at first.accepts),
+        λ (_, cs, y, acc). omega (arith, first.first 0 cs y (omega arith) acc),
+      )
 
 -- the elements of a list of bytes
 pub all_bytes : (xs : List ℕ) → ((i : ℕ) → Fits w8 (slice_index_or xs i 0)) → All (λ b. b < 256) xs

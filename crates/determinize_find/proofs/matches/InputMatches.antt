@@ -62,7 +62,7 @@ module _ (nfa : Nfa) (accepted : IsAccepted nfa) where
       by_option found
       (λ e. ([], rw e at h))
       (λ m e. let is = rw e at h in
-      let less = (fewer nfa asked asked asked.start before m refl inside starts is).0 in
+      let less = (fewer nfa asked asked.start before m inside starts is).0 in
       let (ms, all) = matches n (from asked m.end) (Some m.end) (omega arith) inside (λ last e. cc) in
       (m ∷ ms, (is, all)))
 

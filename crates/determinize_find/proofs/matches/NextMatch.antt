@@ -1,10 +1,10 @@
 -- The next match is one of two leftmost ones, and one more match keeps what was found a prefix of the list.
--- Main statements: next_plain, next_further, fewer, one_more, all_found, after_one, after_all.
+-- Main statements: next_plain, next_further, fewer, after_one, after_all.
 -- Used by: the loops over all matches of this crate and of determinize_linear, InputMatches and Steps.
 -- Idea: a list of all matches from the cursor on, after what was found, is the list of all matches.
 use Rattle.determinize_find.proofs.Common.{ap, append-nil, append_assoc, AreMatches, arith, Asked, false, from}
 use Rattle.determinize_find.proofs.Common.{is_touching, IsLeftmostIn, IsNext, left, length, List, Match, Nfa, None}
-use Rattle.determinize_find.proofs.Common.{Option, refl, Some, true, [], ℕ, ◌++◌, ◌+◌, ◌<◌, ◌∷◌, ◌≡◌, ◌≤◌}
+use Rattle.determinize_find.proofs.Common.{Option, Some, true, [], ℕ, ◌++◌, ◌+◌, ◌<◌, ◌∷◌, ◌≡◌, ◌≤◌}
 use Rattle.determinize_find.specs.Cursors.{after_match, SearcherValue}
 use Rattle.determinize_find.proofs.matches.OneList.{LiesIn, next_lies}
 
@@ -18,30 +18,18 @@ pub next_further : (nfa : Nfa) (asked : Asked) (before : Option ℕ) (first foun
 next_further nfa asked before first found x t y = grind arith
 
 -- each match leaves fewer indices
-pub fewer : (nfa : Nfa) (asked rest : Asked) (start : ℕ) (before : Option ℕ) (m : Match) → rest ≡ from asked start
+pub fewer : (nfa : Nfa) (asked : Asked) (start : ℕ) (before : Option ℕ) (m : Match)
     → asked.end ≤ length asked.haystack → ((last : ℕ) → before ≡ Some last → last ≡ start)
-    → IsNext nfa rest before (Some m)
+    → IsNext nfa (from asked start) before (Some m)
     → (left asked.end m.end (Some m.end) < left asked.end start before) × LiesIn (from asked start) m
-fewer nfa asked rest start before m r l starts n =
-    let y = next_lies nfa (from asked start) before m l starts (rw r at n) in
+fewer nfa asked start before m l starts n =
+    let y = next_lies nfa (from asked start) before m l starts n in
     (grind (arith, y.1, starts, y.0.low, y.0.order, y.0.high), y.0)
 
 -- what was found so far, before all that is left; `initial` is the end of a match before all of them
 abbrev pub AreFirst : Nfa → Asked → Option ℕ → ℕ → Option ℕ → List Match → Type 0
 AreFirst nfa asked initial start before ms =
     (rest : List Match) → AreMatches nfa (from asked start) before rest → AreMatches nfa asked initial (ms ++ rest)
-
-pub one_more : (initial : Option ℕ) (nfa now : Nfa) (asked rest : Asked) (start : ℕ) (before : Option ℕ)
-    (ms : List Match) (m : Match) → now ≡ nfa → rest ≡ from asked start
-    → AreFirst nfa asked initial start before ms → IsNext now rest before (Some m)
-    → AreFirst nfa asked initial m.end (Some m.end) (ms ++ m ∷ [])
-one_more initial nfa now asked rest start before ms m e r h n others o =
-    rw append_assoc (h (m ∷ others) ((rw (e, r) at n), o))
-
-pub all_found : (initial : Option ℕ) (nfa now : Nfa) (asked rest : Asked) (start : ℕ) (before : Option ℕ)
-    (ms : List Match) → now ≡ nfa → rest ≡ from asked start
-    → AreFirst nfa asked initial start before ms → IsNext now rest before None → AreMatches nfa asked initial ms
-all_found initial nfa now asked rest start before ms e r h n = rw append-nil at (h [] (rw (e, r) at n))
 
 -- a cursor behind the first matches of an input
 pub record IsAfter (nfa : Nfa) (asked : Asked) (initial : Option ℕ) (s : SearcherValue) (ms : List Match)
@@ -60,11 +48,12 @@ pub after_one : {initial : Option ℕ} (nfa : Nfa) (asked : Asked) (s new : Sear
     → asked.end ≤ length asked.haystack → IsAfter nfa asked initial s ms → IsNext nfa s.asked s.before (Some m)
     → new ≡ after_match s (Some m) → IsOneMore nfa asked initial s new ms m
 after_one {initial} nfa asked s new ms m l a n z =
-    let less = fewer nfa asked s.asked s.asked.start s.before m a.rest l a.last n in rw z (
+    let next = rw a.rest at n in
+    let less = fewer nfa asked s.asked.start s.before m l a.last next in rw z (
       record {
         rest = ap (λ w. from w m.end) a.rest;
         last = λ end y. cc;
-        first = one_more initial nfa nfa asked s.asked s.asked.start s.before ms m refl a.rest a.first n;
+        first = λ others o. rw append_assoc (a.first (m ∷ others) (next, o));
       },
       less.0,
       less.1,
@@ -72,5 +61,4 @@ after_one {initial} nfa asked s new ms m l a n z =
 
 pub after_all : {initial : Option ℕ} (nfa : Nfa) (asked : Asked) (s : SearcherValue) (ms : List Match)
     → IsAfter nfa asked initial s ms → IsNext nfa s.asked s.before None → AreMatches nfa asked initial ms
-after_all {initial} nfa asked s ms a n =
-    all_found initial nfa nfa asked s.asked s.asked.start s.before ms refl a.rest a.first n
+after_all nfa asked s ms a n = rw append-nil at (a.first [] (rw a.rest at n))

@@ -1,32 +1,50 @@
--- What the value of a scan records, and whether a run that began before is under way where it is.
--- Main statements: scanned_whole, recorded, begun_first, each_busy_has_begun, each_idle_is_fresh, fresh.
--- Used by: `laws::idle_law`, `Regex::is_idle`, and Certain.
+-- What the value of a scan says of the runs so far: whether one that began before is under way, and which match is
+-- certain.
+-- Main statements: begun_first, each_busy_has_begun, each_idle_is_fresh, fresh, each_certain_is_preferred, is_ended,
+-- certain_is.
+-- Used by: `laws::idle_law` and `certain_law`, `Regex::is_idle` and `certain`.
 -- Idea: the value of a scan with an NFA state is that of a walk over its bytes. The least run to its first state is
 -- before the one that passes over all bytes, so it left the prefix earlier, and before each other run did. At an idle
 -- place it is that one, so no other run comes there; and where one accepts before, the leftmost match ends there or
--- later.
-use Rattle.determinize_find.proofs.Common.{AcceptsFrom, All, All-drop, ap, append-nil, append_assoc, arith, Assertion}
-use Rattle.determinize_find.proofs.Common.{Before, Before-trans, between, Bool, by_cases, by_option, byte_before}
-use Rattle.determinize_find.proofs.Common.{cases_eq, cases_lt, chain, Contains_In, drop, EachBusyHasBegun}
-use Rattle.determinize_find.proofs.Common.{EachIdleIsFresh, end_of, false, HalfMatch, HasPrefix, HasPrefixApart, inl}
-use Rattle.determinize_find.proofs.Common.{is_capture, IsAccepted, IsEndScan, IsFresh, IsIdle, IsPath, IsScan}
-use Rattle.determinize_find.proofs.Common.{last_match, leads_to, LeftmostFirst, length, length-drop, length-map, List}
-use Rattle.determinize_find.proofs.Common.{map, map-append, Nfa, None, none_leaves, Option, option_map, option_or}
-use Rattle.determinize_find.proofs.Common.{parted, pass, pass_all, pass_first, pattern_in, preferred, refl, same_least}
-use Rattle.determinize_find.proofs.Common.{Scanned, skip, skip_before, slice_get, slice_get_within, Some}
-use Rattle.determinize_find.proofs.Common.{some_injective, start_value, stays_out, step, suc, sym, tests_capture, Text}
-use Rattle.determinize_find.proofs.Common.{true, u_not_a, u_not_x, units_read, unshape, Value, zero, [], ℕ, ◌++◌, ◌+◌}
-use Rattle.determinize_find.proofs.Common.{◌<◌, ◌∙◌, ◌∷◌, ◌≡◌, ◌≤◌}
+-- later. If the first state is a `Match`, the next step lists its pattern and enters no state, so the last match of
+-- each walk is the same, and the leftmost match begins with that run. Where a match that ends before begins depends
+-- only on what is before its end.
+use Rattle.determinize_find.proofs.Common.{AcceptsFrom, add-one, All, All-append, All-drop, All-nil, ap, append-nil}
+use Rattle.determinize_find.proofs.Common.{append_assoc, arith, Assertion, Before, Before-trans, between, Bool}
+use Rattle.determinize_find.proofs.Common.{by_cases, by_option, by_test, byte_before, cases_eq, cases_lt, certain_after}
+use Rattle.determinize_find.proofs.Common.{certain_match, chain, drop, drop-append-le, each_run_reads_forward}
+use Rattle.determinize_find.proofs.Common.{EachBusyHasBegun, EachCertainIsPreferred, EachIdleIsFresh, end_of, ended_at}
+use Rattle.determinize_find.proofs.Common.{false, from, HalfMatch, HasPrefix, HasPrefixApart, inl, inr, is_capture}
+use Rattle.determinize_find.proofs.Common.{is_match, is_reopened, IsAccepted, IsBeginOf, IsCertain, IsEnded, IsEndOf}
+use Rattle.determinize_find.proofs.Common.{IsEndScan, IsFresh, IsLeftmostIn, IsLeftmostMatch, IsPath, IsScan, IsSettled}
+use Rattle.determinize_find.proofs.Common.{last_match, leads_to, LeftmostFirst, length, length-append, length-drop}
+use Rattle.determinize_find.proofs.Common.{length-map, List, map, map-append, Match, moved, Nfa, None, none-some}
+use Rattle.determinize_find.proofs.Common.{none_leaves, Option, option_map, option_or, part_read, parted, pass}
+use Rattle.determinize_find.proofs.Common.{pass_all, pass_first, pattern_in, pattern_of, patterns_of, patterns_read}
+use Rattle.determinize_find.proofs.Common.{preferred, reach, refl, same_least, Scanned, skip, skip_before, slice_get}
+use Rattle.determinize_find.proofs.Common.{slice_get_within, Some, some_injective, start_value, stays_out, step, suc}
+use Rattle.determinize_find.proofs.Common.{sym, tests_capture, Text, true, u_not_a, u_not_x, unshape, whole}
+use Rattle.determinize_find.proofs.Common.{working_list, zero, [], ℕ, ◌++◌, ◌+◌, ◌<◌, ◌∙◌, ◌∷◌, ◌≡◌, ◌≤◌, ◌⊎◌}
 use Rattle.ordered_reach.specs.Runs.{IsLeastRun, ListsReached}
 use Rattle.determinize_core.proofs.walk.UnitLists.{chain_is_future}
 use Rattle.determinize_core.proofs.walk.WalkOfRuns.{each_chain_reaches}
-use Rattle.determinize_engine.proofs.Scanning.{last-scanned}
+use Rattle.determinize_engine.proofs.Scanning.{last-scanned, settled}
 use Rattle.determinize_engine.specs.Private.Later.{last_from, later_by}
 use Rattle.determinize_find.proofs.streams.Cuts.{begun, graph, known_is, not_less, passes, same_path, slice_get-append}
 use Rattle.determinize_find.proofs.streams.Cuts.{there, true_path}
 use Rattle.std.proofs.Math.Nat.{lt_of_not-le, zero-add}
 use Rattle.determinize_find.proofs.leftmost.PreferredRun.{each_preferred_is_leftmost, not_before}
 use Rattle.determinize_core.proofs.Common.{future, MatchKind, same_decides, state_at, value_after}
+use Rattle.determinize_below.proofs.nfas.SoundNfa.{match_in}
+use Rattle.determinize_core.proofs.closure.EmptySearch.{reach-none}
+use Rattle.determinize_core.proofs.walk.WalkLoops.{stops_at}
+use Rattle.determinize_engine.proofs.LastUnits.{last_match-within}
+use Rattle.determinize_engine.proofs.Later.{last_from-next, last_from-over}
+use Rattle.determinize_find.proofs.streams.Rests.{byte_before-append, of_rest}
+use Rattle.determinize_core.specs.Value.{Value}
+use Rattle.determinize_engine.specs.UnitsRead.{units_read}
+use Rattle.determinize_find.specs.Idle.{IsIdle}
+use Rattle.ordered_reach.proofs.lists.Elements.{Contains_In}
 
 later_than : (n : ℕ) (o : Option HalfMatch) (h : HalfMatch) → option_or (option_map (later_by n) o) None ≡ Some h
     → n ≤ h.offset
@@ -221,3 +239,212 @@ fresh nfa xs start s apart small some h idle = record {
   nothing = λ more few k l. each_idle_is_fresh nfa h.accepted apart (byte_before xs start) (drop start xs)
       (All-drop (λ b. b < 256) start xs small) s h.scan idle more None k (omega (arith, length-drop start xs));
 }
+
+-- a match of a pattern that ends at an offset
+abbrev half : ℕ → ℕ → HalfMatch
+half pattern offset = record { pattern = pattern; offset = offset }
+
+-- the first NFA state is the match, which ends with the bytes
+pub record IsFirst (nfa : Nfa) (s : Scanned) (m : HalfMatch) : Type 0 where
+  pub state : ℕ
+  pub others : List ℕ
+  pub states : s.state.states ≡ state ∷ others
+  pub match : pattern_of nfa state ≡ Some m.pattern
+  pub end : m.offset ≡ s.read
+
+-- where the first state is a match, its pattern is listed and nothing else is read
+stops_first : (nfa : Nfa) (xs : List ℕ) (x p : ℕ) → slice_get xs 0 ≡ Some x → pattern_of nfa x ≡ Some p
+    → (part_read LeftmostFirst (is_match nfa) xs ≡ [])
+    × (patterns_read LeftmostFirst (patterns_of nfa xs) ≡ p ∷ [])
+stops_first nfa [] x p e m = absurd (let z : None ≡ Some x = e in cc)
+stops_first nfa (y ∷ ys) x p e m = let z : y ≡ x = some_injective y x e in stops_at nfa [] ys y p refl (rw z m)
+
+module _ {nfa : Nfa} {s : Scanned} {m : HalfMatch} (first : IsFirst nfa s m) where
+  -- the first state that a step reads is the first of the value
+  reads_first : (u : Option ℕ) → slice_get (working_list nfa s.state u) 0 ≡ Some first.state
+  unfolding reach
+  reads_first u = by_test (is_reopened nfa s.state u)
+      (λ r. rw (r, first.states, add-one) refl)
+      (λ r. rw (r, first.states) refl)
+
+  step_first : (u : Option ℕ) → ((step nfa LeftmostFirst s.state u).patterns ≡ m.pattern ∷ [])
+      × ((step nfa LeftmostFirst s.state u).states ≡ [])
+  unfolding step
+  step_first u =
+      let (none, listed) = stops_first nfa (working_list nfa s.state u) first.state m.pattern (reads_first u)
+      first.match in rw (none, listed, reach-none) (refl, refl)
+
+  -- so it is the last match, for any units that follow
+  ends_next : (u : Option ℕ) (us : List (Option ℕ))
+      → last_from nfa LeftmostFirst s.read s.last s.state (u ∷ us) ≡ Some (half m.pattern s.read)
+  ends_next u us =
+      let (listed, none) = step_first u in
+      last_from-next nfa LeftmostFirst s.read s.last s.state u us
+      ∙ ap (λ ps. last_from nfa LeftmostFirst (s.read + 1) (option_or (ended_at s.read ps) s.last)
+      (step nfa LeftmostFirst s.state u) us) listed
+      ∙ last_from-over nfa LeftmostFirst (s.read + 1) _ (step nfa LeftmostFirst s.state u) us none
+
+  ends_first : (more : List ℕ) (ahead : Option ℕ)
+      → last_from nfa LeftmostFirst s.read s.last s.state (map Some more ++ ahead ∷ []) ≡ Some (half m.pattern s.read)
+  ends_first [] ahead = ends_next ahead []
+  ends_first (b ∷ more) ahead = ends_next (Some b) (map Some more ++ ahead ∷ [])
+
+-- a certain match is the last one, where no NFA state is left, or that of the first one
+certain_cases : (nfa : Nfa) (s : Scanned) (m : HalfMatch) → certain_match nfa s ≡ Some m
+    → ((s.state.states ≡ []) × (s.last ≡ Some m)) ⊎ IsFirst nfa s m
+certain_cases nfa s m e = go s.state.states refl e
+  where
+    go : (states : List ℕ) → s.state.states ≡ states → certain_after nfa s.read s.last states ≡ Some m
+        → ((s.state.states ≡ []) × (s.last ≡ Some m)) ⊎ IsFirst nfa s m
+    go [] z f = inl (z, f)
+    go (x ∷ xs) z f = by_option (pattern_of nfa x)
+        (λ n. absurd (let w : None ≡ Some m = rw n at f in cc))
+        (λ p y. let w : half p s.read ≡ m = some_injective (half p s.read) m (rw y at f) in
+        inr (record { state = x; others = xs; states = z; match = rw (← w) y; end = rw (← w) refl }))
+
+module _ {nfa : Nfa} {start : ℕ} {behind : Option ℕ} {bytes : List ℕ} {s : Scanned}
+    (is : IsScan nfa LeftmostFirst start behind bytes s) (m : HalfMatch) (e : certain_match nfa s ≡ Some m) where
+  pub settled_certain : IsSettled nfa LeftmostFirst start behind bytes (Some m)
+  settled_certain = by_cases (certain_cases nfa s m e)
+      (λ c. rw (← c.1) (settled is c.0))
+      (λ first more ahead. let end : s.read ≡ m.offset = sym first.end in
+      sym (scanned_whole is more ahead ∙ ends_first first more ahead ∙ ap (λ n. Some (half m.pattern n)) end))
+
+  -- it ends before the last byte, or it is that of the first state
+  pub certain_within : (m.offset < length bytes) ⊎ IsFirst nfa s m
+  certain_within = by_cases (certain_cases nfa s m e)
+      (λ c. inl (rw (← is.last, c.1, length-map) at
+      (last_match-within nfa LeftmostFirst (start_value nfa start behind) (map Some bytes))))
+      inr
+
+pub each_certain_is_preferred : EachCertainIsPreferred
+each_certain_is_preferred nfa accepted start behind bytes s is m e more ahead =
+    preferred nfa LeftmostFirst start (between behind (bytes ++ more) ahead) (Some m) accepted refl
+    (settled_certain is m e more ahead)
+
+-- where the leftmost match begins that has this end, of each text that begins with the bytes
+pub record BeginsThere (nfa : Nfa) (behind : Option ℕ) (bytes : List ℕ) (end : ℕ) : Type 0 where
+  pub start : ℕ
+  pub below : start < length bytes
+  pub is : (more : List ℕ) (m : Match) → IsLeftmostMatch nfa (between behind (bytes ++ more) None) m → m.end ≡ end
+      → m.start ≡ start
+
+-- a match that the first NFA state is begins where the first run does that comes to the end
+pub first_begins : {nfa : Nfa} → IsAccepted nfa → HasPrefix nfa → {behind : Option ℕ} {bytes : List ℕ} {s : Scanned}
+    {h : HalfMatch} → All (λ b. b < 256) bytes → IsScan nfa LeftmostFirst nfa.start_unanchored behind bytes s
+    → IsFirst nfa s h → BeginsThere nfa behind bytes (length bytes)
+first_begins {nfa} accepted has {behind} {bytes} {s} {h} small is first =
+    let begun = begun_first accepted has small is first.state (rw first.states refl)
+    (λ e. let z : Some h.pattern ≡ None = sym first.match ∙ rw (e, has.first) refl in cc) in
+    record {
+      start = begun.start;
+      below = begun.below;
+      is = λ more m left end.
+          let path = true_path nfa behind bytes more None begun.choices (begun.start, nfa.start_anchored) first.state
+          begun.path in
+          let low = not_less begun.start m.start (λ k. left.leftmost begun.start k begun.choices (length bytes)
+          h.pattern (first.state, path, match_in _ h.pattern first.match)) in
+          let (s, run, match) = left.accepts in
+          let (cs, t, plain, to_end) = passes nfa behind bytes more None left.choices [] (m.start, nfa.start_anchored)
+          (m.end, s) (omega (arith, begun.below)) (omega arith) (ap tests_capture match) run in
+          omega (arith, low, begun.first m.start cs t (omega (arith, begun.below)) plain to_end);
+    }
+
+-- of two texts that begin with the bytes, whose leftmost matches end before the last, that of the second does not begin
+-- later
+not_later : (nfa : Nfa) (behind : Option ℕ) (bytes more others : List ℕ) (m n : Match) → m.end < length bytes
+    → IsLeftmostMatch nfa (between behind (bytes ++ more) None) m
+    → IsLeftmostMatch nfa (between behind (bytes ++ others) None) n → n.start ≤ m.start
+not_later nfa behind bytes more others m n inside left other = not_less m.start n.start (λ k.
+    let (s, path, match) = left.accepts in
+    let same = same_path nfa behind bytes more others None None left.choices (m.start, nfa.start_anchored) (m.end, s)
+    inside path in other.leftmost m.start k left.choices m.end m.pattern (s, same, match))
+
+-- so they begin at one position
+begins_before : (nfa : Nfa) (behind : Option ℕ) (bytes : List ℕ) (m : Match) → m.end < length bytes
+    → IsLeftmostMatch nfa (between behind (bytes ++ []) None) m → BeginsThere nfa behind bytes m.end
+begins_before nfa behind bytes m inside left = record {
+  start = m.start;
+  below = omega (arith, each_run_reads_forward nfa _ m.start nfa.start_anchored left.choices _ _ left.accepts);
+  is = λ more n other ends.
+      let low = not_later nfa behind bytes more [] n m (omega arith) other left in
+      let high = not_later nfa behind bytes [] more m n inside left other in omega arith;
+}
+
+-- a search over the bytes of a haystack from an index on, of which a match is certain
+pub record HasCertain (nfa : Nfa) (xs : List ℕ) (start : ℕ) (s : Scanned) (h : HalfMatch) : Type 0 where
+  pub within : start ≤ length xs
+  pub small : All (λ b. b < 256) xs
+  pub scan : IsEndScan nfa (byte_before xs start) (drop start xs) s
+  pub certain : certain_match nfa s ≡ Some h
+
+-- the text from an index on, with more bytes
+abbrev text_with : List ℕ → ℕ → List ℕ → Text
+text_with xs start more = between (byte_before xs start) (drop start xs ++ more) None
+
+-- its leftmost match, also in the haystack, which has this pattern and end
+record IsMatchWith (nfa : Nfa) (xs : List ℕ) (start : ℕ) (more : List ℕ) (h : HalfMatch) : Type 0 where
+  match : Match
+  left : IsLeftmostMatch nfa (text_with xs start more) match
+  in_haystack : IsLeftmostIn nfa (from (whole (xs ++ more)) start) (Some (moved start match))
+  pattern : match.pattern ≡ h.pattern
+  end : match.end ≡ h.offset
+
+module _ {nfa : Nfa} {xs : List ℕ} {start : ℕ} {s : Scanned} {h : HalfMatch} (is : HasCertain nfa xs start s h) where
+  few : All (λ b. b < 256) (drop start xs)
+  few = All-drop (λ b. b < 256) start xs is.small
+
+  match_with : (more : List ℕ) → All (λ b. b < 256) more → IsMatchWith nfa xs start more h
+  match_with more small =
+      let p = preferred nfa LeftmostFirst nfa.start_unanchored (text_with xs start more) (Some h) is.scan.accepted refl
+      (settled_certain is.scan.scan h is.certain more None) in
+      let (o, left, e) = each_preferred_is_leftmost nfa is.scan.prefix (text_with xs start more)
+      (All-append (λ b. b < 256) (drop start xs) more few small) (Some h) p in
+      let there = of_rest nfa is.scan.prefix (xs ++ more) start (simp length-append (omega (arith, is.within))) o
+      (rw (byte_before-append xs more start is.within, drop-append-le start xs more is.within) left) in
+      by_option o
+      (λ n. absurd (none-some h (sym (rw n at e))))
+      (λ m y. let found = rw y at e in
+      record { match = m; left = (rw y at left).1; in_haystack = rw y at there; pattern = cc; end = cc })
+
+  -- without more bytes
+  now : IsMatchWith nfa xs start [] h
+  now = match_with [] (All-nil (λ b. b < 256))
+
+  ended : IsEnded nfa xs start (start + h.offset) (from (whole xs) start) (moved start now.match)
+  ended = record {
+    same = refl;
+    starts = refl;
+    within = omega arith;
+    leftmost = rw append-nil at now.in_haystack;
+    ends = ap (λ n. start + n) now.end;
+  }
+
+  pub is_ended : IsEndOf nfa xs start (start + h.offset)
+  is_ended = (from (whole xs) start, moved start now.match, ended)
+
+  pub certain_is : (begin : ℕ) → IsBeginOf nfa xs start (start + h.offset) begin
+      → IsCertain nfa xs start record { pattern = h.pattern; start = begin; end = start + h.offset }
+  certain_is begin at =
+      let ends = certain_within is.scan.scan h is.certain in
+      let there : BeginsThere nfa (byte_before xs start) (drop start xs) now.match.end = by_cases ends
+      (λ l. begins_before nfa (byte_before xs start) (drop start xs) now.match (omega (arith, now.end)) now.left)
+      (λ f. rw (now.end, f.end, is.scan.scan.read) (first_begins is.scan.accepted is.scan.prefix few is.scan.scan f)) in
+      let high : h.offset ≤ length (drop start xs)
+      = by_cases ends (λ l. omega arith) (λ f. omega (arith, f.end, is.scan.scan.read)) in
+      let here : start + now.match.start ≡ begin = at (from (whole xs) start) (moved start now.match) ended in
+      let one : now.match.start ≡ there.start = there.is [] now.match now.left refl in
+      let order : now.match.start ≤ now.match.end
+      = each_run_reads_forward nfa _ now.match.start nfa.start_anchored now.left.choices _ _ now.left.accepts in
+      record {
+        inside = record {
+          low = omega arith;
+          order = omega (arith, order, now.end);
+          high = omega (arith, high, is.within, length-drop start xs);
+          some = omega (arith, there.below, is.within, length-drop start xs);
+        };
+        leftmost = λ more small.
+            let m = match_with more small in
+            let at = ap (λ n. start + n) (there.is more m.match m.left (m.end ∙ sym now.end) ∙ sym one) ∙ here in
+            rw (at, m.pattern, m.end) at m.in_haystack;
+      }

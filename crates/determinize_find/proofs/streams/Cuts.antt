@@ -1,18 +1,20 @@
 -- Runs over texts that begin with the same bytes, by the assertions that are known where these bytes end.
 -- Main statements: known_is, true_path, passes, same_path.
--- Used by: Begun and Certain.
+-- Used by: Begun.
 -- Idea: before that position the texts have the same units, and at it the assertions that are known are among those
 -- that are true (SameChoices).
 use Rattle.determinize_find.proofs.Common.{after_at, ap, arith, Assertion, before_at, between, Bool, by_cases, by_test}
 use Rattle.determinize_find.proofs.Common.{cases_lt, choice_cases, choice_later, choices, choices_under, cond, eq-eqb}
-use Rattle.determinize_find.proofs.Common.{false, free_more, inl, inr, is_capture, IsPath, known, known_choices, length}
-use Rattle.determinize_find.proofs.Common.{List, ne_eqb, Nfa, None, one_choice, Option, path_agree, refl, same_choices}
-use Rattle.determinize_find.proofs.Common.{slice_get, slice_get-get_or, Some, suc, sym, Text, true_at, under_later}
-use Rattle.determinize_find.proofs.Common.{zero, [], ℕ, ◌++◌, ◌<◌, ◌==◌, ◌∷◌, ◌≡◌, ◌≤◌, ◌⊎◌}
+use Rattle.determinize_find.proofs.Common.{false, inl, inr, is_capture, IsPath, length, List, ne_eqb, Nfa, None, Option}
+use Rattle.determinize_find.proofs.Common.{refl, slice_get, slice_get-get_or, Some, suc, sym, Text, true_at}
+use Rattle.determinize_find.proofs.Common.{under_later, zero, [], ℕ, ◌++◌, ◌<◌, ◌==◌, ◌∷◌, ◌≡◌, ◌≤◌, ◌⊎◌}
 use Rattle.ordered_reach.proofs.lists.Elements.{In_cases, In_none}
 use mathlib.Core.Path.{fun_ext}
 use Rattle.determinize_below.proofs.nfas.Edges.{next_of}
 use Rattle.determinize_start.proofs.tables.TrueTables.{known_truth}
+use Rattle.determinize_below.specs.Reached.{known, known_choices}
+use Rattle.determinize_nfa.proofs.runs.SameChoices.{free_more, one_choice, same_choices}
+use Rattle.ordered_reach.proofs.graph.PathMaps.{path_agree}
 
 pub not_less : (a b : ℕ) → (a < b → ⊥) → b ≤ a
 not_less a b none = by_cases (cases_lt a b) (λ l. absurd (none l)) (λ l. l)

@@ -1,14 +1,13 @@
 -- Leftmost matches from an index on: of a haystack without its first bytes, and from a later index before which no
 -- match begins.
 -- Main statements: of_rest, shift_leftmost, leftmost_since, skip_leftmost.
--- Used by: the steps of `Pieces`, Certain, InputMatches.
+-- Used by: the steps of `Pieces`, Begun, InputMatches.
 -- Idea: the rest of a haystack is one text, regardless of what was dropped before the byte behind it.
 use Rattle.determinize_find.proofs.Common.{arith, between, by_cases, byte_before, cases_lt, drop, drop-drop}
 use Rattle.determinize_find.proofs.Common.{each_run_moves, false, from, HasPrefix, is_done, IsLeftmost, IsLeftmostIn}
 use Rattle.determinize_find.proofs.Common.{le-ltb, length, length-drop, List, Match, moved, nat_lt, Nfa, None, Option}
-use Rattle.determinize_find.proofs.Common.{option_map, refl, since, slice_get-drop, slice_get_past, Some}
-use Rattle.determinize_find.proofs.Common.{suc, sym, take_rest, Text, text_of, whole, zero, ℕ, ◌++◌, ◌+◌, ◌-◌, ◌∙◌, ◌≡◌}
-use Rattle.determinize_find.proofs.Common.{◌≤◌}
+use Rattle.determinize_find.proofs.Common.{option_map, refl, since, slice_get-drop, slice_get_past, Some, suc, sym}
+use Rattle.determinize_find.proofs.Common.{take_rest, Text, text_of, whole, zero, ℕ, ◌++◌, ◌+◌, ◌-◌, ◌∙◌, ◌≡◌, ◌≤◌}
 use Rattle.determinize_find.proofs.streams.Cuts.{slice_get-append}
 use Rattle.determinize_find.specs.Idle.{NothingBefore}
 use Rattle.determinize_find.proofs.leftmost.SearchInTurn.{later_run, leftmost_in, leftmost_match, text-since}

@@ -7,10 +7,10 @@ use Rattle.determinize_nfa.specs.Reversal.{IsReverseOf}
 
 -- one finds the end of the most preferred match, the other the farthest start of a match; the flag
 -- is set only if the prefix of the NFA is apart
-pub record IsPair (forward backward : EngineValue) (is_apart : Bool) : Type 0 where
+pub record IsPair (forward backward : EngineValue) (is_known_apart : Bool) : Type 0 where
   pub kind : forward.kind ≡ LeftmostFirst
   pub kind_backward : backward.kind ≡ All
   pub reads_forward : forward.nfa.reverse ≡ false
   pub prefix : HasPrefix forward.nfa
-  pub apart : is_apart ≡ true → HasPrefixApart forward.nfa
+  pub apart : is_known_apart ≡ true → HasPrefixApart forward.nfa
   pub reverse : IsReverseOf backward.nfa forward.nfa

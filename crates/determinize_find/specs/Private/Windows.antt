@@ -1,7 +1,7 @@
 -- What is true of every `Pieces`, and of the match that it is sure of.
 use Rattle.std.specs.Prelude.{◌≡◌, ◌+◌, ◌++◌, ◌-◌, ◌<◌, ◌≤◌, ℕ, All, List, None, Option, Some, [], cond}
-use Rattle.std.specs.Prelude.{drop, false, length, true}
-use Rattle.std.specs.Option.{IfSome}
+use Rattle.std.specs.Prelude.{IfOk, Result, drop, false, length, true}
+use Rattle.std.specs.Option.{IfNone, IfSome}
 use Rattle.determinize_below.specs.Semantics.{Nfa, between}
 use Rattle.determinize_below.specs.declared.search.Match.{Match}
 use Rattle.determinize_start.specs.StartKinds.{byte_before}
@@ -10,7 +10,7 @@ use Rattle.determinize_find.specs.Idle.{NothingBefore}
 use Rattle.determinize_find.specs.LeftmostIn.{IsLeftmostIn}
 use Rattle.determinize_find.specs.Matches.{from, touches}
 use Rattle.determinize_nfa.specs.Prefix.{HasPrefix}
-use Rattle.determinize_find.specs.Streams.{IsFed, IsSearching, Streamed, whole}
+use Rattle.determinize_find.specs.Streams.{IsFed, IsSearching, KeepsFew, Streamed, whole}
 
 -- the search begins in the kept bytes and has read the rest of them, the byte before it is kept,
 -- and what was read has a count
@@ -68,6 +68,13 @@ pub record IsPlaceOf (m : Match) (s : Streamed) : Type 0 where
 pub record HasMoved (nfa : Nfa) (old new : Streamed) : Type 0 where
   pub fed : (list : List Match) → IsFed nfa old new [] list list
   pub searching : IsSearching nfa new
+
+-- a step that reads nothing: a match that it returns is certain, and without one few bytes are kept
+pub record IsStep {E : Type 0} (nfa : Nfa) (old new : Streamed) (result : Result (Option Match) E)
+    : Type 0 where
+  pub moved : HasMoved nfa old new
+  pub certain : IfOk result (λ next. IfSome next (λ m. IsCertain nfa new.kept new.start m))
+  pub few : IfOk result (λ next. IfNone next (KeepsFew nfa new))
 
 -- the first bytes are dropped
 abbrev pub without_first : ℕ → Streamed → Streamed

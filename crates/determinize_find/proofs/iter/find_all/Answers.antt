@@ -1,4 +1,4 @@
-use Rattle.determinize_find.proofs.Common.{arith, None, rules, ◌∙◌, ◌≡◌}
+use Rattle.determinize_find.proofs.Common.{None, ◌∙◌}
 use Rattle.determinize_find.proofs.matches.NextMatch.{after_all, after_one, IsOneMore}
 use Rattle.determinize_find.proofs.iter.find_all.Given.{Over}
 use Rattle.determinize_find.proofs.iter.find_all.Goals.{In-Ok-Some}

@@ -1,6 +1,5 @@
 use Rattle.determinize_find.proofs.Common.{chunks_rest, chunks_size, nil_from_length, of_err, refl, rules, ◌∙◌, ◌≡◌}
-use Rattle.determinize_find.proofs.streams.Steps.{part_fed}
-use Rattle.determinize_find.proofs.streams.Kept.{all_read, read_more, read_none}
+use Rattle.determinize_find.proofs.streams.Steps.{all_read, part_fed, read_more, read_none}
 use Rattle.determinize_find.proofs.pieces.Pieces.feed.Goals as goal
 
 pub loop-block-init : goal.loop-block-init

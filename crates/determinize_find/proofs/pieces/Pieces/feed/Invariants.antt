@@ -1,5 +1,5 @@
 use Rattle.determinize_find.proofs.Common.{chunks_rest, chunks_size, IsSearching, ◌≡◌}
-use Rattle.determinize_find.proofs.streams.Kept.{HasRead}
+use Rattle.determinize_find.proofs.streams.Steps.{HasRead}
 use Rattle.determinize_find.proofs.pieces.Pieces.feed.Given as goal
 
 abbrev pub invariant-loop-block : goal.invariant-loop-block

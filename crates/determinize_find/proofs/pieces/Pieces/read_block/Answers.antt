@@ -1,7 +1,6 @@
-use Rattle.determinize_find.proofs.Common.{append-nil, HasMoved, moved, None, of_err, refl, rules}
-use Rattle.determinize_find.proofs.Common.{[], ◌++◌, ◌∙◌, ◌∷◌, ◌≡◌}
-use Rattle.determinize_find.proofs.streams.Kept.{moved_nowhere}
-use Rattle.determinize_find.proofs.streams.Steps.{front_fed, joined_none}
+use Rattle.determinize_find.proofs.Common.{append-nil, HasMoved, moved, None, of_err, refl, rules, [], ◌++◌, ◌∙◌, ◌∷◌}
+use Rattle.determinize_find.proofs.Common.{◌≡◌}
+use Rattle.determinize_find.proofs.streams.Steps.{front_fed, joined_none, moved_nowhere}
 use Rattle.determinize_find.proofs.pieces.Pieces.read_block.Goals as goal
 
 pub returns-in_err-keep-clause-read : goal.returns-in_err-keep-clause-read
@@ -25,14 +24,14 @@ loop-next-init g c = record {
 pub returns-in_err-next-clause-read : goal.returns-in_err-next-clause-read
 returns-in_err-next-clause-read g c searching =
     let (fed, now) = c.loop-next.invariant.read searching in
-    let move = (rw c.loop-next.invariant.same at c.next_certain.ensures.moved) now in
+    let move = ((rw c.loop-next.invariant.same at c.next_certain.ensures.step) now).moved in
     let failed = front_fed [] (append-nil _) (joined_none fed (move.fed c.loop-next.found.items)) in
     record { fed = search rules; failed = of_err _ failed; searching = move.searching }
 
 pub returns-in_err-push-clause-read : goal.returns-in_err-push-clause-read
 returns-in_err-push-clause-read g c searching =
     let (fed, now) = c.loop-next.invariant.read searching in
-    let move = (rw c.loop-next.invariant.same at c.next_certain.ensures.moved) now in
+    let move = ((rw c.loop-next.invariant.same at c.next_certain.ensures.step) now).moved in
     let items : c.push.new.self.items ≡ c.loop-next.found.items = search rules in
     record {
       fed = search rules;
@@ -49,10 +48,10 @@ loop-next-preserved g c =
       same = c.in_ok-next.ensures.same ∙ c.loop-next.invariant.same;
       read = λ searching.
           let (fed, now) = c.loop-next.invariant.read searching in
-          let move = (rw c.loop-next.invariant.same at c.next_certain.ensures.moved) now in
-          let certain = (rw (c.loop-next.invariant.same, c.in-Some.is) at c.in_ok-next.ensures.certain) now in
+          let step = (rw c.loop-next.invariant.same at c.in_ok-next.ensures.step) now in
+          let certain = rw c.in-Some.is at step.certain in
           let match = c.pass.ensures.fed c.args.regex.now.nfa certain c.loop-next.found.items in (
-            rw items (joined_none (joined_none fed (move.fed c.loop-next.found.items)) match),
+            rw items (joined_none (joined_none fed (step.moved.fed c.loop-next.found.items)) match),
             rw (c.pass.ensures.value, place.none) tt,
           );
     }
@@ -60,10 +59,11 @@ loop-next-preserved g c =
 pub returns-clause-read : goal.returns-clause-read
 returns-clause-read g c searching =
     let (fed, now) = c.loop-next.invariant.read searching in
-    let move = (rw c.loop-next.invariant.same at c.next_certain.ensures.moved) now in
+    let move = ((rw c.loop-next.invariant.same at c.next_certain.ensures.step) now).moved in
     record { fed = joined_none fed (move.fed c.loop-next.found.items); failed = tt; searching = move.searching }
 
 pub returns-clause-few : goal.returns-clause-few
 returns-clause-few g c searching =
     let none : c.in_ok-next.field-0 ≡ None = search rules in
-    (rw (c.loop-next.invariant.same, none) at c.in_ok-next.ensures.few) (c.loop-next.invariant.read searching).1
+    let step = rw (c.loop-next.invariant.same, none) at c.in_ok-next.ensures.step in
+    (step (c.loop-next.invariant.read searching).1).few

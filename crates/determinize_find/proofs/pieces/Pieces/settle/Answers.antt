@@ -1,5 +1,5 @@
 use Rattle.determinize_find.proofs.Common.{refl}
-use Rattle.determinize_find.proofs.streams.Kept.{few_kept, settled}
+use Rattle.determinize_find.proofs.streams.Steps.{few_kept, settled}
 use Rattle.determinize_find.proofs.pieces.Pieces.settle.Goals as goal
 
 pub returns-clause-moved : goal.returns-clause-moved

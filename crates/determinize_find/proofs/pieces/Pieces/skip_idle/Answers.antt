@@ -1,7 +1,6 @@
 use Rattle.determinize_find.proofs.Common.{arith, by_cases, cases_lt, drop, drop_all, false≢true, IfSome_then, length}
 use Rattle.determinize_find.proofs.Common.{rules, sym, [], ◌∙◌, ◌≡◌, ◌≤◌}
-use Rattle.determinize_find.proofs.streams.Kept.{moved_nowhere, unread_unsettled}
-use Rattle.determinize_find.proofs.streams.Steps.{fed_later}
+use Rattle.determinize_find.proofs.streams.Steps.{fed_later, moved_nowhere, unread_unsettled}
 use Rattle.determinize_find.proofs.pieces.Pieces.skip_idle.Goals as goal
 
 pub returns-then-not-is_idle-clause-moved : goal.returns-then-not-is_idle-clause-moved

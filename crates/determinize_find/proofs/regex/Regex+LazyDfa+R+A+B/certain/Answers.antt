@@ -1,14 +1,13 @@
-use Rattle.determinize_find.proofs.Common.{arith, byte_before, drop, false≢true, IsCertain, IsEndScan, length, None}
+use Rattle.determinize_find.proofs.Common.{arith, false≢true, IsCertain, IsScanOf, length, None}
 use Rattle.determinize_find.proofs.Common.{rules, sym, ◌+◌, ◌∙◌, ◌≡◌, ◌≤◌}
 use Rattle.determinize_find.proofs.leftmost.TwoSearches.{all_bytes}
-use Rattle.determinize_find.proofs.streams.Certain.{certain_is, HasCertain, is_ended}
+use Rattle.determinize_find.proofs.streams.Begun.{certain_is, HasCertain, is_ended}
 use Rattle.determinize_find.proofs.regex.Regex+LazyDfa+R+A+B.certain.Given.{Over}
 use Rattle.determinize_find.proofs.regex.Regex+LazyDfa+R+A+B.certain.Goals.{In-Some, In-Some-2}
 use Rattle.determinize_find.proofs.regex.Regex+LazyDfa+R+A+B.certain.Goals as goal
 
 -- the match of which the scan gives the end
-has : (g : Over) (c : In-Some g) → IsEndScan c.args.self.now.nfa (byte_before c.args.haystack.now c.args.start)
-    (drop c.args.start c.args.haystack.now) c.args.scan.now
+has : (g : Over) (c : In-Some g) → IsScanOf c.args.self.now.nfa c.args.haystack.now c.args.start c.args.scan.now
     → HasCertain c.args.self.now.nfa c.args.haystack.now c.args.start c.args.scan.now c.in-Some.half
 has g c scan = record {
   within = c.requires.within;

@@ -6,6 +6,6 @@ invariant_of-result g c = record {
   kind_backward = c.new_by_class-2.ensures.kind;
   reads_forward = rw c.new_by_class.ensures.nfa c.requires.forward;
   prefix = rw c.new_by_class.ensures.nfa c.requires.prefix;
-  apart = rw (c.new_by_class.ensures.nfa, ← c.nfa.ensures) c.has_prefix_apart-is_apart.ensures.0;
+  apart = rw (c.new_by_class.ensures.nfa, ← c.nfa.ensures) c.has_prefix_apart-is_known_apart.ensures.0;
   reverse = rw (c.new_by_class.ensures.nfa, c.new_by_class-2.ensures.nfa) c.requires.reverse;
 }

@@ -1,6 +1,6 @@
-use Rattle.determinize_find.proofs.Common.{from, None, rules, Yes, ◌≡◌}
+use Rattle.determinize_find.proofs.Common.{None, rules, Yes, ◌≡◌}
 use Rattle.std.proofs.lemmas.Bool.Decides.{Decides-eqb, Decides-like}
-use Rattle.determinize_find.proofs.leftmost.FullMatches.{full_none, full_some}
+use Rattle.determinize_find.proofs.leftmost.TwoSearches.{full_none, full_some}
 use Rattle.determinize_find.proofs.regex.Regex.is_full_match.Goals as goal
 
 pub returns-in_default-clause-found : goal.returns-in_default-clause-found
