@@ -1,6 +1,8 @@
-//! Vectors of 64 and of 16 bytes: how many come before the first that two tables give a bit.
+//! Vectors of 64 and of 16 bytes: how many come before the first that two tables give a bit, and
+//! how many have one.
 
 ghost use Rattle.std.specs.Prelude.{◌≡◌, ℕ, ◌+◌, ◌-◌, ◌<◌, ◌≤◌, ◌%◌, IsTrue, length, map, slice_index};
+ghost use Rattle.std.specs.List.{count_by};
 ghost use Rattle.std.specs.Simd.Lanes.{chunk, mask_l};
 ghost use Rattle.byte_set.specs.Sets.{HasNone, IsRun};
 ghost use Rattle.byte_set.specs.Tables.{bits_of, is_some_bit, passes, same_bits};
@@ -113,6 +115,24 @@ pub(crate) fn is_few_quiet<S: LookUp>(s: &S, text: &[u8], from: usize) -> bool
     ensures { IsTrue result → HasNone (passes (S.bits s.now)) text.now from (from + 16) }
 {
     run_of_few(s, text, from) == FEW
+}
+
+/// Returns how many of the next 64 bytes have a bit.
+#[inline(always)]
+pub(crate) fn count_of_many<S: LookUp>(s: &S, text: &[u8], from: usize) -> usize
+    requires { from + 64 ≤ length text.now }
+    ensures { result ≡ count_by (passes (S.bits s.now)) (chunk from 64 text.now) }
+{
+    marks_of_many(s.of_many(u8x64::from_slice(&text[from..]))).count_ones() as usize
+}
+
+/// Returns how many of the next 16 bytes have a bit.
+#[inline(always)]
+pub(crate) fn count_of_few<S: LookUp>(s: &S, text: &[u8], from: usize) -> usize
+    requires { from + 16 ≤ length text.now }
+    ensures { result ≡ count_by (passes (S.bits s.now)) (chunk from 16 text.now) }
+{
+    marks_of_few(s.of_few(u8x16::from_slice(&text[from..]))).count_ones() as usize
 }
 
 /// Returns how many of eight to sixteen bytes come before the first that has a bit.

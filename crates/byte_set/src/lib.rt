@@ -1,12 +1,13 @@
-//! Sets of bytes, and the first and the last member in a part of a text, found by vectors: 64 bytes
-//! at a time, and then 16.
+//! Sets of bytes, and the first and the last member in a part of a text, and the number of them,
+//! found by vectors: 64 bytes at a time, and then 16.
 //!
 //! A set is 32 bytes, in two tables of 16. A byte is looked up by its low half, and the bit of its
 //! high half says whether it is a member. `lanes` looks up many bytes at once. If there is only one
 //! member, bytes are compared with it.
 #![tactic(auto)]
 
-ghost use Rattle.std.specs.Prelude.{◌≡◌, ℕ, ◌+◌, ◌*◌, ◌<◌, ◌≤◌, Bool, Decides, List, length, replicate, true, slice_index};
+ghost use Rattle.std.specs.Prelude.{◌≡◌, ℕ, ◌+◌, ◌-◌, ◌*◌, ◌%◌, ◌<◌, ◌≤◌, Bool, Decides, List, length, replicate, true, slice_index};
+ghost use Rattle.std.specs.List.{count_by, slice_range};
 ghost use Rattle.std.specs.Option.{IfSome};
 ghost use Rattle.byte_set.specs.Sets.{HasNone, IsFirst, IsLast, IsOnly, is_member};
 ghost use Rattle.byte_set.specs.Tables.{bits_of, passes, same_bits, set_of};
@@ -117,6 +118,26 @@ impl ByteSet {
             None => quiet_from(&self.tables(), text, from, to),
         };
         self.last_by_bytes(text, from, end)
+    }
+
+    /// Returns the number of bytes of the text, from `from` up to `to`, that are members.
+    #[inline]
+    pub fn count(&self, text: &[u8], from: usize, to: usize) -> usize
+        requires ordered { from ≤ to }
+        requires within { to ≤ length text.now }
+        ensures { result ≡ count_by (is_member self.now) (slice_range text.now from to) }
+    {
+        let rest = to - (to - from) % FEW;
+        let mut count = match self.only {
+            Some(byte) => count_by_vectors(&One { byte }, text, from, rest),
+            None => count_by_vectors(&self.tables(), text, from, rest),
+        };
+        for index in rest..to {
+            if self.contains(text[index]) {
+                count += 1;
+            }
+        }
+        count
     }
 
     /// Returns the tables as vectors.
@@ -240,4 +261,25 @@ fn quiet_from<S: LookUp>(s: &S, text: &[u8], from: usize, to: usize) -> usize
         end -= FEW;
     }
     end
+}
+
+/// Returns the number of bytes of the text, from `from` up to `to`, that have a bit.
+#[inline(always)]
+fn count_by_vectors<S: LookUp>(s: &S, text: &[u8], from: usize, to: usize) -> usize
+    requires ordered { from ≤ to }
+    requires whole { (to - from) % 16 ≡ 0 }
+    requires within { to ≤ length text.now }
+    ensures { result ≡ count_by (passes (S.bits s.now)) (slice_range text.now from to) }
+{
+    let mut count = 0;
+    let mut at = from;
+    while to - at >= MANY {
+        count += lanes::count_of_many(s, text, at);
+        at += MANY;
+    }
+    while at < to {
+        count += lanes::count_of_few(s, text, at);
+        at += FEW;
+    }
+    count
 }

@@ -33,6 +33,19 @@ fn last(members: &[bool; 256], text: &[u8; LEN], from: usize, to: usize) -> Opti
     found
 }
 
+/// Returns the number of such indexes.
+fn count(members: &[bool; 256], text: &[u8; LEN], from: usize, to: usize) -> usize
+    requires { to ≤ LEN }
+{
+    let mut count: usize = 0;
+    for index in from..to {
+        if members[usize::from(text[index])] {
+            count = count.saturating_add(1);
+        }
+    }
+    count
+}
+
 /// Returns a text with each byte at least once, of which neighbors are far apart.
 fn text() -> [u8; LEN] {
     let mut text = [0; LEN];
@@ -51,6 +64,7 @@ fn compare<R: Abort>(rt: &R, members: &[bool; 256]) {
             let to = from + len;
             assert_eq!(rt; set.find(&text, from, to), first(members, &text, from, to));
             assert_eq!(rt; set.rfind(&text, from, to), last(members, &text, from, to));
+            assert_eq!(rt; set.count(&text, from, to), count(members, &text, from, to));
         }
     }
 }
