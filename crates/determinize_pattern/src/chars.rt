@@ -1,14 +1,14 @@
 //! Classes of characters, as patterns of the bytes of their UTF-8.
 
-ghost use Rattle.std.specs.Prelude.{IfOk, OnOk, cond, false, map, true};
+ghost use Rattle.std.specs.Prelude.{◌≡◌, ◌||◌, ℕ, IfOk, OnOk, cond, false, true};
 ghost use Rattle.std.specs.List.Sorted.{IsNonDecreasingBy, IsPermutation};
-ghost use Rattle.determinize_pattern.specs.Characters.{IsCharClass, IsCharFrom, char_pairs};
+ghost use Rattle.determinize_pattern.specs.Characters.{IsCharClass, char_pairs};
 ghost use Rattle.determinize_pattern.specs.Classes.{is_chosen};
 ghost use Rattle.determinize_pattern.specs.Patterns.{meaning};
-ghost use Rattle.determinize_pattern.specs.Private.Characters.{Adds, is_from};
+ghost use Rattle.determinize_pattern.specs.Private.Characters.{in_runs, is_from};
 
 use crate::pattern::Pattern;
-use crate::utf8::{one_of, push_chars};
+use crate::utf8::{Run, chars_of};
 use std::alloc::{AllocError, Global};
 
 /// The number after that of the last character.
@@ -50,24 +50,28 @@ fn sorted(alloc: Global, ranges: &[ClassUnicodeRange]) -> Result<Vec<ClassUnicod
     Ok(sorted)
 }
 
-/// Adds branches for the characters from the number `start` on and below `end`, or if `negated` is
-/// set for those from `end` on and below `next`.
+/// Adds the run from the number `start` on and below `end`, or if `negated` is set that from `end`
+/// on and below `next`.
 fn push_run(
-    branches: &mut Vec<Pattern>,
-    alloc: Global,
+    runs: &mut Vec<Run>,
     negated: bool,
     start: u32,
     end: u32,
     next: u32,
 ) -> Result<(), AllocError>
-    ensures { OnOk result (Adds (IsCharFrom (cond negated (is_from end next) (is_from start end)))
-        (map meaning branches.old.items) (map meaning branches.new.items)) }
+    ensures { OnOk result ((c : ℕ) → in_runs runs.new.items c ≡ (in_runs runs.old.items c
+        || cond negated (is_from end next c) (is_from start end c))) }
 {
-    if negated {
-        push_chars(branches, alloc, end, next)
+    let run = if negated {
+        Run {
+            start: end,
+            end: next,
+        }
     } else {
-        push_chars(branches, alloc, start, end)
-    }
+        Run { start, end }
+    };
+    runs.push(run)?;
+    Ok(())
 }
 
 /// Returns the pattern of the characters in one of the ranges, or in none if `negated` is set. Goes
@@ -82,18 +86,18 @@ fn collect(
         (λ p. IsCharClass (is_chosen (char_pairs ranges.now) negated) (meaning p)) }
 {
     let sorted = sorted(alloc, ranges)?;
-    let mut branches = Vec::new(alloc);
+    let mut runs = Vec::new(alloc);
     let mut start = 0;
     let mut end = 0;
     for range in &sorted {
         let first = range.start as u32;
         if end < first {
-            push_run(&mut branches, alloc, negated, start, end, first)?;
+            push_run(&mut runs, negated, start, end, first)?;
             start = first;
             end = first;
         }
         end = end.max(range.end as u32 + 1);
     }
-    push_run(&mut branches, alloc, negated, start, end, PAST)?;
-    Ok(one_of(branches))
+    push_run(&mut runs, negated, start, end, PAST)?;
+    chars_of(alloc, &runs)
 }

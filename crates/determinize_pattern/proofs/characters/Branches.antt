@@ -1,6 +1,6 @@
 -- What a choice matches once branches are added to it.
--- Main statements: adds_one, adds_both, adds_same, all_added.
--- Used by: the proofs of `push_numbers`, `push_chars` and `collect`, and the files characters.
+-- Main statements: adds_one, adds_both, adds_same, adds_nothing, all_added.
+-- Used by: the proofs of `push_numbers` and `chars_of`, and the files characters.
 -- Idea: a choice matches what one of its branches matches, and a branch that is added is its last.
 use Rattle.std.proofs.Common.{◌↔◌, ◌≡◌, ◌⊎◌, ◌++◌, ◌∷◌, ℕ, List, None, Option, Some, [], inl, inr, slice_get, true}
 use Rattle.std.proofs.lemmas.Bool.{false≢true}
@@ -80,6 +80,12 @@ adds_same P Q a b same added = record {
     λ m. by_cases ((added.each t text i j).0 m) (λ x. inl x) (λ p. inr ((same text.bytes i j).1 p)),
     λ m. (added.each t text i j).1 (by_cases m (λ x. inl x) (λ q. inr ((same text.bytes i j).0 q))),
   );
+}
+
+pub adds_nothing : (P : List ℕ → ℕ → ℕ → Type 0) (a : List Re) → ((bytes : List ℕ) (i j : ℕ) → P bytes i j → ⊥)
+    → Adds P a a
+adds_nothing P a none = record {
+  each = λ t text i j. (λ m. inl m, λ m. by_cases m (λ x. x) (λ p. absurd (none text.bytes i j p)));
 }
 
 -- what branches match that were added to none

@@ -1,6 +1,6 @@
 -- Characters as numbers written in base 64.
--- Main statements: chars_added, one_char, accent.
--- Used by: the proofs of `push_chars` and `chars_law`, and the file Ascii.
+-- Main statements: chars_added, chars_same, one_char, accent.
+-- Used by: the proofs of `chars_of` and `chars_law`, and the files characters.
 -- Idea: the bytes from one position to another are those that are read there one after the other.
 use Rattle.std.proofs.lemmas.Bool.Decides.{nat_tests}
 use Rattle.std.proofs.lemmas.Bool.{cases_lt, cond-false, cond-true}
@@ -9,12 +9,13 @@ use Rattle.std.proofs.lemmas.Option.{slice_get_within}
 use Rattle.std.proofs.lemmas.Str.{encode_ascii, encode_same}
 use Rattle.std.specs.Char.{IsScalar, encode_utf8}
 use Rattle.std.specs.Prelude.{slice_get, slice_range}
-use Rattle.std.proofs.Common.{◌↔◌, ◌⊎◌, ◌≡◌, ◌+◌, ◌-◌, ◌/◌, ◌%◌, ◌<◌, ◌≤◌, ◌++◌, ◌∙◌, ◌∷◌, ℕ, Bool, List, Some, [], ap, append_assoc, arith, drop, inl, inr, le-ltb, length, length-append, length-drop, lt-ltb, max, min, refl, subst, suc, sym, take, true, zero, zero-add}
+use Rattle.std.proofs.Common.{◌↔◌, ◌⊎◌, ◌≡◌, ◌+◌, ◌-◌, ◌/◌, ◌%◌, ◌<◌, ◌≤◌, ◌&&◌, ◌++◌, ◌∙◌, ◌∷◌, ℕ, Bool, List, Some, [], ap, append_assoc, arith, drop, inl, inr, le-ltb, length, length-append, length-drop, lt-ltb, nat_lt, refl, subst, suc, sym, take, true, zero, zero-add}
 use Rattle.ordered_reach.proofs.Cases.{by_cases, some_injective}
-use Rattle.determinize_pattern.proofs.characters.Branches.{adds_both, adds_same}
-use Rattle.determinize_pattern.specs.Characters.{IsCharFrom}
+use Rattle.determinize_pattern.proofs.characters.Branches.{adds_both, adds_nothing, adds_same, all_added}
+use Rattle.determinize_pattern.specs.Characters.{IsCharClass, IsCharFrom}
 use Rattle.determinize_pattern.specs.Meaning.{Re}
-use Rattle.determinize_pattern.specs.Private.Characters.{Adds, IsNumberFrom, IsWrittenFrom, is_from}
+use Rattle.determinize_pattern.specs.Patterns.{choice_of}
+use Rattle.determinize_pattern.specs.Private.Characters.{Adds, IsNumberOf, IsWrittenFrom, is_from}
 
 -- the bytes of a number
 abbrev written : ℕ → ℕ → ℕ → List ℕ
@@ -179,46 +180,55 @@ of_four_bytes = record {
   bytes = λ c l m. encode_four c l;
 }
 
-pub from_start : (start end c : ℕ) → is_from start end c ≡ true → start ≤ c
+from_start : (start end c : ℕ) → is_from start end c ≡ true → start ≤ c
 from_start start end c h = grind (arith, nat_tests)
 
-pub from_end : (start end c : ℕ) → is_from start end c ≡ true → c < end
+from_end : (start end c : ℕ) → is_from start end c ≡ true → c < end
 from_end start end c h = grind (arith, nat_tests)
 
-pub from_is : (start end c : ℕ) → start ≤ c → c < end → is_from start end c ≡ true
+from_is : (start end c : ℕ) → start ≤ c → c < end → is_from start end c ≡ true
 from_is start end c l m = grind (arith, nat_tests)
 
--- characters of a block are the numbers that are written so
-chars_of_block : (lead count low high start end : ℕ) → IsBlock lead count low high → low ≤ start → end ≤ high
-    → (bytes : List ℕ) (i j : ℕ)
-    → IsCharFrom (is_from start end) bytes i j ↔ IsNumberFrom lead count start end bytes i j
-chars_of_block lead count low high start end block l m bytes i j = (
+-- a test of the numbers from low on and below high
+block_test : (test : ℕ → Bool) (low high c : ℕ) → (is_from low high c && test c) ≡ true
+    → (low ≤ c) × (c < high) × (test c ≡ true)
+block_test test low high c h = (grind (arith, nat_tests), grind (arith, nat_tests), grind (arith, nat_tests))
+
+in_block : (test : ℕ → Bool) (low high c : ℕ) → low ≤ c → c < high → test c ≡ true
+    → (is_from low high c && test c) ≡ true
+in_block test low high c l m h = grind (arith, nat_tests)
+
+-- the characters of a block are the numbers that are written so
+chars_of_block : (test : ℕ → Bool) (lead count low high : ℕ) → IsBlock lead count low high → (bytes : List ℕ) (i j : ℕ)
+    → IsCharFrom (λ c. is_from low high c && test c) bytes i j
+    ↔ IsNumberOf lead count (λ v. (low ≤ v) × (v < high) × (test v ≡ true)) bytes i j
+chars_of_block test lead count low high block bytes i j = (
   λ c.
-      let least = from_start start end c.0 c.2 in
-      let most = from_end start end c.0 c.2 in
-      let in_low : low ≤ c.0 = omega arith in
-      let in_high : c.0 < high = omega arith in (
-        c.0,
-        least,
-        most,
-        written_at bytes lead count c.0 i j c.3 c.4 (c.5 ∙ block.bytes c.0 in_low in_high),
-      ),
+      let passes = block_test test low high c.0 c.2 in
+      (c.0, passes, written_at bytes lead count c.0 i j c.3 c.4 (c.5 ∙ block.bytes c.0 passes.0 passes.1)),
   λ n.
-      let in_low : low ≤ n.0 = omega (arith, n.1) in
-      let in_high : n.0 < high = omega (arith, n.2) in
-      let read = written_read bytes lead count n.0 i j n.3 in
+      let read = written_read bytes lead count n.0 i j n.2 in
       let before : i ≤ j = omega (arith, read.1) in (
         n.0,
-        block.scalar n.0 in_low in_high,
-        from_is start end n.0 n.1 n.2,
+        block.scalar n.0 n.1.0 n.1.1,
+        in_block test low high n.0 n.1.0 n.1.1 n.1.2,
         before,
         read.2,
-        range_of bytes (written lead count n.0) i j read.0 read.1 read.2 ∙ sym (block.bytes n.0 in_low in_high),
+        range_of bytes (written lead count n.0) i j read.0 read.1 read.2 ∙ sym (block.bytes n.0 n.1.0 n.1.1),
       ),
 )
 
+-- the same characters pass both tests
+pub chars_same : (f g : ℕ → Bool) → ((c : ℕ) → IsScalar c → f c ≡ true → g c ≡ true)
+    → ((c : ℕ) → IsScalar c → g c ≡ true → f c ≡ true)
+    → (bytes : List ℕ) (i j : ℕ) → IsCharFrom g bytes i j ↔ IsCharFrom f bytes i j
+chars_same f g onward back bytes i j = (
+  λ k. (k.0, k.1, back k.0 k.1 k.2, k.3, k.4, k.5),
+  λ k. (k.0, k.1, onward k.0 k.1 k.2, k.3, k.4, k.5),
+)
+
 -- a character passes one test where it passes one of two others
-pub char_either : (f g h : ℕ → Bool)
+char_either : (f g h : ℕ → Bool)
     → ((c : ℕ) → IsScalar c → h c ≡ true → (f c ≡ true) ⊎ (g c ≡ true))
     → ((c : ℕ) → f c ≡ true → h c ≡ true) → ((c : ℕ) → g c ≡ true → h c ≡ true)
     → (bytes : List ℕ) (i j : ℕ)
@@ -232,80 +242,60 @@ char_either f g h split left right bytes i j = (
       (λ c. (c.0, c.1, right c.0 c.2, c.3, c.4, c.5)),
 )
 
--- the characters below high are those below low and those from next on, since no other is between
-joined : (start end low next high : ℕ) → low ≤ next → next ≤ high
-    → ((c : ℕ) → IsScalar c → (c < low) ⊎ (next ≤ c)) → (bytes : List ℕ) (i j : ℕ)
-    → IsCharFrom (is_from start (min end high)) bytes i j
-    ↔ (IsCharFrom (is_from start (min end low)) bytes i j
-    ⊎ IsCharFrom (is_from (max start next) (min end high)) bytes i j)
-joined start end low next high l m gap =
-    char_either (is_from start (min end low)) (is_from (max start next) (min end high)) (is_from start (min end high))
-    (λ c s h.
-    let least = from_start start (min end high) c h in
-    let most = from_end start (min end high) c h in
-    by_cases (gap c s)
-    (λ k. let below : c < min end low = omega arith in inl (from_is start (min end low) c least below))
-    (λ k. let above : max start next ≤ c = omega arith in inr (from_is (max start next) (min end high) c above most)))
-    (λ c h.
-    let least = from_start start (min end low) c h in
-    let most = from_end start (min end low) c h in
-    let below : c < min end high = omega arith in
-    from_is start (min end high) c least below)
-    (λ c h.
-    let least = from_start (max start next) (min end high) c h in
-    let most = from_end (max start next) (min end high) c h in
-    let above : start ≤ c = omega arith in
-    from_is start (min end high) c above most)
+module _ (test : ℕ → Bool) where
+  -- the characters below a number that pass the test
+  abbrev below : ℕ → ℕ → Bool
+  below low c = nat_lt c low && test c
 
-all_chars : (start end : ℕ) (bytes : List ℕ) (i j : ℕ)
-    → IsCharFrom (is_from start end) bytes i j ↔ IsCharFrom (is_from start (min end 1114112)) bytes i j
-all_chars start end bytes i j = (
-  λ c.
-      let least = from_start start end c.0 c.2 in
-      let most = from_end start end c.0 c.2 in
-      let last = scalar_end c.0 c.1 in
-      let below : c.0 < min end 1114112 = omega arith in
-      (c.0, c.1, from_is start (min end 1114112) c.0 least below, c.3, c.4, c.5),
-  λ c.
-      let least = from_start start (min end 1114112) c.0 c.2 in
-      let most = from_end start (min end 1114112) c.0 c.2 in
-      let below : c.0 < end = omega arith in
-      (c.0, c.1, from_is start end c.0 least below, c.3, c.4, c.5),
-)
+  below_test : (low c : ℕ) → below low c ≡ true → (c < low) × (test c ≡ true)
+  below_test low c h = (grind (arith, nat_tests), grind (arith, nat_tests))
 
-block_added : (lead count low high start end : ℕ) (a b : List Re) → IsBlock lead count low high → low ≤ start
-    → end ≤ high → Adds (IsNumberFrom lead count start end) a b → Adds (IsCharFrom (is_from start end)) a b
-block_added lead count low high start end a b block l m added =
-    adds_same (IsNumberFrom lead count start end) (IsCharFrom (is_from start end)) a b
-    (chars_of_block lead count low high start end block l m) added
+  is_below : (low c : ℕ) → c < low → test c ≡ true → below low c ≡ true
+  is_below low c l h = grind (arith, nat_tests)
 
--- one block more
-next_block : (lead count start end low next high : ℕ) (a b c : List Re) → IsBlock lead count next high
-    → low ≤ next → next ≤ high → ((d : ℕ) → IsScalar d → (d < low) ⊎ (next ≤ d))
-    → Adds (IsCharFrom (is_from start (min end low))) a b
-    → Adds (IsNumberFrom lead count (max start next) (min end high)) b c
-    → Adds (IsCharFrom (is_from start (min end high))) a c
-next_block lead count start end low next high a b c block l m gap before added =
-    adds_both (IsCharFrom (is_from start (min end low))) (IsCharFrom (is_from (max start next) (min end high)))
-    (IsCharFrom (is_from start (min end high))) a b c (joined start end low next high l m gap) before
-    (block_added lead count next high (max start next) (min end high) b c block (omega arith) (omega arith) added)
+  -- one block more: no character is between it and those before
+  next_block : (lead count low next high : ℕ) (a b c : List Re) → IsBlock lead count next high
+      → low ≤ next → next ≤ high → ((d : ℕ) → IsScalar d → (d < low) ⊎ (next ≤ d))
+      → Adds (IsCharFrom (below low)) a b
+      → Adds (IsNumberOf lead count (λ v. (next ≤ v) × (v < high) × (test v ≡ true))) b c
+      → Adds (IsCharFrom (below high)) a c
+  next_block lead count low next high a b c block l m gap before added =
+      let inside = λ (d : ℕ). is_from next high d && test d in
+      adds_both (IsCharFrom (below low)) (IsCharFrom inside) (IsCharFrom (below high)) a b c
+      (char_either (below low) inside (below high)
+      (λ d s e.
+      let passes = below_test high d e in
+      by_cases (gap d s)
+      (λ k. inl (is_below low d k passes.1))
+      (λ k. inr (in_block test next high d k passes.0 passes.1)))
+      (λ d e. let passes = below_test low d e in is_below high d (omega (arith, passes.0)) passes.1)
+      (λ d e. let passes = block_test test next high d e in is_below high d passes.1 passes.2))
+      before
+      (adds_same (IsNumberOf lead count (λ v. (next ≤ v) × (v < high) × (test v ≡ true))) (IsCharFrom inside) b c
+      (chars_of_block test lead count next high block) added)
 
-module _ (start end : ℕ) (r0 r1 r2 r3 r4 r5 : List Re) where
-  pub chars_added : Adds (IsNumberFrom 0 0 start (min end 128)) r0 r1
-      → Adds (IsNumberFrom 192 1 (max start 128) (min end 2048)) r1 r2
-      → Adds (IsNumberFrom 224 2 (max start 2048) (min end 55296)) r2 r3
-      → Adds (IsNumberFrom 224 2 (max start 57344) (min end 65536)) r3 r4
-      → Adds (IsNumberFrom 240 3 (max start 65536) (min end 1114112)) r4 r5
-      → Adds (IsCharFrom (is_from start end)) r0 r5
-  chars_added one two three more four =
-      let a = block_added 0 0 0 128 start (min end 128) r0 r1 of_one_byte (omega arith) (omega arith) one in
-      let b = next_block 192 1 start end 128 128 2048 r0 r1 r2 of_two_bytes (omega arith) (omega arith)
+  abbrev AddsBlock : ℕ → ℕ → ℕ → ℕ → List Re → List Re → Type 0
+  AddsBlock lead count low high a b =
+      Adds (IsNumberOf lead count (λ v. (low ≤ v) × (v < high) × (test v ≡ true))) a b
+
+  pub chars_added : (r1 r2 r3 r4 r5 : List Re) → AddsBlock 0 0 0 128 [] r1 → AddsBlock 192 1 128 2048 r1 r2
+      → AddsBlock 224 2 2048 55296 r2 r3 → AddsBlock 224 2 57344 65536 r3 r4
+      → AddsBlock 240 3 65536 1114112 r4 r5 → IsCharClass test (choice_of r5)
+  chars_added r1 r2 r3 r4 r5 one two three more four =
+      let none = adds_nothing (IsCharFrom (below 0)) []
+      (λ bytes i j c. let passes = below_test 0 c.0 c.2 in absurd (omega (arith, passes.0))) in
+      let a = next_block 0 0 0 0 128 [] [] r1 of_one_byte (omega arith) (omega arith)
+      (λ c s. inr (omega arith)) none one in
+      let b = next_block 192 1 128 128 2048 [] r1 r2 of_two_bytes (omega arith) (omega arith)
       (λ c s. cases_lt c 128) a two in
-      let c = next_block 224 2 start end 2048 2048 55296 r0 r2 r3 before_surrogates (omega arith) (omega arith)
+      let c = next_block 224 2 2048 2048 55296 [] r2 r3 before_surrogates (omega arith) (omega arith)
       (λ c s. cases_lt c 2048) b three in
-      let d = next_block 224 2 start end 55296 57344 65536 r0 r3 r4 after_surrogates (omega arith) (omega arith)
+      let d = next_block 224 2 55296 57344 65536 [] r3 r4 after_surrogates (omega arith) (omega arith)
       (λ c s. no_surrogate c s) c more in
-      let e = next_block 240 3 start end 65536 65536 1114112 r0 r4 r5 of_four_bytes (omega arith) (omega arith)
+      let e = next_block 240 3 65536 65536 1114112 [] r4 r5 of_four_bytes (omega arith) (omega arith)
       (λ c s. cases_lt c 65536) d four in
-      adds_same (IsCharFrom (is_from start (min end 1114112))) (IsCharFrom (is_from start end)) r0 r5
-      (all_chars start end) e
+      let all = adds_same (IsCharFrom (below 1114112)) (IsCharFrom test) [] r5
+      (chars_same (below 1114112) test
+      (λ c s h. (below_test 1114112 c h).1)
+      (λ c s h. is_below 1114112 c (scalar_end c s) h)) e in
+      λ t text i j. (all_added (IsCharFrom test) r5 all).each t text i j

@@ -1,6 +1,5 @@
-use Rattle.std.proofs.Common.{ℕ, ◌<◌, ◌≤◌, get_or, length, map, take}
+use Rattle.std.proofs.Common.{ℕ, ◌<◌, ◌≤◌, get_or, length, take}
 use Rattle.determinize_pattern.specs.Characters.{char_pairs}
-use Rattle.determinize_pattern.specs.Patterns.{meaning}
 use Rattle.determinize_pattern.specs.Private.Characters.{IsSwept}
 use Rattle.determinize_pattern.specs.declared.chars.ClassUnicodeRange.{ClassUnicodeRange}
 use Rattle.determinize_pattern.specs.declared.chars.TheConstants.{PAST}
@@ -12,5 +11,5 @@ invariant-loop-range l = record {
       → l.start ≤ (get_or l.range-items k d).start;
   within : l.end ≤ PAST;
   swept : IsSwept (char_pairs (take l.range-index l.range-items)) l.negated l.start l.end
-      (map meaning l.branches.items);
+      l.runs.items;
 }
