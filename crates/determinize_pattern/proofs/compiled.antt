@@ -1,4 +1,5 @@
 pub mod Compiling
+pub mod FirstClasses
 pub mod Growing
 pub mod Looping
 pub mod Patterns

@@ -15,6 +15,7 @@ pub mod chars;
 pub mod class;
 mod compiler;
 mod display;
+mod first_class;
 mod head;
 pub mod laws;
 mod nesting;

@@ -5,16 +5,18 @@
 //! several targets, the slice `ids`: it continues at `ids[0]` if it has read a byte, and at
 //! `ids[k]` if it was entered by entry `k` and has read nothing. On return `ids[k]` is that entry.
 
-ghost use Rattle.std.specs.Prelude.{◌≡◌, ◌+◌, ◌<◌, ◌≤◌, IfOk, OnOk, drop, length, map, slice_index};
+ghost use Rattle.std.specs.Prelude.{◌≡◌, ◌+◌, ◌<◌, ◌≤◌, ℕ, IfOk, List, OnOk, drop, length, map, slice_index};
 ghost use Rattle.determinize_pattern.specs.Meaning as meanings;
 ghost use Rattle.determinize_pattern.specs.Patterns as patterns;
 ghost use Rattle.determinize_pattern.specs.Patterns.{at_least, choice, meaning, repeated, sequence};
 ghost use Rattle.determinize_pattern.specs.Private.Compiling.{AlwaysReads, IsBegun, IsCompiled, IsUnread, Paid, Precedes};
+ghost use Rattle.determinize_pattern.specs.Private.FirstClasses.{AreFirst, IsFirst, IsRest};
 ghost use Rattle.determinize_pattern.specs.Private.Words.{IsHead};
 
 use crate::always_reads::always_reads;
 use crate::class::ClassBytes;
 use crate::compiler::{Compiler, set_each};
+use crate::first_class::first_classes;
 use crate::head::{push_word, push_words};
 use crate::nfa::CompileError;
 use crate::pattern::Pattern;
@@ -187,7 +189,8 @@ impl<A: Allocator + Copy> Compiler<A> {
         Ok(())
     }
 
-    /// Adds the branches as words in front of what follows them, so that they share prefixes.
+    /// Adds one state that reads the first byte of all branches, if that shows which one may match,
+    /// and else the branches as words in front of what follows them, so that they share prefixes.
     #[cycle(part)]
     fn branches(&mut self, subs: &[Pattern], next: StateID) -> Result<StateID, CompileError>
         ensures begun { IfOk result (λ s. IsBegun self.old.builder self.new.builder
@@ -195,12 +198,60 @@ impl<A: Allocator + Copy> Compiler<A> {
         ensures paid { OnOk result
             (Paid self.old.builder self.old.left self.new.builder self.new.left) }
     {
+        if subs.len() > 1 {
+            if let Some(classes) = first_classes(self.alloc, subs)? {
+                return self.by_class(subs, &classes, next);
+            }
+        }
         let mut words = Vec::new(self.alloc);
         for i in 0..subs.len() {
             let word = self.head(&subs[i], next)?;
             words.push(word)?;
         }
         self.words(&words)
+    }
+
+    /// Adds a state that reads a byte of one of the classes, in front of what follows it in the
+    /// branch that begins with this class.
+    #[cycle(part)]
+    fn by_class(
+        &mut self,
+        subs: &[Pattern],
+        classes: &[&ClassBytes],
+        next: StateID,
+    ) -> Result<StateID, CompileError>
+        requires { AreFirst 0 subs.now classes.now }
+        ensures begun { IfOk result (λ s. IsBegun self.old.builder self.new.builder
+            (choice (map meaning subs.now)) next s) }
+        ensures paid { OnOk result
+            (Paid self.old.builder self.old.left self.new.builder self.new.left) }
+    {
+        let mut transitions = Vec::new(self.alloc);
+        for i in 0..subs.len() {
+            let target = self.after_first(&subs[i], next)?;
+            let leading = self.transitions(classes[i].ranges(), target)?;
+            transitions.extend_from_slice(&leading)?;
+        }
+        self.spend(1)?;
+        Ok(self.builder.add_sparse(&transitions)?)
+    }
+
+    /// Adds the states of what follows the first part of a pattern, and returns where they begin.
+    #[cycle(part)]
+    fn after_first(&mut self, pattern: &Pattern, next: StateID) -> Result<StateID, CompileError>
+        ensures rest { IfOk result (λ s. (class : List (ℕ × ℕ)) → IsFirst pattern.now class
+            → IsRest self.old.builder self.new.builder (meaning pattern.now) class next s) }
+        ensures paid { OnOk result
+            (Paid self.old.builder self.old.left self.new.builder self.new.left) }
+    {
+        match pattern {
+            Pattern::Concat(subs) => {
+                let mut ids = [next];
+                self.concat(subs, 1.min(subs.len()), &mut ids)?;
+                Ok(ids[0])
+            }
+            _ => Ok(next),
+        }
     }
 
     /// Adds the states of what follows the word with which a pattern begins, at the cost of one,

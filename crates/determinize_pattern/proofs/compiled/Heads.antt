@@ -19,7 +19,7 @@ use Rattle.determinize_pattern.specs.Private.Compiling.{Continues, Extends, IsBe
 use Rattle.determinize_pattern.specs.Private.Entries.{Finds, IsEntry, target_of_end}
 use Rattle.determinize_pattern.specs.Private.Words.{AllFind, IsHead, IsTree, Lead, SameEnds, all_found, words_of}
 
-no_ends : (t : ℕ) (text : Text) (i : ℕ) → ends t text (Byte []) i ≡ []
+pub no_ends : (t : ℕ) (text : Text) (i : ℕ) → ends t text (Byte []) i ≡ []
 no_ends t text i = go (slice_get text.bytes i)
   where
     go : (o : Option ℕ) → cond (is_in [] o) (suc i ∷ []) [] ≡ []

@@ -355,7 +355,7 @@ prefix_tree old mid new p words left next s shares is h f = record {
         rw (append-nil (Z j)) at one
 
 -- the target of the transitions on a byte
-abbrev next_at : ℕ → List Transition → Option ℕ
+abbrev pub next_at : ℕ → List Transition → Option ℕ
 next_at b ts = option_map (λ (t : Transition). t.next) (find (λ t. within t.start t.end b) ts)
 
 -- no word begins with the byte, or there is a transition on it to what is left of those that do

@@ -25,7 +25,7 @@ first_or true v t o h = refl
 first_or false v t o h = h
 
 -- a range of a class contains the byte, and leads where each one does
-class_target : (ranges : List (ℕ × ℕ)) (next b : ℕ)
+pub class_target : (ranges : List (ℕ × ℕ)) (next b : ℕ)
     → option_map (λ (t : Transition). t.next) (find (λ t. within t.start t.end b) (leading next ranges))
     ≡ cond (list_any (λ r. within r.0 r.1 b) ranges) (Some next) None
 class_target [] next b = refl

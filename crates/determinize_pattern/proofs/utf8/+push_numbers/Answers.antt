@@ -1,6 +1,5 @@
-use Rattle.std.proofs.Common.{◌≡◌, ◌*◌, ◌-◌, ◌<◌, ◌≤◌, arith, map, rules}
+use Rattle.std.proofs.Common.{◌≡◌, ◌*◌, ◌-◌, ◌<◌, ◌≤◌, arith, rules}
 use Rattle.determinize_pattern.proofs.characters.Written.{Between, alike_more, before_all, before_more, before_same, byte_exactly, pushed, rest_exactly, rest_small}
-use Rattle.determinize_pattern.specs.Patterns.{meaning}
 use Rattle.determinize_pattern.specs.Private.Characters.{IsNumberOf, numbers_of}
 use Rattle.determinize_pattern.proofs.utf8.+push_numbers.Goals.{then-not-is_empty+in_ok-branch+in_ok-push, then-count-gt0+in_ok-push_numbers+in_ok-branch-2, else-count-gt0, else-not-is_empty}
 use Rattle.determinize_pattern.proofs.utf8.+push_numbers.Goals as goal

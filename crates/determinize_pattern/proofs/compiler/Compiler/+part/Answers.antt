@@ -1,13 +1,16 @@
-use Rattle.std.proofs.Common.{add-one, ◌≡◌, ◌+◌, ◌-◌, ◌∙◌, ◌∷◌, ap, arith, false, drop, length, map, refl, replicate, slice_index}
+use Rattle.std.proofs.Common.{add-one, ◌≡◌, ◌+◌, ◌-◌, ◌<◌, ◌∙◌, ◌∷◌, ap, arith, false, drop, inl, inr, length, map, refl, replicate, slice_index}
 use Rattle.std.proofs.lemmas.Grind.{common_steps, get_or_default_zero}
 use Rattle.std.proofs.lemmas.List.{drop_all, drop_more, get_or_read, take_all, take_rest}
 use Rattle.std.proofs.lemmas.Result.{IfOk-weaker, on_ok_weaker}
 use Rattle.determinize_pattern.specs.Patterns.{meaning}
+use Rattle.determinize_pattern.proofs.compiled.FirstClasses.{class_rest, first_len, read_begun, read_more, row_rest}
 use Rattle.determinize_pattern.proofs.compiled.Heads.{head_made, heads_begun, heads_more, heads_none, none_head, word_head}
 use Rattle.determinize_pattern.proofs.compiled.Looping.{again_begun, plus_compiled}
 use Rattle.determinize_pattern.proofs.compiled.Compiling.{begun_of, choice_compiled, compiled_after, empty_compiled, look_compiled, nothing_compiled, on_both, one_compiled, only_compiled, optional_compiled, precedes_more, precedes_none, repeated_some, then_compiled}
 use Rattle.determinize_pattern.proofs.compiled.Growing.{less_left, map_take_more}
-use Rattle.determinize_pattern.proofs.compiled.Patterns.{meaning_empty, meaning_look}
+use Rattle.determinize_pattern.proofs.compiled.Patterns.{meaning_class, meaning_concat, meaning_empty, meaning_look}
+use Rattle.ordered_reach.proofs.Cases.{by_cases}
+use Rattle.determinize_pattern.specs.Private.FirstClasses.{AreFirst}
 use Rattle.determinize_pattern.proofs.compiler.Compiler.+part.Goals as goal
 
 pub part-returns-then-always_reads-clause-compiled : goal.part-returns-then-always_reads-clause-compiled
@@ -99,8 +102,62 @@ branches-loop-i-preserved g t c = (
 pub branches-returns-clause-begun : goal.branches-returns-clause-begun
 branches-returns-clause-begun g t c = IfOk-weaker c.words.result _ _
     (λ s h. heads_begun _ _ _ (map meaning c.args.subs.now) _ _ s
-    (rw (take_all c.loop-i.i c.args.subs.now (omega arith)) at c.loop-i.invariant.0) (rw c.deref.ensures.value at h))
+    (rw (take_all c.loop-i.i c.args.subs.now (omega arith)) at c.loop-i.invariant.0) (rw c.deref-2.ensures.value at h))
     c.words.ensures.tree
+
+pub by_class-loop-i-preserved : goal.by_class-loop-i-preserved
+by_class-loop-i-preserved g t c =
+    let i = c.loop-i.i in
+    let sub = c.index-subs-i.result in
+    let class = c.index-classes-i.result in
+    let low = c.loop-i.invariant.0.0 in
+    let within : i < length c.args.classes.now = omega (arith, first_len 0 _ _ c.requires) in
+    let first : AreFirst low (sub ∷ drop (i + 1) c.args.subs.now) (class ∷ drop (i + 1) c.args.classes.now) =
+    rw (
+      drop_more c.args.subs.now i sub (omega arith),
+      ← c.index-subs-i.is,
+      drop_more c.args.classes.now i class within,
+      ← c.index-classes-i.is,
+    ) at c.loop-i.invariant.0.2 in (
+      (
+        first.0,
+        rw (
+          map_take_more meaning c.args.subs.now i sub (omega arith) c.index-subs-i.is,
+          c.in_ok-extend_from_slice.ensures.items,
+          c.deref.ensures.value,
+          c.in_ok-leading.ensures,
+          c.ranges-in-loop-i.ensures,
+        )
+            (read_more _ _ _ _ _ _ _ _ _ _ _ c.loop-i.invariant.0.1 (c.in_ok-target.ensures.rest class.now first.1)
+            first.2),
+        first.3,
+      ),
+      omega (arith, c.loop-i.invariant.1, c.in_ok-target.ensures.paid),
+    )
+
+pub by_class-returns-clause-begun : goal.by_class-returns-clause-begun
+by_class-returns-clause-begun g t c =
+    let kept = c.spend.ensures.kept in
+    read_begun _ _ _ (map meaning c.args.subs.now) _ _ c.loop-i.transitions.items _
+    (rw (take_all c.loop-i.i c.args.subs.now (omega arith)) at c.loop-i.invariant.0.1)
+    (rw kept at c.in_ok-add_sparse.ensures.id) (rw (kept, c.deref-2.ensures.value) at c.in_ok-add_sparse.ensures.added)
+
+pub after_first-returns-in_ok-concat-in-Concat-clause-rest : goal.after_first-returns-in_ok-concat-in-Concat-clause-rest
+after_first-returns-in_ok-concat-in-Concat-clause-rest g t c class first =
+    let subs = c.in-Concat.subs in
+    let compiled = rw c.deref.ensures.value at c.in_ok-concat-in-Concat.ensures.compiled in
+    let entry = get_or_default_zero c.concat.new.ids 0 c.index-ids-0.result (omega (arith, compiled.len)) in
+    rw entry (row_rest _ _ subs.items c.min.result (meaning c.args.pattern.now) class _ _ (grind (arith, common_steps))
+    (begun_of _ _ _ _ _ compiled) (ap meaning c.in-Concat.is ∙ meaning_concat subs)
+    (by_cases first (λ k. inl (ap meaning k ∙ meaning_class class)) (λ k. inr (k.1, k.3))))
+
+pub after_first-returns-in_default : goal.after_first-returns-in_default
+after_first-returns-in_default g t c = record {
+  rest = λ class first. by_cases first
+      (λ k. class_rest _ (meaning c.args.pattern.now) class c.args.next (ap meaning k ∙ meaning_class class))
+      (λ k. absurd (c.in_default.not-Concat k.0 k.2));
+  paid = omega arith;
+}
 
 pub head_of_all-returns-clause-head : goal.head_of_all-returns-clause-head
 head_of_all-returns-clause-head g t c =

@@ -1,7 +1,9 @@
-use Rattle.std.proofs.Common.{◌≡◌, ◌<◌, ◌≤◌, drop, length, map, take}
+use Rattle.std.proofs.Common.{◌≡◌, ◌<◌, ◌≤◌, ℕ, drop, length, map, take}
 use Rattle.determinize_pattern.specs.Private.Compiling.{IsCompiled, Precedes}
 use Rattle.determinize_pattern.specs.Patterns.{choice, sequence, copies, meaning, up_to}
+use Rattle.determinize_pattern.proofs.compiled.FirstClasses.{AreRead}
 use Rattle.determinize_pattern.proofs.compiled.Heads.{AreHeads}
+use Rattle.determinize_pattern.specs.Private.FirstClasses.{AreFirst}
 use Rattle.determinize_pattern.specs.Private.Compiling.{Paid}
 use Rattle.determinize_pattern.proofs.compiler.Compiler.+part.Given as goal
 
@@ -30,4 +32,10 @@ invariant-up_to-loop-done g l =
 abbrev pub invariant-branches-loop-i : goal.invariant-branches-loop-i
 invariant-branches-loop-i g l =
     AreHeads l.fn.self.builder l.self.builder (map meaning (take l.i l.subs)) l.fn.next l.words.items
+    × Paid l.fn.self.builder l.fn.self.left l.self.builder l.self.left
+
+abbrev pub invariant-by_class-loop-i : goal.invariant-by_class-loop-i
+invariant-by_class-loop-i g l =
+    ((low : ℕ) × AreRead l.fn.self.builder l.self.builder (map meaning (take l.i l.subs)) l.next low l.transitions.items
+    × AreFirst low (drop l.i l.subs) (drop l.i l.classes))
     × Paid l.fn.self.builder l.fn.self.left l.self.builder l.self.left
