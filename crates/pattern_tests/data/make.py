@@ -7,6 +7,7 @@ import random
 import re
 import subprocess
 import sys
+import unicodedata
 
 import model
 
@@ -489,6 +490,39 @@ def character(text, i):
     return None
 
 
+def most_states(ranges, negated):
+    """the states that read the UTF-8 of the characters byte by byte, and the match state"""
+    chosen, tree = {c for a, b in ranges for c in range(a, b + 1)}, {}
+    for c in range(0x110000):
+        if not 0xD800 <= c < 0xE000 and (c in chosen) != negated:
+            node = tree
+            for byte in chr(c).encode():
+                node = node.setdefault(byte, {})
+    return nodes(tree) + 1
+
+
+def nodes(tree):
+    """a state for each byte that may be next, except for neighbors that the same bytes may follow"""
+    count, before = 1, None
+    for byte in sorted(tree):
+        if tree[byte] and before != (byte - 1, tree[byte]):
+            count += nodes(tree[byte])
+        before = byte, tree[byte]
+    return count
+
+
+def of_category(name):
+    """the ranges of the characters whose general category begins with the name"""
+    found = []
+    for c in range(0x110000):
+        if unicodedata.category(chr(c)).startswith(name):
+            if found and found[-1][1] == c - 1:
+                found[-1] = found[-1][0], c
+            else:
+                found.append((c, c))
+    return found
+
+
 def of_chars():
     found = []
     for ranges in CHARS:
@@ -506,7 +540,12 @@ def of_chars():
                 lines.append(line_of(text, matches))
             shown = ','.join('%x-%x' % pair for pair in ranges)
             head = '# %s: %s' % ('characters but these' if negated else 'these characters', shown or 'none')
-            found.append('\n'.join([head, '> | %s:%s' % (word, shown)] + lines))
+            keys = 'most=%d' % most_states(ranges, negated)
+            found.append('\n'.join([head, '> %s | %s:%s' % (keys, word, shown)] + lines))
+    for shown, name in [('letters', 'L'), ('decimal digits', 'Nd')]:
+        ranges = of_category(name)
+        words = ','.join('%x-%x' % pair for pair in ranges)
+        found.append('# %s\n> most=%d | U:%s' % (shown, most_states(ranges, False), words))
     return found
 
 
