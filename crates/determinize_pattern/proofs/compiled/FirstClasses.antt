@@ -18,7 +18,7 @@ use Rattle.determinize_pattern.proofs.compiled.Compiling.{empty_begun}
 use Rattle.determinize_pattern.proofs.compiled.Growing.{continues_old, extends_then, grown, is_new}
 use Rattle.determinize_pattern.proofs.compiled.Heads.{no_ends}
 use Rattle.determinize_pattern.proofs.compiled.Patterns.{meaning_class, meaning_concat}
-use Rattle.determinize_pattern.proofs.compiled.Trees.{next_at}
+use Rattle.determinize_pattern.proofs.compiled.Trees.{next_at, next_more}
 use Rattle.determinize_pattern.proofs.entries.Leaves.{class_target}
 use Rattle.determinize_pattern.proofs.entries.Parts.{if_same, next_of, unlabelled}
 use Rattle.determinize_pattern.specs.Meaning.{Byte, Empty, Re, Then, ends, is_in}
@@ -102,15 +102,6 @@ choice_more : (t : ℕ) (text : Text) (res : List Re) (re : Re) (i : ℕ)
 choice_more t text [] re i = rw (no_ends t text i) (append-nil (ends t text re i))
 choice_more t text (a ∷ res) re i = ap (λ (js : List ℕ). ends t text a i ++ js) (choice_more t text res re i)
     ∙ sym (append_assoc (ends t text a i) (ends t text (choice res) i) (ends t text re i))
-
--- more transitions come after the others
-next_more : (b : ℕ) (ts us : List Transition)
-    → ((s : ℕ) → next_at b ts ≡ Some s → next_at b (ts ++ us) ≡ Some s)
-    × (next_at b ts ≡ None → next_at b (ts ++ us) ≡ next_at b us)
-next_more b [] us = (λ s e. absurd (cc), λ e. refl)
-next_more b (t ∷ ts) us = by_test (within t.start t.end b)
-    (λ z. rw z (λ s e. e, λ e. absurd (cc)))
-    (λ z. rw z (next_more b ts us))
 
 -- no branch finds anything on the byte, or there is a transition on it to what the choice then finds
 abbrev ReadAt : BuilderValue → BuilderValue → List Re → ℕ → List Transition → ℕ → Type 0

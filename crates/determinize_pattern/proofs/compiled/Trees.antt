@@ -1,6 +1,7 @@
 -- What the compiler adds for words that share prefixes.
--- Main statements: trees_none, trees_more, tree_joined, word_tree, prefix_tree, arms_none, arms_more, sparse_tree.
--- Used by: the proofs of `tree` and `join`.
+-- Main statements: trees_none, trees_more, tree_joined, word_tree, prefix_tree, next_more, arms_none, arms_more,
+-- sparse_tree.
+-- Used by: the proofs of `tree` and `join`, and the file FirstClasses.
 -- Idea: at a position only the words that begin with the next byte find anything, in their order.
 use Rattle.std.specs.Borrow.{Bor}
 use Rattle.std.specs.List.{find, flat_map}
@@ -376,13 +377,14 @@ arms_none b words = record {
   above = λ n l. refl;
 }
 
-next_more : (b : ℕ) (ts : List Transition) (t : Transition)
-    → ((s : ℕ) → next_at b ts ≡ Some s → next_at b (ts ++ t ∷ []) ≡ Some s)
-    × (next_at b ts ≡ None → next_at b (ts ++ t ∷ []) ≡ cond (within t.start t.end b) (Some t.next) None)
-next_more b [] t = (λ s e. absurd (cc), λ e. by_test (within t.start t.end b) (λ z. rw z refl) (λ z. rw z refl))
-next_more b (u ∷ ts) t = by_test (within u.start u.end b)
+-- more transitions come after the others
+pub next_more : (b : ℕ) (ts us : List Transition)
+    → ((s : ℕ) → next_at b ts ≡ Some s → next_at b (ts ++ us) ≡ Some s)
+    × (next_at b ts ≡ None → next_at b (ts ++ us) ≡ next_at b us)
+next_more b [] us = (λ s e. absurd (cc), λ e. refl)
+next_more b (t ∷ ts) us = by_test (within t.start t.end b)
     (λ z. rw z (λ s e. e, λ e. absurd (cc)))
-    (λ z. rw z (next_more b ts t))
+    (λ z. rw z (next_more b ts us))
 
 later_tree : (old mid new : BuilderValue) (words : List (List ℕ × ℕ)) (s : ℕ) → Extends mid new
     → IsTree old mid words s
@@ -429,15 +431,19 @@ arms_more old mid new words n byte ts s h low between f = record {
     inside = grind (arith, nat_tests)
 
     past : (b : ℕ) → next_at b ts ≡ None → within byte byte b ≡ false → next_at b (ts ++ t ∷ []) ≡ None
-    past b e z = (next_more b ts t).1 e ∙ rw z refl
+    past b e z = (next_more b ts (t ∷ [])).1 e ∙ rw z refl
 
     at : (b : ℕ) → next_at b ts ≡ None → b ≡ byte → next_at b (ts ++ t ∷ []) ≡ Some s
-    at b e z = (next_more b ts t).1 e ∙ rw (z, inside) refl
+    at b e z = (next_more b ts (t ∷ [])).1 e ∙ rw (z, inside) refl
 
     kept : (b : ℕ) → ArmAt old mid words ts b → within byte byte b ≡ false → ArmAt old new words (ts ++ t ∷ []) b
     kept b a z = by_cases a
         (λ k. inl (past b k.0 z, k.1))
-        (λ k. inr (k.0, (next_more b ts t).0 k.0 k.1, later_tree old mid new (rests_after b words) k.0 f.extends k.2))
+        (λ k. inr (
+          k.0,
+          (next_more b ts (t ∷ [])).0 k.0 k.1,
+          later_tree old mid new (rests_after b words) k.0 f.extends k.2,
+        ))
 
 -- a state with these transitions
 pub sparse_tree : (old mid new : BuilderValue) (words : List (List ℕ × ℕ)) (n : ℕ) (ts : List Transition) (s : ℕ)
