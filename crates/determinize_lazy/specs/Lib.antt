@@ -8,6 +8,7 @@ pub use Rattle.determinize_table.specs.Stored
 pub use Rattle.determinize_table.specs.Table
 pub mod Cache
 pub mod CachedSearches
+pub mod Clauses
 pub mod Marks
 pub mod MostBytes
 pub mod Plenty

@@ -3,15 +3,9 @@
 
 ghost use Rattle.std.specs.Prelude.{◌≡◌, ◌+◌, ◌<◌, ◌≤◌, length, option_map, slice_get, slice_index_or, Some};
 ghost use Rattle.std.specs.Option.{IfSome};
-ghost use Rattle.determinize_core.specs.Chain.{units};
-ghost use Rattle.determinize_core.specs.Step.{start_value};
-ghost use Rattle.determinize_core.specs.Value.{dead};
-ghost use Rattle.determinize_start.specs.StartSlots.{slot_number};
+ghost use Rattle.determinize_lazy.specs.Clauses.{cache, dead, slot_number, start_value, units};
 ghost use Rattle.determinize_start.specs.declared.start.TheConstants.StartSlot.{COUNT};
-ghost use Rattle.determinize_lazy.specs.Cache.{cache};
-ghost use Rattle.determinize_lazy.specs.Private.Searched.{GoesToCached, HasCome, IsCachedPosition, IsReached, cached_place, first_place};
-ghost use Rattle.determinize_lazy.specs.Private.Starts.{start_slot};
-ghost use Rattle.determinize_lazy.specs.Private.Steps.{IsSound};
+ghost use Rattle.determinize_lazy.specs.Private.{cached_place, first_place, GoesToCached, HasCome, IsCachedPosition, IsReached, IsSound, start_slot};
 
 use crate::lazy::LazyDfa;
 use determinize_below::{AsNfa, HalfMatch, NFA, StateID};

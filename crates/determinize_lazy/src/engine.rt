@@ -1,9 +1,7 @@
 //! A lazy DFA as an engine. The clauses are those of the trait, and those of `Lazy` on the cache.
 
 ghost use Rattle.std.specs.Prelude.{Decides, ◌≡◌, None, Ok, false, true, IfOk};
-ghost use Rattle.determinize_below.specs.Search.{is_done};
-ghost use Rattle.determinize_engine.specs.Searches.{HasMatch, IsSearchResult, has_start};
-ghost use Rattle.determinize_lazy.specs.CachedSearches.{HasSearchedIn};
+ghost use Rattle.determinize_lazy.specs.Clauses.{has_start, HasMatch, HasSearchedIn, is_done, IsSearchResult};
 
 use crate::lazy::LazyDfa;
 use determinize_below::{AsNfa, HalfMatch, Input};

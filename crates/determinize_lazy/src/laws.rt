@@ -1,7 +1,6 @@
 //! Two facts about the cache that no call states: example walks, and how much a walk computes.
 
-ghost use Rattle.determinize_lazy.specs.Cache.{EachWalkComputesFew};
-ghost use Rattle.determinize_lazy.specs.WorkedRows.{AreWorkedRows};
+ghost use Rattle.determinize_lazy.specs.Clauses.{AreWorkedRows, EachWalkComputesFew};
 
 /// Walks and searches over one cache by the definitions: how many transitions are computed and how
 /// many states are cached after each series of walks, with room for all, for two states, for one

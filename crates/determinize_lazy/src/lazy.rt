@@ -6,13 +6,8 @@
 
 ghost use Rattle.std.specs.Prelude.{◌≡◌, ◌≤◌, ◌*◌, length, min, None, Some};
 ghost use Rattle.std.specs.Option.{IfSome};
-ghost use Rattle.determinize_below.specs.ByteClasses.{AreClassesOf, Classes};
-ghost use Rattle.determinize_below.specs.Nfa.{IsAccepted};
+ghost use Rattle.determinize_lazy.specs.Clauses.{AreClassesOf, cache, cache_bytes, Classes, empty, empty_cache, Grows, IsAccepted, IsTable, most_bytes, step_of};
 ghost use Rattle.determinize_engine.specs.declared.state_table.TheConstants.{MAX_STATES};
-ghost use Rattle.determinize_lazy.specs.Cache.{Grows, cache, empty_cache, step_of};
-ghost use Rattle.determinize_lazy.specs.MostBytes.{most_bytes};
-ghost use Rattle.determinize_table.specs.CacheBytes.{cache_bytes};
-ghost use Rattle.determinize_table.specs.Table.{IsTable, empty};
 
 use determinize_below::{AsNfa, MatchKind, NFA};
 use determinize_core::determinize::Scratch;

@@ -1,17 +1,9 @@
 //! Which patterns match: where a range of a haystack ends, and anywhere in it.
 
 ghost use Rattle.std.specs.Prelude.{◌≡◌, ◌<◌, [], Contains, false, true, length, IfOk, OnOk};
-ghost use Rattle.determinize_below.specs.Search.{is_done};
+ghost use Rattle.determinize_lazy.specs.Clauses.{AreMarked, AreSomeMarked, cache, has_start, HasMatchOf, HasSearchedIn, is_done, ListsAtEnd, start_for, start_value, text_of, units};
 ghost use Rattle.determinize_below.specs.declared.search.MatchKind.TheVariants as kinds;
-ghost use Rattle.determinize_core.specs.Chain.{units};
-ghost use Rattle.determinize_core.specs.Step.{start_value};
-ghost use Rattle.determinize_engine.specs.Lists.{ListsAtEnd};
-ghost use Rattle.determinize_engine.specs.Searches.{has_start, start_for, text_of};
-ghost use Rattle.determinize_lazy.specs.Cache.{cache};
-ghost use Rattle.determinize_lazy.specs.CachedSearches.{HasSearchedIn};
-ghost use Rattle.determinize_lazy.specs.Marks.{AreMarked, AreSomeMarked, HasMatchOf};
-ghost use Rattle.determinize_lazy.specs.Private.Listed.{IsListed};
-ghost use Rattle.determinize_lazy.specs.Private.Searched.{IsLeftBy, IsPosition, first_place, place};
+ghost use Rattle.determinize_lazy.specs.Private.{first_place, IsLeftBy, IsPosition, listed, place};
 
 use crate::lazy::LazyDfa;
 use crate::search::{Position, start_for};
@@ -102,10 +94,11 @@ impl<R: AsNfa, A: Allocator + Copy> LazyDfa<R, A> {
         found: &mut [bool],
     ) -> Result<(), AllocError>
         requires { start < length self.old.nfa.states }
-        ensures marked { OnOk result (AreMarked found.old (IsListed self.old.nfa self.old.kind
-            (start_value self.old.nfa start text.now.behind) (units text.now)) found.new) }
-        ensures some { AreSomeMarked found.old (IsListed self.old.nfa self.old.kind
-            (start_value self.old.nfa start text.now.behind) (units text.now)) found.new }
+        ensures marked { OnOk result (AreMarked found.old (Contains (listed self.old.nfa
+            self.old.kind (start_value self.old.nfa start text.now.behind) (units text.now)))
+            found.new) }
+        ensures some { AreSomeMarked found.old (Contains (listed self.old.nfa self.old.kind
+            (start_value self.old.nfa start text.now.behind) (units text.now))) found.new }
         ensures left { IsLeftBy false (units text.now) (first_place (cache self.old)
             (start_value self.old.nfa start text.now.behind)) result (cache self.new) }
     {

@@ -7,19 +7,8 @@
 
 ghost use Rattle.std.specs.Prelude.{◌≡◌, ◌+◌, ◌++◌, ◌<◌, ◌≤◌, ◌∷◌, ℕ, [], false, List, Option, length, map, not, option_map, true, IfOk, OnErr, OnOk, None, Some};
 ghost use Rattle.std.specs.Option.{IfSome, option_or};
-ghost use Rattle.determinize_below.specs.Nfa.{AllResolve};
-ghost use Rattle.determinize_below.specs.Semantics.{between};
-ghost use Rattle.determinize_core.specs.Step.{start_value};
-ghost use Rattle.determinize_core.specs.Value.{is_nonempty};
-ghost use Rattle.determinize_lazy.specs.Cache.{cache};
-ghost use Rattle.determinize_table.specs.Cursors.{cursor_value};
-ghost use Rattle.determinize_lazy.specs.Private.Searched.{IsLeftBy, IsPieceRead, first_place};
-ghost use Rattle.determinize_lazy.specs.Private.Steps.{IsReady};
-ghost use Rattle.determinize_lazy.specs.Scanning.{EndsBefore, IsFoundBeforeLast, IsFoundInEach, IsSettledIn};
-ghost use Rattle.determinize_engine.specs.Private.Later.{later_by};
-ghost use Rattle.determinize_engine.specs.Scans.{IsScan};
-ghost use Rattle.determinize_lazy.specs.CachedSearches.{HasSearched};
-ghost use Rattle.determinize_engine.specs.Searches.{IsSearch};
+ghost use Rattle.determinize_lazy.specs.Clauses.{AllResolve, between, cache, cursor_value, EndsBefore, HasSearched, is_nonempty, IsFoundBeforeLast, IsFoundInEach, IsScan, IsSearch, IsSettledIn, start_value};
+ghost use Rattle.determinize_lazy.specs.Private.{first_place, IsLeftBy, IsPieceRead, IsReady, later_by};
 
 use crate::lazy::LazyDfa;
 use crate::search::Position;

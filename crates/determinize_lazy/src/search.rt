@@ -15,17 +15,8 @@
 //! to it. So a search also reads the unit ahead of its text, and a start state is no match state.
 
 ghost use Rattle.std.specs.Prelude.{Decides, ◌≡◌, ◌<◌, ◌≤◌, false, true, Option, drop, length, IfOk, OnErr, Ok, None, Some};
-ghost use Rattle.determinize_below.specs.Semantics.{between};
-ghost use Rattle.determinize_below.specs.Search.{is_done};
-ghost use Rattle.determinize_core.specs.Chain.{units};
-ghost use Rattle.determinize_core.specs.Step.{start_value};
-ghost use Rattle.determinize_core.specs.Value.{Value};
-ghost use Rattle.determinize_lazy.specs.Cache.{Grows, LazyValue, cache};
-ghost use Rattle.determinize_table.specs.Cursors.{cursor_value};
-ghost use Rattle.determinize_lazy.specs.Private.Searched.{EndsAt, Fails, GoesTo, HasStopped, IsNext, IsOver, IsOverText, IsPosition, IsShort, first_place, place, with_cursor};
-ghost use Rattle.determinize_lazy.specs.Private.Steps.{IsFailedStep, IsReady, IsSound};
-ghost use Rattle.determinize_engine.specs.Searches.{HasMatch, IsSearch, IsSearchResult, has_start, start_for, text_of};
-ghost use Rattle.determinize_lazy.specs.CachedSearches.{HasSearched, HasSearchedIn};
+ghost use Rattle.determinize_lazy.specs.Clauses.{between, cache, cursor_value, Grows, has_start, HasMatch, HasSearched, HasSearchedIn, is_done, IsSearch, IsSearchResult, LazyValue, start_for, start_value, text_of, units, Value};
+ghost use Rattle.determinize_lazy.specs.Private.{EndsAt, Fails, first_place, GoesTo, HasStopped, IsFailedStep, IsNext, IsOver, IsOverText, IsPosition, IsReady, IsShort, IsSound, place, with_cursor};
 
 use crate::cached::{CachedPosition, Reached};
 use crate::lazy::LazyDfa;

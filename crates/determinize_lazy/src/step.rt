@@ -7,12 +7,8 @@
 
 ghost use Rattle.std.specs.Prelude.{Decides, ◌≡◌, ◌<◌, ℕ, false, length, IfOk};
 ghost use Rattle.std.specs.Option.{option_copied};
-ghost use Rattle.determinize_core.specs.Step.{start_value};
-ghost use Rattle.determinize_lazy.specs.Cache.{cache, classes_from};
-ghost use Rattle.determinize_table.specs.Cursors.{IsCursor, cursor_value};
-ghost use Rattle.determinize_lazy.specs.Private.Steps.{IsReady, IsSound, IsStarted, IsStateOf, IsStepped};
-ghost use Rattle.determinize_table.specs.Tags.{tag_in, tag_of};
-ghost use Rattle.determinize_table.specs.Table.{is_cached};
+ghost use Rattle.determinize_lazy.specs.Clauses.{cache, classes_from, cursor_value, is_cached, IsCursor, start_value, tag_in, tag_of};
+ghost use Rattle.determinize_lazy.specs.Private.{IsReady, IsSound, IsStarted, IsStateOf, IsStepped};
 ghost use Rattle.determinize_table.specs.declared.table.Cursor.TheVariants as cursors;
 
 use crate::cached::start_number;

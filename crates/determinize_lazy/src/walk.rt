@@ -1,14 +1,8 @@
 //! Walks over the cache, as a list of their states.
 
 ghost use Rattle.std.specs.Prelude.{◌≡◌, ◌<◌, ◌++◌, ◌∷◌, [], length, IfOk, None, OnOk};
-ghost use Rattle.determinize_below.specs.Semantics.{between};
-ghost use Rattle.determinize_core.specs.Chain.{future, units};
-ghost use Rattle.determinize_core.specs.Step.{start_value};
-ghost use Rattle.determinize_core.specs.WholeWalk.{IsWalk};
-ghost use Rattle.determinize_lazy.specs.Cache.{cache};
-ghost use Rattle.determinize_lazy.specs.CachedSearches.{HasRead};
-ghost use Rattle.determinize_lazy.specs.Private.Steps.{IsCacheAfter, IsFollowed, IsReady};
-ghost use Rattle.determinize_table.specs.Cursors.{IsCursor, cursor_value};
+ghost use Rattle.determinize_lazy.specs.Clauses.{between, cache, cursor_value, future, HasRead, IsCursor, IsWalk, start_value, units};
+ghost use Rattle.determinize_lazy.specs.Private.{IsCacheAfter, IsFollowed, IsReady};
 
 use crate::lazy::LazyDfa;
 use determinize_below::{AsNfa, StateID};

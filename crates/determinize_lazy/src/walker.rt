@@ -1,12 +1,8 @@
 //! Walks by steps, for a caller that needs each state of a walk, but no list of them.
 
 ghost use Rattle.std.specs.Prelude.{◌≡◌, ◌+◌, ◌∷◌, ◌<◌, ℕ, [], Option, length, slice_get, IfOk, OnErr, OnOk, Some};
-ghost use Rattle.determinize_below.specs.Nfa.{AllResolve};
+ghost use Rattle.determinize_lazy.specs.Clauses.{AllResolve, HasRead, IsWalkedTo, start_value, step, units};
 ghost use Rattle.determinize_below.specs.Semantics.{Text as TextValue};
-ghost use Rattle.determinize_core.specs.Chain.{units};
-ghost use Rattle.determinize_core.specs.Step.{start_value, step};
-ghost use Rattle.determinize_lazy.specs.CachedSearches.{HasRead};
-ghost use Rattle.determinize_lazy.specs.Walkers.{IsWalkedTo};
 
 use crate::lazy::LazyDfa;
 use determinize_below::{AsNfa, StateID};

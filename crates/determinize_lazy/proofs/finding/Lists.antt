@@ -3,15 +3,12 @@
 -- Used by: `patterns_after`.
 -- Idea: a search ends early only at a value that records no NFA states, after which no value lists a pattern.
 use Rattle.determinize_lazy.proofs.Common.{[], ap, arith, by_cases, by_test, Cache, cond, dead, dead_stays, ends_at}
-use Rattle.determinize_lazy.proofs.Common.{false, first_place, is_last, IsAccepted, length, length-map, List, map}
-use Rattle.determinize_lazy.proofs.Common.{MatchKind, nat_tests, next_place, Nfa, none_left, Option, Place, refl, Some}
-use Rattle.determinize_lazy.proofs.Common.{start_value, step_over, sym, Text, true, units, Value, value_after, ℕ, ◌+◌}
-use Rattle.determinize_lazy.proofs.Common.{◌<◌, ◌∙◌, ◌∷◌, ◌≡◌, ◌≤◌, ◌⊎◌}
-use Rattle.std.proofs.Common.{length-append}
+use Rattle.determinize_lazy.proofs.Common.{false, first_place, is_last, IsAccepted, length, length-append, length-map}
+use Rattle.determinize_lazy.proofs.Common.{List, map, MatchKind, nat_le, nat_tests, next_place, Nfa, none_left, Option}
+use Rattle.determinize_lazy.proofs.Common.{Place, refl, Some, start_value, step_over, sym, Text, true, units}
+use Rattle.determinize_lazy.proofs.Common.{units_listed, Value, value_after, ℕ, ◌+◌, ◌<◌, ◌∙◌, ◌∷◌, ◌≡◌, ◌≤◌, ◌⊎◌}
 use Rattle.determinize_engine.proofs.Lists.{lists_at_end}
-use Rattle.determinize_engine.proofs.Texts.{units_listed}
 use Rattle.determinize_engine.specs.Lists.{ListsAtEnd}
-use Rattle.std.specs.Prelude.{nat_le}
 
 after_dead : (nfa : Nfa) (kind : MatchKind) (us : List (Option ℕ)) → value_after nfa kind dead us ≡ dead
 after_dead nfa kind [] = refl

@@ -3,94 +3,78 @@
 -- Used by: Marking.
 -- Idea: a search for the earliest match passes only values that list nothing, and the value at index i + 1 lists what
 -- matches at position i.
-use Rattle.determinize_lazy.proofs.Common.{[], All, ap, arith, by_cases, by_test, Contains, dead, dead_stays, drop}
-use Rattle.determinize_lazy.proofs.Common.{ends_at, false, future, future_is, get_or, HalfMatch, HasCome, IfSome, inl}
-use Rattle.determinize_lazy.proofs.Common.{inr, is-search, is_last, is_nonempty, IsAccepted, IsListed, last_match}
-use Rattle.determinize_lazy.proofs.Common.{LeftmostFirst, length, List, MatchKind, next_place, Nfa, None, not_none}
-use Rattle.determinize_lazy.proofs.Common.{of_some, Option, Place, refl, slice_get, slice_get-get_or, Some, start_value}
-use Rattle.determinize_lazy.proofs.Common.{step, step_over, suc, sym, Text, true, true≢false, units, Value, zero, ℕ}
-use Rattle.determinize_lazy.proofs.Common.{◌<◌, ◌↔◌, ◌∙◌, ◌∷◌, ◌≡◌, ◌≤◌}
-use Rattle.std.proofs.lemmas.List.{drop-drop}
+use Rattle.determinize_lazy.proofs.Common.{[], append-nil, Accepts, after_at, All, ap, arith, by_cases, by_test, chain, Contains}
+use Rattle.determinize_lazy.proofs.Common.{dead, dead_stays, drop, drop-drop, ends_at, false, future, future_is, get_or}
+use Rattle.determinize_lazy.proofs.Common.{HalfMatch, HasCome, IfSome, inl, inr, is-search, is_last, is_nonempty}
+use Rattle.determinize_lazy.proofs.Common.{IsAccepted, IsFarthestMatch, last_match, LeftmostFirst, length}
+use Rattle.determinize_lazy.proofs.Common.{length-tail, List, listed, listed_from, MatchKind, next_place, Nfa, None, not_none, of_some}
+use Rattle.determinize_lazy.proofs.Common.{Option, Place, refl, slice_get, slice_get-get_or, Some, start_value, step}
+use Rattle.determinize_lazy.proofs.Common.{step_over, suc, sym, Text, true, true≢false, units, Value, zero, ℕ, ◌++◌, ◌<◌}
+use Rattle.determinize_lazy.proofs.Common.{◌∙◌, ◌∷◌, ◌≡◌, ◌≤◌}
+use Rattle.std.proofs.lemmas.List.Elements.{Contains-append_cases, Contains-append_left, Contains-append_right}
 use Rattle.std.proofs.lemmas.List.FromFn.{length-map-range_with_len}
-use Rattle.determinize_below.specs.Semantics.{Accepts, after_at}
-use Rattle.determinize_core.specs.Chain.{chain}
-use Rattle.determinize_core.specs.LastMatch.{IsFarthestMatch}
-use Rattle.determinize_core.proofs.walk.LastMatches.{length-tail}
 use Rattle.determinize_core.proofs.walk.WalkOfRuns.{leftmost_walk, walk_of_all}
 
 -- a value at which a search for the earliest match continues lists nothing
-lists_none : (v : Value) → is_last true v ≡ false → (x : ℕ) → Contains v.patterns x → ⊥
-lists_none v more x c = none v.patterns (grind (arith, more)) c
+lists_none : (v : Value) → is_last true v ≡ false → v.patterns ≡ []
+lists_none v more = none v.patterns (grind (arith, more))
   where
-    none : (ps : List ℕ) → is_nonempty ps ≡ false → Contains ps x → ⊥
-    none [] e c = omega (arith, c.1)
-    none (p ∷ ps) e c = absurd (true≢false e)
+    none : (ps : List ℕ) → is_nonempty ps ≡ false → ps ≡ []
+    none [] e = refl
+    none (p ∷ ps) e = absurd (true≢false e)
 
 module _ (nfa : Nfa) (kind : MatchKind) where
-  dead_lists : (us : List (Option ℕ)) (x : ℕ) → IsListed nfa kind dead us x → ⊥
-  dead_lists [] x c = omega (arith, c.1)
-  dead_lists (u ∷ us) x (inl c) = omega (arith, c.1)
-  dead_lists (u ∷ us) x (inr later) = dead_lists us x (rw (dead_stays nfa kind u).0 at later)
+  dead_lists : (us : List (Option ℕ)) → listed nfa kind dead us ≡ []
+  dead_lists [] = refl
+  dead_lists (u ∷ us) = rw (dead_stays nfa kind u).0 (dead_lists us)
 
   -- nothing is listed after a value that records no NFA states
-  pub listed-over : (v : Value) (us : List (Option ℕ)) → v.states ≡ [] → (x : ℕ)
-      → IsListed nfa kind v us x ↔ Contains v.patterns x
-  listed-over v [] none x = (λ c. c, λ c. c)
-  listed-over v (u ∷ us) none x = (
-    λ c. by_cases c (λ c. c) (λ later. absurd (dead_lists us x (rw (step_over nfa kind v u none) at later))),
-    λ c. inl c,
-  )
+  pub listed-over : (v : Value) (us : List (Option ℕ)) → v.states ≡ [] → listed nfa kind v us ≡ v.patterns
+  listed-over v [] none = refl
+  listed-over v (u ∷ us) none = rw (step_over nfa kind v u none, dead_lists us, append-nil) refl
 
   -- what the value at an index lists
   listed-at : (us : List (Option ℕ)) (v : Value) (k : ℕ) (w : Value) (x : ℕ)
-      → slice_get (future nfa kind v us) k ≡ Some w → Contains w.patterns x → IsListed nfa kind v us x
+      → slice_get (future nfa kind v us) k ≡ Some w → Contains w.patterns x → Contains (listed nfa kind v us) x
   listed-at [] v zero w x at c = rw (of_some at) c
   listed-at [] v (suc k) w x at c = not_none (sym at)
-  listed-at (u ∷ us) v zero w x at c = inl (rw (of_some at) c)
-  listed-at (u ∷ us) v (suc k) w x at c = inr (listed-at us (step nfa kind v u) k w x at c)
+  listed-at (u ∷ us) v zero w x at c = Contains-append_left v.patterns _ x (rw (of_some at) c)
+  listed-at (u ∷ us) v (suc k) w x at c =
+      Contains-append_right v.patterns _ x (listed-at us (step nfa kind v u) k w x at c)
 
-  at-listed : (us : List (Option ℕ)) (v : Value) (x : ℕ) → IsListed nfa kind v us x
+  at-listed : (us : List (Option ℕ)) (v : Value) (x : ℕ) → Contains (listed nfa kind v us) x
       → (k : ℕ) × (w : Value) × (slice_get (future nfa kind v us) k ≡ Some w) × Contains w.patterns x
   at-listed [] v x c = (0, v, refl, c)
-  at-listed (u ∷ us) v x (inl c) = (0, v, refl, c)
-  at-listed (u ∷ us) v x (inr later) =
-      let (k, w, at, c) = at-listed us (step nfa kind v u) x later in (suc k, w, at, c)
+  at-listed (u ∷ us) v x c = by_cases (Contains-append_cases v.patterns _ x c) (λ c. (0, v, refl, c))
+      (λ later. let (k, w, at, c) = at-listed us (step nfa kind v u) x later in (suc k, w, at, c))
 
 -- a search for the earliest match passes only values that list nothing
-stop : (us rest : List (Option ℕ)) (p : Place) → rest ≡ drop p.read us → (x : ℕ)
-    → IsListed p.cache.nfa p.cache.kind p.value rest x
-    ↔ IsListed p.cache.nfa p.cache.kind (ends_at true p rest).value (drop (ends_at true p rest).read us) x
-stop us [] p is x = rw (← is) (λ c. c, λ c. c)
-stop us (u ∷ rest) p is x = by_test (is_last true p.value)
-    (λ over. rw (over, ← is) (λ c. c, λ c. c))
+stop : (us rest : List (Option ℕ)) (p : Place) → rest ≡ drop p.read us
+    → listed p.cache.nfa p.cache.kind p.value rest ≡ listed_from us (ends_at true p rest)
+stop us [] p is = rw (← is) refl
+stop us (u ∷ rest) p is = by_test (is_last true p.value) (λ over. rw (over, ← is) refl)
     (λ more. rw more (
-    let later = stop us rest (next_place p u) (ap (drop 1) is ∙ drop-drop 1 p.read us) x in (
-      λ c. later.0 (by_cases c (λ c. absurd (lists_none p.value more x c)) (λ l. l)),
-      λ c. inr (later.1 c),
-    )))
+    ap (λ ps. ps ++ listed p.cache.nfa p.cache.kind (step p.cache.nfa p.cache.kind p.value u) rest)
+    (lists_none p.value more)
+    ∙ stop us rest (next_place p u) (ap (drop 1) is ∙ drop-drop 1 p.read us)))
 
-pub listed-come : {us : List (Option ℕ)} {p q : Place} → HasCome true us p q → (x : ℕ)
-    → IsListed p.cache.nfa p.cache.kind p.value (drop p.read us) x
-    ↔ IsListed q.cache.nfa q.cache.kind q.value (drop q.read us) x
-listed-come {us} {p} {q} h x =
-    let a = stop us (drop p.read us) p refl x in
-    let b = rw (h.ends, h.grows.nfa, h.grows.kind) at (stop us (drop q.read us) q refl x) in
-    rw (h.grows.nfa, h.grows.kind) (λ c. b.1 (a.0 c), λ c. a.1 (b.0 c))
+pub listed-come : {us : List (Option ℕ)} {p q : Place} → HasCome true us p q → listed_from us p ≡ listed_from us q
+listed-come {us} {p} {q} h = stop us (drop p.read us) p refl ∙ ap (listed_from us) (sym h.ends)
+    ∙ sym (stop us (drop q.read us) q refl)
 
 module _ (nfa : Nfa) (accepted : IsAccepted nfa) (start : ℕ) (text : Text) where
   -- what is listed matches
   pub listed-matches : (kind : MatchKind) (x : ℕ)
-      → IsListed nfa kind (start_value nfa start text.behind) (units text) x
+      → Contains (listed nfa kind (start_value nfa start text.behind) (units text)) x
       → (cs : List ℕ) × (i : ℕ) × Accepts nfa text start cs i x
   unfolding chain
-  listed-matches kind x listed = of kind (at-listed nfa kind (units text) (start_value nfa start text.behind) x listed)
+  listed-matches kind x c = of kind (at-listed nfa kind (units text) (start_value nfa start text.behind) x c)
     where
       of : (kind : MatchKind) → (k : ℕ) × (w : Value)
           × (slice_get (future nfa kind (start_value nfa start text.behind) (units text)) k ≡ Some w)
           × Contains w.patterns x → (cs : List ℕ) × (i : ℕ) × Accepts nfa text start cs i x
       of kind (zero, w, at, c) =
-          let first : start_value nfa start text.behind ≡ w
-          = of_some at in
+          let first : start_value nfa start text.behind ≡ w = of_some at in
           absurd (omega (arith, (rw (← first) at c).1))
       of All (suc i, w, at, c) =
           let (cs, run) = (((walk_of_all nfa accepted start text).matches i w at).accepted x).0 c in (cs, i, run)
@@ -110,7 +94,7 @@ module _ (nfa : Nfa) (accepted : IsAccepted nfa) (start : ℕ) (text : Text) whe
 
   -- and under `All` each match is listed
   pub matches-listed : (x : ℕ) → (cs : List ℕ) × (i : ℕ) × Accepts nfa text start cs i x
-      → IsListed nfa All (start_value nfa start text.behind) (units text) x
+      → Contains (listed nfa All (start_value nfa start text.behind) (units text)) x
   unfolding chain
   matches-listed x (cs, i, run) =
       let first : Value = start_value nfa start text.behind in

@@ -2,11 +2,9 @@
 -- Main statements: found-before_last.
 -- Used by: `Scan::last`.
 -- Idea: the units that were read are those of the text before the last byte, which is the unit ahead of it.
-use Rattle.determinize_lazy.proofs.Common.{[], ap, between, future, is-search, last_match, Scanned, Some, start_value}
-use Rattle.determinize_lazy.proofs.Common.{sym, ◌∙◌, ◌∷◌}
-use Rattle.std.proofs.lemmas.List.{map-append}
+use Rattle.determinize_lazy.proofs.Common.{[], ap, between, future, is-search, IsFoundBeforeLast, last_match}
+use Rattle.determinize_lazy.proofs.Common.{map-append, Scanned, Some, start_value, sym, ◌∙◌, ◌∷◌}
 use Rattle.determinize_core.proofs.walk.UnitLists.{chain_is_future}
-use Rattle.determinize_lazy.specs.Scanning.{IsFoundBeforeLast}
 
 pub found-before_last : (s : Scanned) → IsFoundBeforeLast s
 found-before_last s nfa kind start behind bytes last accepted is =

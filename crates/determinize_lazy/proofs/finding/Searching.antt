@@ -4,26 +4,22 @@
 -- Idea: where a search ends depends only on the place where it is and on the units that are left; and the place where
 -- it ends has the last match and the cache of the walk over the units that it reads.
 use Rattle.determinize_lazy.proofs.Common.{[], after_walk, ap, arith, Asked, Bool, by_test, Cache, cache, Cached}
-use Rattle.determinize_lazy.proofs.Common.{cached_place, cursor_value, dead, Decides, drop, drop_all, ended_at, ends_at}
-use Rattle.determinize_lazy.proofs.Common.{EndsAt, false, first_place, future, GoesTo, Grows, HalfMatch, HasCome}
-use Rattle.determinize_lazy.proofs.Common.{HasMatch, IfOk-weaker, inl, inr, is-search, is_last, is_last_tag}
-use Rattle.determinize_lazy.proofs.Common.{is_nonempty, is_some, IsAccepted, IsAt, IsCachedPosition, IsCutOffAt}
-use Rattle.determinize_lazy.proofs.Common.{IsFailedStep, IsLeftBy, IsNext, IsOver, IsOverText, IsSearch, IsSound}
-use Rattle.determinize_lazy.proofs.Common.{IsTarget, last_match, LazyValue, length, length-map, List, map, match_of}
-use Rattle.determinize_lazy.proofs.Common.{match_reported, next_place, None, none_left, Ok, on_err_weaker, Option}
-use Rattle.determinize_lazy.proofs.Common.{option_or, Place, place, refl, Result, slice_get, slice_get-get_or}
-use Rattle.determinize_lazy.proofs.Common.{slice_get_within, slice_index_or, Some, start_for, start_value, step}
-use Rattle.determinize_lazy.proofs.Common.{step_of, subst, sym, tag_in, tag_of, Text, text_of, true, true≢false, units}
-use Rattle.determinize_lazy.proofs.Common.{units_read, Value, value_after, ℕ, ◌&&◌, ◌+◌, ◌∙◌, ◌∷◌, ◌≡◌, ◌≤◌, ◌⊎◌}
-use Rattle.determinize_engine.proofs.Later.{last_from-first, last_from-next, last_from-over}
-use Rattle.determinize_engine.specs.Private.Later.{last_from}
-use Rattle.determinize_lazy.specs.declared.search.Position.{Position}
+use Rattle.determinize_lazy.proofs.Common.{cached_place, CachedPosition, chain, cursor_value, dead, Decides, drop}
+use Rattle.determinize_lazy.proofs.Common.{drop_all, ended_at, ends_at, EndsAt, false, first_place, future, GoesTo}
+use Rattle.determinize_lazy.proofs.Common.{Grows, HalfMatch, HasCome, HasMatch, IfOk-weaker, inl, inr, is-search}
+use Rattle.determinize_lazy.proofs.Common.{is_last, is_last_tag, is_nonempty, is_some, IsAccepted, IsAt}
+use Rattle.determinize_lazy.proofs.Common.{IsCachedPosition, IsCutOffAt, IsFailedStep, IsLeftBy, IsNext, IsOver}
+use Rattle.determinize_lazy.proofs.Common.{IsOverText, IsSearch, IsSound, IsTarget, last_from, last_from-first}
+use Rattle.determinize_lazy.proofs.Common.{last_from-next, last_from-over, last_match, LazyValue, length, length-map}
+use Rattle.determinize_lazy.proofs.Common.{List, map, match_of, match_reported, next_place, None, none_left, Ok}
+use Rattle.determinize_lazy.proofs.Common.{on_err_weaker, Option, option_or, place, Place, Position, refl, Result}
+use Rattle.determinize_lazy.proofs.Common.{slice_get, slice_get-get_or, slice_get_within, slice_index_or, Some}
+use Rattle.determinize_lazy.proofs.Common.{start_for, start_value, step, step_of, subst, sym, tag_in, tag_of, Text}
+use Rattle.determinize_lazy.proofs.Common.{text_of, true, true≢false, units, units_read, Value, value_after}
+use Rattle.determinize_lazy.proofs.Common.{with_cursor, ℕ, ◌&&◌, ◌+◌, ◌∙◌, ◌∷◌, ◌≡◌, ◌≤◌, ◌⊎◌}
 use Rattle.determinize_lazy.proofs.steps.Rule.{grows-more, grows_none}
 use Rattle.determinize_lazy.proofs.walking.CachedWalks.{cut_off-first, cut_off-later, drop-one, left_whole}
-use Rattle.determinize_core.specs.Chain.{chain}
 use Rattle.determinize_engine.proofs.Ranges.{match-decides}
-use Rattle.determinize_lazy.specs.Private.Searched.{with_cursor}
-use Rattle.determinize_lazy.specs.declared.cached.CachedPosition.{CachedPosition}
 use Rattle.determinize_table.specs.declared.tag.LastMatch.{LastMatch}
 use Rattle.determinize_lazy.proofs.steps.Cursors.{cached_step, cached_target}
 

@@ -2,15 +2,10 @@
 -- Main statements: empty_is_lazy.
 -- Used by: `with_spans`, and what clears a cache.
 -- Idea: the table of no states is that of each step function, and it keeps no start.
-use Rattle.determinize_lazy.proofs.Common.{ap, AreClassesOf, arith, Classes, IfSome, length, not_none, Option}
-use Rattle.determinize_lazy.proofs.Common.{slot_number, step, sym, Table, ℕ, ◌∙◌, ◌≤◌}
-use Rattle.std.proofs.lemmas.List.Elements.{All-nil}
-use Rattle.determinize_below.specs.Nfa.{IsAccepted}
-use Rattle.determinize_below.specs.Semantics.{Nfa}
-use Rattle.determinize_below.specs.declared.search.MatchKind.{MatchKind}
-use Rattle.determinize_lazy.specs.Private.Invariant.{IsLazy}
+use Rattle.determinize_lazy.proofs.Common.{All-nil, ap, AreClassesOf, arith, Classes, IfSome, IsAccepted, IsEmpty}
+use Rattle.determinize_lazy.proofs.Common.{IsLazy, length, MatchKind, Nfa, not_none, Option, slot_number, step}
+use Rattle.determinize_lazy.proofs.Common.{StoredTable, sym, Table, ℕ, ◌∙◌, ◌≤◌}
 use Rattle.determinize_table.proofs.Transitions.{empty-is}
-use Rattle.determinize_table.specs.Rows.{IsEmpty, StoredTable}
 
 pub empty_is_lazy : (nfa : Nfa) (kind : MatchKind) (limit computed : ℕ) (classes : Option Classes)
     (stored : StoredTable)

@@ -2,27 +2,23 @@
 -- Main statements: known-start, known-step, few_bytes.
 -- Used by: what keeps the states of a cache small, and `cached_memory_usage`.
 -- Idea: a closure lists each state once, and a pattern comes from a match state.
-use Rattle.determinize_lazy.proofs.Common.{[], add-one, All, ap, arith, Bool, by_test, cond, eqb-true, get_or, is_some}
-use Rattle.determinize_lazy.proofs.Common.{IsAccepted, IsStateOf, LeftmostFirst, length, List, MatchKind, most_bytes}
-use Rattle.determinize_lazy.proofs.Common.{nat_eq, Nfa, None, Option, refl, Some, start_value, suc, sym, take, take_all}
-use Rattle.determinize_lazy.proofs.Common.{true, Value, zero, ℕ, ◌+◌, ◌<◌, ◌∙◌, ◌∷◌, ◌≡◌, ◌≤◌}
+use Rattle.determinize_lazy.proofs.Common.{[], accepted_sound, add-one, All, ap, arith, Assertion, Bool, by_test, cond}
+use Rattle.determinize_lazy.proofs.Common.{count_by, distinct_states, Each, edges, ends, eqb-true, Fail, flat_map}
+use Rattle.determinize_lazy.proofs.Common.{fresh, get_or, is_capture, is_reopened, is_some, IsAccepted, IsStateOf}
+use Rattle.determinize_lazy.proofs.Common.{joined, LeftmostFirst, length, List, MatchKind, member, most_bytes, nat_eq}
+use Rattle.determinize_lazy.proofs.Common.{Nfa, None, none_held, opened_by, Option, option_to_list, or_false}
+use Rattle.determinize_lazy.proofs.Common.{pattern_of, patterns_of, patterns_read, refl, same_decides, Some}
+use Rattle.determinize_lazy.proofs.Common.{start_value, suc, sum_by, sym, tables_of, take, take_all, targets, true}
+use Rattle.determinize_lazy.proofs.Common.{Value, without, working_list, zero, ℕ, ◌*◌, ◌+◌, ◌<◌, ◌∙◌, ◌∷◌, ◌≡◌, ◌≤◌}
 use Rattle.std.proofs.Math.Nat.{mul-le-mul_right}
 use Rattle.std.proofs.lemmas.List.Concat.{length-flat_map}
 use Rattle.std.proofs.lemmas.List.Elements.{All-contains, All-weaker}
 use Rattle.std.proofs.lemmas.List.Sums.{count_by-le-length, length-filter, sum_by-cons, sum_by-le, sum_by_more}
-use Rattle.std.specs.List.{count_by, flat_map, sum_by}
-use Rattle.std.specs.Option.{option_to_list}
-use Rattle.std.specs.Prelude.{All as Each, ◌*◌}
 use Rattle.determinize_below.proofs.nfas.SoundNfa.{ends_within_states, length-reach}
-use Rattle.determinize_below.specs.declared.look.Look.{Look as Assertion}
-use Rattle.determinize_below.specs.Edges.{edges, is_capture, is_match_node, pattern_count, pattern_of, patterns_of}
-use Rattle.determinize_below.specs.Edges.{reach}
-use Rattle.determinize_below.specs.Semantics.{Fail}
-use Rattle.determinize_core.proofs.Common.{accepted_sound, has, have_after, member, none_held, same_decides, tables_of}
-use Rattle.determinize_core.proofs.Common.{without}
+use Rattle.determinize_below.specs.Edges.{is_match_node, pattern_count, reach}
+use Rattle.determinize_core.proofs.Common.{has, have_after}
 use Rattle.determinize_core.proofs.step.Resolving.{start_resolves, step_resolves, targets_resolve}
-use Rattle.determinize_core.specs.Step.{distinct_states, is_reopened, opened_by, patterns_read, step, targets}
-use Rattle.determinize_core.specs.Step.{working_list}
+use Rattle.determinize_core.specs.Step.{step}
 use Rattle.determinize_engine.specs.StateBytes.{heap_bytes}
 use Rattle.determinize_start.specs.LookTables.{have_at_start}
 use Rattle.determinize_state.proofs.encoding.EncodedLength.{spell_short}
@@ -30,8 +26,7 @@ use Rattle.determinize_table.specs.CacheBytes.{cache_bytes}
 use Rattle.ordered_reach.proofs.graph.FiniteGraphs.{below_member, fresh_below}
 use Rattle.ordered_reach.proofs.graph.SearchBound.{weight, weight-fresh}
 use Rattle.ordered_reach.proofs.lists.Elements.{In_Contains, member_In}
-use Rattle.ordered_reach.proofs.Cases.{or_false}
-use Rattle.ordered_reach.specs.Reach.{ends, fresh, joined, nodes_below}
+use Rattle.ordered_reach.specs.Reach.{nodes_below}
 
 weight-sum : (f : ℕ → ℕ) (xs : List ℕ) → weight f none_held xs ≡ sum_by f xs
 weight-sum f [] = refl

@@ -2,18 +2,17 @@
 -- Main statements: lazy-kept, stepped, lazy-sound.
 -- Used by: `compute`, `step`, `kept_start`; the general laws by searches and `determinize_find`, too.
 -- Idea: a step leaves the table that the rule keeps or, if it fails, the one before or none.
-use Rattle.determinize_lazy.proofs.Common.{[], arith, Bool, by_cases, by_test, Cache, cache, Cached, Classes}
-use Rattle.determinize_lazy.proofs.Common.{classes_from, count_after, Cursor, cursor_value, dead, empty, Err, false}
-use Rattle.determinize_lazy.proofs.Common.{fits, Grows, IfOk-weaker, inr, is_cached, IsAccepted, IsAt, IsCursor, IsKept}
-use Rattle.determinize_lazy.proofs.Common.{IsLazy, IsSound, IsStateOf, IsStepped, IsTable, keep, LazyValue, length}
-use Rattle.determinize_lazy.proofs.Common.{List, list_any, MatchKind, Nfa, Ok, on_err_weaker, on_ok_weaker, OnErr}
-use Rattle.determinize_lazy.proofs.Common.{Option, refl, Result, same, shared_by, shares, step, step_of, StoredTable}
-use Rattle.determinize_lazy.proofs.Common.{sym, Table, table_of, true, Uncached, Value, with_value, ℕ, ◌∙◌, ◌≡◌, ◌≤◌}
+use Rattle.determinize_lazy.proofs.Common.{[], All-nil, arith, Bool, by_cases, by_test, cache, Cache, Cached, Classes}
+use Rattle.determinize_lazy.proofs.Common.{classes_from, count_after, Cursor, cursor_value, dead, Each, empty, Err}
+use Rattle.determinize_lazy.proofs.Common.{false, fits, Grows, IfOk-weaker, inr, is_cached, IsAccepted, IsAt, IsCursor}
+use Rattle.determinize_lazy.proofs.Common.{IsKept, IsKnown, IsLazy, IsSound, IsStateOf, IsStepped, IsTable, keep}
+use Rattle.determinize_lazy.proofs.Common.{LazyValue, length, List, list_any, MatchKind, Nfa, Ok, on_err_weaker}
+use Rattle.determinize_lazy.proofs.Common.{on_ok_weaker, OnErr, Option, refl, Result, same, shared_by, shares, step}
+use Rattle.determinize_lazy.proofs.Common.{step_of, StoredTable, sym, Table, table_of, true, Uncached, Value}
+use Rattle.determinize_lazy.proofs.Common.{with_value, ℕ, ◌∙◌, ◌≡◌, ◌≤◌}
 use Rattle.determinize_lazy.proofs.steps.Sharing.{shared_steps, shares-self}
-use Rattle.std.proofs.lemmas.List.Elements.{All-get_or, All-nil, All-push}
-use Rattle.std.specs.Prelude.{All as Each}
+use Rattle.std.proofs.lemmas.List.Elements.{All-get_or, All-push}
 use Rattle.determinize_lazy.proofs.steps.FewStates.{known-step}
-use Rattle.determinize_lazy.specs.Private.Steps.{IsKnown}
 use Rattle.determinize_table.proofs.Transitions.{empty-is, with_transition-is}
 use Rattle.determinize_lazy.proofs.steps.Starts.{starts-stay}
 

@@ -3,10 +3,10 @@
 -- Used by: `kept_start`, `find_start`, and Rule.
 -- Idea: a slot is that of one state and one kind, so it has one start state.
 use Rattle.determinize_lazy.proofs.Common.{ap, AreStarts, arith, by_cases, by_test, cond, get_or, get_or-set_other}
-use Rattle.determinize_lazy.proofs.Common.{get_or-set_same, IfSome, List, nat_eq, Nfa, None, not_none, of_some, Option}
-use Rattle.determinize_lazy.proofs.Common.{option_map, refl, slice_get, slice_set, slot_number, Some, start_slot}
-use Rattle.determinize_lazy.proofs.Common.{start_value, StartsStay, StoredTable, sym, ℕ, ◌∙◌, ◌≡◌, ◌⊎◌}
-use Rattle.std.proofs.lemmas.List.{get_or_past, length-set}
+use Rattle.determinize_lazy.proofs.Common.{get_or-set_same, get_or_past, IfSome, length-set, List, nat_eq, Nfa, None}
+use Rattle.determinize_lazy.proofs.Common.{not_none, of_some, Option, option_map, refl, slice_get, slice_set}
+use Rattle.determinize_lazy.proofs.Common.{slot_number, Some, start_slot, start_value, StartsStay, StoredTable, sym, ℕ}
+use Rattle.determinize_lazy.proofs.Common.{◌∙◌, ◌≡◌, ◌⊎◌}
 use Rattle.determinize_start.proofs.kinds.StartSlots.{one_slot}
 use Rattle.determinize_start.specs.LookTables.{from_word_at_start, half_crlf_at_start, have_at_start}
 use Rattle.determinize_start.specs.StartKinds.{start_kind_of}

@@ -3,17 +3,13 @@
 -- Used by: `walk_on`, `next`, searches and Plenty.
 -- Idea: what a walk leaves depends only on the cache and the value where it is, and on the units that are left.
 use Rattle.determinize_lazy.proofs.Common.{[], add-one, after_step, after_walk, ap, append_assoc, arith, Bool, Cache}
-use Rattle.determinize_lazy.proofs.Common.{cond, count_after, drop, Err, future, future_is, get_or_from_slice_get}
-use Rattle.determinize_lazy.proofs.Common.{Grows, IfOk-from_err, inl, inr, is_cached, IsCacheAfter, IsCutOff, IsErr}
-use Rattle.determinize_lazy.proofs.Common.{IsFailedStep, IsWalking, length, List, MatchKind, Nfa, not_none, of_some, Ok}
-use Rattle.determinize_lazy.proofs.Common.{Option, refl, Result, shared_by, slice_get, slice_get_within, Some}
-use Rattle.determinize_lazy.proofs.Common.{start_value, step, step_of, suc, sym, take, take_all, Text, units, Value}
-use Rattle.determinize_lazy.proofs.Common.{zero, ℕ, ◌++◌, ◌+◌, ◌∙◌, ◌∷◌, ◌≡◌, ◌≤◌}
+use Rattle.determinize_lazy.proofs.Common.{chain, cond, count_after, drop, drop_more, EachWalkComputesFew, Err, future}
+use Rattle.determinize_lazy.proofs.Common.{future_is, get_or_from_slice_get, Grows, IfOk-from_err, inl, inr, is_cached}
+use Rattle.determinize_lazy.proofs.Common.{IsCacheAfter, IsCutOff, IsErr, IsFailedStep, IsWalkedTo, IsWalking, length}
+use Rattle.determinize_lazy.proofs.Common.{List, MatchKind, Nfa, not_none, of_some, Ok, Option, refl, Result, shared_by}
+use Rattle.determinize_lazy.proofs.Common.{slice_get, slice_get_within, Some, start_value, step, step_of, suc, sym}
+use Rattle.determinize_lazy.proofs.Common.{take, take_all, Text, units, Value, zero, ℕ, ◌++◌, ◌+◌, ◌∙◌, ◌∷◌, ◌≡◌, ◌≤◌}
 use Rattle.determinize_lazy.proofs.steps.Rule.{grows-more, grows_none, of_err}
-use Rattle.std.proofs.lemmas.List.{drop_more}
-use Rattle.determinize_core.specs.Chain.{chain}
-use Rattle.determinize_lazy.specs.Cache.{EachWalkComputesFew}
-use Rattle.determinize_lazy.specs.Walkers.{IsWalkedTo}
 
 -- the steps stay, and which of them are shared
 pub same_steps : (us : List (Option ℕ)) (c : Cache) (v : Value) → step_of (after_walk c v us) ≡ step_of c

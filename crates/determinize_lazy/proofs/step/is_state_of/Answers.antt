@@ -1,5 +1,4 @@
-use Rattle.determinize_lazy.proofs.Common.{ap, arith, length, rules, ◌<◌}
-use Rattle.std.proofs.lemmas.List.Elements.{All-cons, All-rest}
+use Rattle.determinize_lazy.proofs.{All-cons, All-rest, ap, arith, length, rules, ◌<◌}
 use Rattle.determinize_lazy.proofs.step.is_state_of.Goals as goal
 
 pub loop-id-preserved : goal.loop-id-preserved

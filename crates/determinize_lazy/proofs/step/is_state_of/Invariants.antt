@@ -1,4 +1,4 @@
-use Rattle.determinize_lazy.proofs.Common.{AllResolve, length, ◌+◌, ◌≡◌, ◌≤◌}
+use Rattle.determinize_lazy.proofs.{AllResolve, length, ◌+◌, ◌≡◌, ◌≤◌}
 use Rattle.determinize_lazy.proofs.step.is_state_of.Given as goal
 
 abbrev pub invariant-loop-id : goal.invariant-loop-id

@@ -1,4 +1,4 @@
-use Rattle.determinize_lazy.proofs.Common.{ap, arith, match_of, match_reported, option_or, refl, Tag, ◌∙◌}
+use Rattle.determinize_lazy.proofs.{ap, arith, match_of, match_reported, option_or, refl, Tag, ◌∙◌}
 use Rattle.determinize_lazy.proofs.lazy.LazyDfa.advance.Goals as goal
 
 pub returns-clause-next : goal.returns-clause-next

@@ -1,5 +1,4 @@
-use Rattle.determinize_lazy.proofs.Common.{arith}
-use Rattle.determinize_lazy.proofs.steps.FewStates.{few_bytes}
+use Rattle.determinize_lazy.proofs.{arith, few_bytes}
 use Rattle.determinize_lazy.proofs.lazy.LazyDfa.cached_memory_usage.Goals as goal
 
 pub returns-clause-most : goal.returns-clause-most

@@ -1,8 +1,7 @@
-use Rattle.determinize_lazy.proofs.Common.{arith, cache, classes_from, count_after, cursor_value, Err, inl, inr, refl}
-use Rattle.determinize_lazy.proofs.Common.{rules, step, ◌≡◌}
-use Rattle.std.specs.Option.{option_copied}
-use Rattle.determinize_lazy.proofs.steps.Cursors.{absent-at}
-use Rattle.determinize_lazy.proofs.steps.Rule.{grows_none, lazy-kept, lazy-known, lazy-sound, stepped}
+use Rattle.determinize_lazy.proofs.{absent-at, arith, cache, classes_from, count_after, cursor_value, Err, grows_none}
+use Rattle.determinize_lazy.proofs.{inl, inr, lazy-kept, lazy-known, lazy-sound, option_copied, refl, rules}
+use Rattle.determinize_lazy.proofs.{stepped, ◌≡◌}
+use Rattle.determinize_lazy.proofs.Common.{step}
 use Rattle.determinize_lazy.proofs.lazy.LazyDfa.compute.Goals as goal
 
 pub invariant_of-self-2 : goal.invariant_of-self-2

@@ -1,20 +1,16 @@
-use Rattle.determinize_lazy.proofs.Common.{ap, arith, cache, cursor_value, last_match-within, later-within, later_by}
-use Rattle.determinize_lazy.proofs.Common.{length, length-map, map, option_map, option_or, refl, rules, Scanned, Some}
-use Rattle.determinize_lazy.proofs.Common.{◌+◌, ◌∙◌, ◌≡◌, ◌≤◌}
-use Rattle.determinize_lazy.specs.Private.Searched.{IsPieceRead}
+use Rattle.determinize_lazy.proofs.{ap, arith, cache, cursor_value, has_read, IsPieceRead, last_match-within}
+use Rattle.determinize_lazy.proofs.{later-within, later_by, left_whole, length, length-map, map, option_map, option_or}
+use Rattle.determinize_lazy.proofs.{read_err, read_none, refl, rules, Scanned, Some, ◌+◌, ◌∙◌, ◌≡◌, ◌≤◌}
 use Rattle.determinize_engine.proofs.Scanning.{scan-piece}
-use Rattle.determinize_lazy.proofs.walking.CachedWalks.{left_whole}
-use Rattle.determinize_lazy.proofs.walking.Plenty.{has_read, read_err, read_none}
-use Rattle.determinize_lazy.proofs.lazy.LazyDfa.feed.Given.{Over}
 use Rattle.determinize_lazy.proofs.lazy.LazyDfa.feed.Goals.{After-rest}
 use Rattle.determinize_lazy.proofs.lazy.LazyDfa.feed.Goals as goal
 
 -- the piece is read from the state of the scan
-state : (g : Over) (c : After-rest g)
+state : (g : _) (c : After-rest g)
     → cursor_value c.args.self.now.states c.in_ok-start.start ≡ c.args.scan.now.state
 state g c = c.in_ok-start.ensures.value ∙ ap (λ (s : Scanned). s.state) c.scan.view_is
 
-read : (g : Over) (c : After-rest g) → IsPieceRead (cache c.args.self.now) c.args.scan.now.state c.args.piece.now
+read : (g : _) (c : After-rest g) → IsPieceRead (cache c.args.self.now) c.args.scan.now.state c.args.piece.now
     (record { state = c.rest.inside.state; last = c.rest.inside.last; read = c.rest.inside.read })
 read g c = rw c.rest.view_is (rw (state g c) at c.in_ok-rest.ensures.read)
 

@@ -1,6 +1,5 @@
-use Rattle.determinize_lazy.proofs.Common.{LazyValue, rules, slice_get, Some, start_value, subst, sym, ◌∙◌, ◌≡◌}
-use Rattle.determinize_lazy.proofs.steps.Cursors.{started_at}
-use Rattle.determinize_lazy.proofs.steps.Starts.{starts-set}
+use Rattle.determinize_lazy.proofs.{LazyValue, rules, slice_get, Some, start_value, started_at, starts-set, subst, sym}
+use Rattle.determinize_lazy.proofs.{◌∙◌, ◌≡◌}
 use Rattle.determinize_lazy.proofs.lazy.LazyDfa.find_start.Goals as goal
 
 pub invariant_of-self : goal.invariant_of-self

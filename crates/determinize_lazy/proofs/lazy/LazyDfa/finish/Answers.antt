@@ -1,22 +1,19 @@
-use Rattle.determinize_lazy.proofs.Common.{[], ap, arith, between, cache, false, first_place, future, IfOk, is-search}
-use Rattle.determinize_lazy.proofs.Common.{IsOver, last_match, last_match-within, later-within, later_by, option_map}
-use Rattle.determinize_lazy.proofs.Common.{option_or, refl, rules, Scanned, ◌∙◌, ◌∷◌, ◌≡◌, ◌≤◌}
-use Rattle.determinize_lazy.proofs.finding.Searching.{last-found, over-same}
-use Rattle.determinize_lazy.proofs.walking.CachedWalks.{left_whole}
-use Rattle.determinize_lazy.proofs.walking.Plenty.{has_read, read_err, read_none}
-use Rattle.determinize_core.specs.Chain.{chain}
+use Rattle.determinize_lazy.proofs.{[], ap, arith, between, cache, false, first_place, future, has_read, IfOk}
+use Rattle.determinize_lazy.proofs.{is-search, IsOver, last-found, last_match, last_match-within, later-within}
+use Rattle.determinize_lazy.proofs.{later_by, left_whole, option_map, option_or, over-same, read_err, read_none, refl}
+use Rattle.determinize_lazy.proofs.{rules, Scanned, ◌∙◌, ◌∷◌, ◌≡◌, ◌≤◌}
 use Rattle.determinize_engine.proofs.Scanning.{last-whole}
-use Rattle.determinize_lazy.proofs.lazy.LazyDfa.finish.Given.{Over}
+use Rattle.determinize_core.specs.Chain.{chain}
 use Rattle.determinize_lazy.proofs.lazy.LazyDfa.finish.Goals.{After-search_from}
 use Rattle.determinize_lazy.proofs.lazy.LazyDfa.finish.Goals as goal
 
 -- the search of the unit ahead, from the state of the scan
-over : (g : Over) (c : After-search_from g) → IsOver false (c.args.look_ahead ∷ [])
+over : (g : _) (c : After-search_from g) → IsOver false (c.args.look_ahead ∷ [])
     (first_place (cache c.args.self.now) c.args.scan.now.state) c.search_from.result (cache c.search_from.new.self)
 over g c = over-same (c.start.ensures.place c.args.self.now _ (c.in_ok-start.ensures.value
     ∙ ap (λ (s : Scanned). s.state) c.scan.view_is)) c.new-text.ensures c.search_from.ensures
 
-last : (g : Over) (c : After-search_from g) → IfOk c.search_from.result (λ found. found
+last : (g : _) (c : After-search_from g) → IfOk c.search_from.result (λ found. found
     ≡ last_match (future c.args.self.now.nfa c.args.self.now.kind c.args.scan.now.state (c.args.look_ahead ∷ [])))
 last g c = rw (last-found (cache c.args.self.now) c.args.scan.now.state (c.args.look_ahead ∷ [])) at (over g c).last
 

@@ -1,6 +1,4 @@
-use Rattle.determinize_lazy.proofs.Common.{Some}
-use Rattle.determinize_lazy.proofs.finding.Searching.{goes-next, next-cached}
-use Rattle.determinize_lazy.proofs.steps.Rule.{lazy-sound}
+use Rattle.determinize_lazy.proofs.{goes-next, lazy-sound, next-cached, Some}
 use Rattle.determinize_lazy.proofs.lazy.LazyDfa.follow.Goals as goal
 
 pub loop-at-preserved : goal.loop-at-preserved

@@ -1,4 +1,4 @@
-use Rattle.determinize_lazy.proofs.Common.{cached_place, GoesToCached, length, ◌-◌}
+use Rattle.determinize_lazy.proofs.{cached_place, GoesToCached, length, ◌-◌}
 use Rattle.determinize_lazy.proofs.lazy.LazyDfa.follow.Given as goal
 
 abbrev pub invariant-loop-at : goal.invariant-loop-at

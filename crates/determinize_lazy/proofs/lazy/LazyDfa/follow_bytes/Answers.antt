@@ -1,6 +1,4 @@
-use Rattle.determinize_lazy.proofs.Common.{dead, rules, slice_get-get_or, unit-here, ◌≡◌}
-use Rattle.determinize_lazy.proofs.steps.Cursors.{followed-next}
-use Rattle.determinize_lazy.proofs.steps.Rule.{lazy-sound}
+use Rattle.determinize_lazy.proofs.{dead, followed-next, lazy-sound, rules, slice_get-get_or, unit-here, ◌≡◌}
 use Rattle.determinize_lazy.proofs.lazy.LazyDfa.follow_bytes.Goals as goal
 
 pub loop-read-preserved : goal.loop-read-preserved

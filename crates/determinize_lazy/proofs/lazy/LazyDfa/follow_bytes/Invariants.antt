@@ -1,4 +1,4 @@
-use Rattle.determinize_lazy.proofs.Common.{IsFollowed, length, units, ◌-◌}
+use Rattle.determinize_lazy.proofs.{IsFollowed, length, units, ◌-◌}
 use Rattle.determinize_lazy.proofs.lazy.LazyDfa.follow_bytes.Given as goal
 
 abbrev pub invariant-loop-read : goal.invariant-loop-read

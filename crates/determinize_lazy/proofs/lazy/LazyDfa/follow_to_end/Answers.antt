@@ -1,13 +1,11 @@
-use Rattle.determinize_lazy.proofs.Common.{ap, arith, cache, cached_place, dead, first_place, HasCome, length}
-use Rattle.determinize_lazy.proofs.Common.{slice_index_or, Some, sym, true, unit-here, unit-last, units, ◌∙◌, ◌≡◌}
-use Rattle.determinize_lazy.proofs.finding.Searching.{come-next, come_twice, next-cached}
-use Rattle.determinize_lazy.proofs.steps.Rule.{lazy-sound}
-use Rattle.determinize_lazy.proofs.lazy.LazyDfa.follow_to_end.Given.{Over}
+use Rattle.determinize_lazy.proofs.{ap, arith, cache, cached_place, come-next, come_twice, dead, first_place, HasCome}
+use Rattle.determinize_lazy.proofs.{lazy-sound, length, next-cached, slice_index_or, Some, sym, true, unit-here}
+use Rattle.determinize_lazy.proofs.{unit-last, units, ◌∙◌, ◌≡◌}
 use Rattle.determinize_lazy.proofs.lazy.LazyDfa.follow_to_end.Goals.{After-follow-at}
 use Rattle.determinize_lazy.proofs.lazy.LazyDfa.follow_to_end.Goals as goal
 
 -- the search of the bytes
-bytes : (g : Over) (c : After-follow-at g) → HasCome c.args.earliest (units c.args.text.now)
+bytes : (g : _) (c : After-follow-at g) → HasCome c.args.earliest (units c.args.text.now)
     (first_place (cache c.args.self.now) (slice_index_or c.args.self.now.states c.args.start dead))
     (cached_place c.args.self.now c.follow-at.result)
 bytes g c = c.follow-at.ensures.come true _ (unit-here c.args.text.now)

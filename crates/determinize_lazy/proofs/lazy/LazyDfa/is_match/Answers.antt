@@ -1,7 +1,5 @@
-use Rattle.determinize_lazy.proofs.Common.{cache, rules, sym, true≢false, ◌∙◌}
-use Rattle.determinize_lazy.proofs.finding.Searching.{decides}
-use Rattle.determinize_lazy.proofs.walking.CachedWalks.{left_whole}
-use Rattle.determinize_lazy.proofs.walking.Plenty.{has_read, read_err, searched-in}
+use Rattle.determinize_lazy.proofs.{cache, decides, has_read, left_whole, read_err, rules, searched-in, sym, true≢false}
+use Rattle.determinize_lazy.proofs.{◌∙◌}
 use Rattle.determinize_lazy.proofs.lazy.LazyDfa.is_match.Goals as goal
 
 pub returns-in_err-search_range-clause-cache : goal.returns-in_err-search_range-clause-cache

@@ -1,6 +1,4 @@
-use Rattle.determinize_lazy.proofs.Common.{sym, ◌∙◌}
-use Rattle.determinize_lazy.proofs.steps.Rule.{lazy-sound}
-use Rattle.determinize_lazy.proofs.steps.Starts.{start-kept}
+use Rattle.determinize_lazy.proofs.{lazy-sound, start-kept, sym, ◌∙◌}
 use Rattle.determinize_lazy.proofs.lazy.LazyDfa.kept_start.Goals as goal
 
 pub returns-clause-at : goal.returns-clause-at

@@ -1,5 +1,4 @@
-use Rattle.determinize_lazy.proofs.Common.{ap, arith, cursor_value, get_or, inl, inr, length, Value, ◌∙◌, ◌≡◌}
-use Rattle.determinize_lazy.proofs.finding.Marking.{mark-next}
+use Rattle.determinize_lazy.proofs.{ap, arith, cursor_value, get_or, inl, inr, length, mark-next, Value, ◌∙◌, ◌≡◌}
 use Rattle.determinize_lazy.proofs.lazy.LazyDfa.mark.Goals.{else-id-found, then-id-found}
 use Rattle.determinize_lazy.proofs.lazy.LazyDfa.mark.Goals as goal
 

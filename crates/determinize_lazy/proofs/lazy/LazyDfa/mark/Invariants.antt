@@ -1,5 +1,4 @@
-use Rattle.determinize_lazy.proofs.Common.{Contains, cursor_value, take}
-use Rattle.determinize_lazy.specs.Marks.{AreMarked}
+use Rattle.determinize_lazy.proofs.{AreMarked, Contains, cursor_value, take}
 use Rattle.determinize_lazy.proofs.lazy.LazyDfa.mark.Given as goal
 
 abbrev pub invariant-loop-index : goal.invariant-loop-index

@@ -1,12 +1,9 @@
-use Rattle.determinize_lazy.proofs.Common.{all_read, ap, arith, cache, cursor_value, false, first_place, HasCome, inl}
-use Rattle.determinize_lazy.proofs.Common.{inr, is_last, Place, place, refl, start_value, true, unit-here, units, ◌≡◌}
-use Rattle.determinize_lazy.proofs.finding.Marking.{marking-end, marking-first, marking-next, marking-over}
-use Rattle.determinize_lazy.proofs.finding.Marks.{all-some, marking-some}
-use Rattle.determinize_lazy.proofs.finding.Searching.{come-next, come_none, come_twice, fails-next, left-at, tag-last}
-use Rattle.determinize_lazy.proofs.steps.Rule.{grows-more}
-use Rattle.determinize_lazy.proofs.walking.CachedWalks.{left_err, left_none}
-use Rattle.determinize_lazy.proofs.lazy.LazyDfa.mark_text.Given.{Over}
-use Rattle.determinize_lazy.proofs.lazy.LazyDfa.mark_text.Goals.{After-mark}
+use Rattle.determinize_lazy.proofs.{all-some, all_read, ap, arith, cache, come-next, come_none, come_twice}
+use Rattle.determinize_lazy.proofs.{cursor_value, fails-next, false, first_place, grows-more, HasCome, inl, inr}
+use Rattle.determinize_lazy.proofs.{is_last, left-at, left_err, left_none, listed_from, marking-end, marking-first}
+use Rattle.determinize_lazy.proofs.{marking-over, marking-some, marking-step, place, Place, refl, start_value}
+use Rattle.determinize_lazy.proofs.{tag-last, true, unit-here, units, ◌≡◌}
+use Rattle.determinize_lazy.proofs.lazy.LazyDfa.mark_text.Goals.{After-mark, After-unit-unit}
 use Rattle.determinize_lazy.proofs.lazy.LazyDfa.mark_text.Goals as goal
 
 pub returns-in_err-start-clause-left : goal.returns-in_err-start-clause-left
@@ -17,12 +14,12 @@ pub loop-at-init : goal.loop-at-init
 loop-at-init g c =
     let v = c.args.self.now in
     let first : cursor_value v.states c.in_ok-start.field-0 ≡ start_value v.nfa c.args.start c.args.text.now.behind
-    = rw (c.in_ok-start.ensures.unchanged, c.behind.ensures) at c.in_ok-start.ensures.value in record {
+    = rw (c.in_ok-start.ensures.unchanged, c.behind.ensures) at c.in_ok-start.ensures.value in
+    let at = c.start-at.ensures.place v _ first in record {
       position = c.start-at.ensures.position _ c.in_ok-start.ensures.ready;
       within = omega (arith, c.start-at.ensures.read);
-      marking = rw c.in_ok-start.ensures.unchanged
-          (marking-first (units c.args.text.now) (c.start-at.ensures.place v _ first));
-      come = rw c.in_ok-start.ensures.unchanged (come_none (c.start-at.ensures.place v _ first));
+      marking = rw c.in_ok-start.ensures.unchanged (marking-first (ap (listed_from (units c.args.text.now)) at));
+      come = rw c.in_ok-start.ensures.unchanged (come_none at);
     }
 
 pub returns-in_err-at-clause-left : goal.returns-in_err-at-clause-left
@@ -30,11 +27,20 @@ returns-in_err-at-clause-left g c = left_err c.from_residual-in_err-at.ensures.0
     (c.loop-at.invariant.come.failed _ (c.in_err-at.ensures.failed false _ (unit-here c.args.text.now)))
     (grows-more c.loop-at.invariant.come.grows c.in_err-at.ensures.grows)
 
+pub returns-in_err-at-clause-some : goal.returns-in_err-at-clause-some
+returns-in_err-at-clause-some g c = marking-some c.loop-at.invariant.marking
+
 -- the walk to the next match state
-come : (g : Over) (c : After-mark g) → HasCome false (units c.args.text.now)
+come : (g : _) (c : After-mark g) → HasCome false (units c.args.text.now)
     (first_place (cache c.args.self.now) (start_value c.args.self.now.nfa c.args.start c.args.text.now.behind))
     (place c.search_bytes.new.self c.in_ok-at.at)
 come g c = come_twice c.loop-at.invariant.come (c.in_ok-at.ensures.at.come false _ (unit-here c.args.text.now))
+
+-- it does not end there
+more : (g : _) (c : After-unit-unit g)
+    → is_last false (cursor_value c.search_bytes.new.self.states c.in_ok-at.at.cursor) ≡ false
+more g c = tag-last false c.tag_at.result.bits (cursor_value c.search_bytes.new.self.states c.in_ok-at.at.cursor)
+    c.tag_at.ensures c.is_last.ensures c.if-is_last.false
 
 pub returns-then-is_last : goal.returns-then-is_last
 returns-then-is_last g c =
@@ -50,30 +56,27 @@ returns-then-is_last g c =
 
 pub returns-in_err-at-2-clause-some : goal.returns-in_err-at-2-clause-some
 returns-in_err-at-2-clause-some g c =
-    marking-some (marking-next (c.in_ok-at.ensures.at.come true _ (unit-here c.args.text.now))
+    marking-some (marking-step (c.in_ok-at.ensures.at.come true _ (unit-here c.args.text.now))
     c.loop-at.invariant.marking c.mark.ensures c.unit-unit.ensures refl)
 
 pub returns-in_err-at-2-clause-left : goal.returns-in_err-at-2-clause-left
 returns-in_err-at-2-clause-left g c =
-    let h = come g (goal.at.returns-in_err-at-2-clause-left g c).After-mark in
-    let more : is_last false (cursor_value c.search_bytes.new.self.states c.in_ok-at.at.cursor) ≡ false =
-    tag-last false c.tag_at.result.bits (cursor_value c.search_bytes.new.self.states c.in_ok-at.at.cursor)
-    c.tag_at.ensures c.is_last.ensures c.if-is_last.false in
-    left_err c.from_residual-in_err-at-2.ensures.0 (fails-next h c.unit-unit.ensures more c.in_err-at-2.ensures.failed)
+    let d = goal.at.returns-in_err-at-2-clause-left g c in
+    let h = come g d.After-mark in
+    left_err c.from_residual-in_err-at-2.ensures.0
+    (fails-next h c.unit-unit.ensures (more g d.After-unit-unit) c.in_err-at-2.ensures.failed)
     (grows-more h.grows c.in_err-at-2.ensures.grows)
 
 pub loop-at-preserved : goal.loop-at-preserved
 loop-at-preserved g c =
-    let more : is_last false (cursor_value c.search_bytes.new.self.states c.in_ok-at.at.cursor) ≡ false =
-    tag-last false c.tag_at.result.bits (cursor_value c.search_bytes.new.self.states c.in_ok-at.at.cursor)
-    c.tag_at.ensures c.is_last.ensures c.if-is_last.false in
+    let d = goal.at.loop-at-preserved g c in
     let next = c.in_ok-at-2.ensures.next in record {
       position = next.position;
       within = omega (arith, ap (λ (p : Place). p.read) next.place, c.in_ok-at.ensures.at.within);
-      marking = marking-next (c.in_ok-at.ensures.at.come true _ (unit-here c.args.text.now))
+      marking = marking-step (c.in_ok-at.ensures.at.come true _ (unit-here c.args.text.now))
           c.loop-at.invariant.marking c.mark.ensures c.unit-unit.ensures next.place;
-      come = come_twice (come g (goal.at.loop-at-preserved g c).After-mark)
-          (come-next c.unit-unit.ensures more next.place next.grows);
+      come = come_twice (come g d.After-mark)
+          (come-next c.unit-unit.ensures (more g d.After-unit-unit) next.place next.grows);
     }
 
 pub returns : goal.returns

@@ -1,8 +1,6 @@
-use Rattle.determinize_lazy.proofs.Common.{ap, cursor_value, LazyValue, refl, step, ◌∙◌, ◌≡◌}
-use Rattle.determinize_lazy.proofs.steps.Rule.{lazy-known}
-use Rattle.determinize_lazy.proofs.walking.CachedWalks.{cut_off-first, cut_off-whole, left_whole, walked-next}
-use Rattle.determinize_lazy.proofs.walking.Plenty.{has_read, read_err, read_none}
-use Rattle.determinize_lazy.proofs.lazy.LazyDfa.next.Given.{Over}
+use Rattle.determinize_lazy.proofs.{ap, cursor_value, cut_off-first, cut_off-whole, has_read, lazy-known, LazyValue}
+use Rattle.determinize_lazy.proofs.{left_whole, read_err, read_none, refl, walked-next, ◌∙◌, ◌≡◌}
+use Rattle.determinize_lazy.proofs.Common.{step}
 use Rattle.determinize_lazy.proofs.lazy.LazyDfa.next.Goals.{In_ok-walker-inside}
 use Rattle.determinize_lazy.proofs.lazy.LazyDfa.next.Goals as goal
 
@@ -24,7 +22,7 @@ returns-in_err-walker-inside-clause-cache g c = read_err c.from_residual-in_err-
     (rw (c.in_ok-cursor.ensures.value ∙ c.walker.view_is) at c.in_ok-next.ensures.after)) c.in_ok-next.ensures.grows
 
 -- the walker takes the step
-stepped : (g : Over) (c : In_ok-walker-inside g) → c.in_ok-walker-inside.field-0
+stepped : (g : _) (c : In_ok-walker-inside g) → c.in_ok-walker-inside.field-0
     ≡ step c.args.self.now.nfa c.args.self.now.kind c.args.walker.now c.args.unit
 stepped g c = c.in_ok-walker-inside.ensures
     ∙ ap (λ (x : LazyValue). cursor_value x.states c.in_ok-next.next) c.self.view_is ∙ c.in_ok-next.ensures.value

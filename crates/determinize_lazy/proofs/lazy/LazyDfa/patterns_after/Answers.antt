@@ -1,23 +1,19 @@
-use Rattle.determinize_lazy.proofs.Common.{ap, arith, cache, drop, EndsAt, false, first_place, IfOk-weaker, inl, inr}
-use Rattle.determinize_lazy.proofs.Common.{length, Place, rules, start_for, start_value, subst, sym, Text, text_of}
-use Rattle.determinize_lazy.proofs.Common.{true≢false, units, ◌∙◌, ◌≡◌}
-use Rattle.determinize_lazy.proofs.finding.Lists.{lists-end}
-use Rattle.determinize_lazy.proofs.finding.Searching.{at-text, ends-left}
-use Rattle.determinize_lazy.proofs.walking.CachedWalks.{left_whole}
-use Rattle.determinize_lazy.proofs.walking.Plenty.{has_read, read_err, read_none, searched-in}
-use Rattle.determinize_lazy.proofs.lazy.LazyDfa.patterns_after.Given.{Over}
+use Rattle.determinize_lazy.proofs.{ap, arith, at-text, cache, drop, ends-left, EndsAt, false, first_place, has_read}
+use Rattle.determinize_lazy.proofs.{IfOk-weaker, inl, inr, left_whole, length, lists-end, Place, read_err, read_none}
+use Rattle.determinize_lazy.proofs.{rules, searched-in, start_for, start_value, subst, sym, Text, text_of, true≢false}
+use Rattle.determinize_lazy.proofs.{units, ◌∙◌, ◌≡◌}
 use Rattle.determinize_lazy.proofs.lazy.LazyDfa.patterns_after.Goals.{After-search_to_end}
 use Rattle.determinize_lazy.proofs.lazy.LazyDfa.patterns_after.Goals as goal
 
 -- the text that is read
-text : (g : Over) (c : After-search_to_end g)
+text : (g : _) (c : After-search_to_end g)
     → c.of_input-text.result ≡ text_of c.args.self.now.nfa.reverse c.args.input.now
 text g c =
     let direction : c.is_reverse.result ≡ c.args.self.now.nfa.reverse = search rules in
     c.of_input-text.ensures ∙ ap (λ b. text_of b c.args.input.now) direction
 
 -- where the search of it ends
-end : (g : Over) (c : After-search_to_end g) → let t = text_of c.args.self.now.nfa.reverse c.args.input.now in
+end : (g : _) (c : After-search_to_end g) → let t = text_of c.args.self.now.nfa.reverse c.args.input.now in
     EndsAt false (units t) (first_place (cache c.args.self.now) (start_value c.args.self.now.nfa
     (start_for c.args.self.now.nfa c.args.input.now.anchored) t.behind)) c.search_to_end.result c.search_to_end.new.self
 end g c =

@@ -1,11 +1,7 @@
-use Rattle.determinize_lazy.proofs.Common.{ap, cache, cursor_value, ends_at, Fails, false, first_place, future, HasCome}
-use Rattle.determinize_lazy.proofs.Common.{IsLeftBy, last_match, last_match-within, LazyValue, length-map, List, map}
-use Rattle.determinize_lazy.proofs.Common.{Option, Place, place, refl, Result, rules, Some, subst, sym, true, ℕ, ◌∙◌}
-use Rattle.determinize_lazy.proofs.Common.{◌≡◌}
-use Rattle.determinize_lazy.proofs.finding.Searching.{end-here, end-is, last-found, left-at}
-use Rattle.determinize_lazy.proofs.steps.Rule.{lazy-known}
-use Rattle.determinize_lazy.proofs.walking.CachedWalks.{left_err}
-use Rattle.determinize_lazy.proofs.lazy.LazyDfa.read_piece.Given.{Over}
+use Rattle.determinize_lazy.proofs.{ap, cache, cursor_value, end-here, end-is, ends_at, Fails, false, first_place}
+use Rattle.determinize_lazy.proofs.{future, HasCome, IsLeftBy, last-found, last_match, last_match-within, lazy-known}
+use Rattle.determinize_lazy.proofs.{LazyValue, left-at, left_err, length-map, List, map, Option, place, Place, refl}
+use Rattle.determinize_lazy.proofs.{Result, rules, Some, subst, sym, true, ℕ, ◌∙◌, ◌≡◌}
 use Rattle.determinize_lazy.proofs.lazy.LazyDfa.read_piece.Goals.{After-found-last}
 use Rattle.determinize_lazy.proofs.lazy.LazyDfa.read_piece.Goals as goal
 
@@ -16,7 +12,7 @@ returns-in_err-at-clause-left g c = left_err c.from_residual.ensures.0
     (rw c.new-text.ensures (λ i b at. at))) c.in_err-at.ensures.grows
 
 -- the search of the piece
-come : (g : Over) (c : After-found-last g) → HasCome false (map Some c.args.piece.now)
+come : (g : _) (c : After-found-last g) → HasCome false (map Some c.args.piece.now)
     (first_place (cache c.args.self.now) (cursor_value c.args.self.now.states c.args.start))
     (place c.search_bytes.new.self c.in_ok-at.at)
 come g c = subst (λ p. HasCome false (map Some c.args.piece.now) p (place c.search_bytes.new.self c.in_ok-at.at))
@@ -24,14 +20,14 @@ come g c = subst (λ p. HasCome false (map Some c.args.piece.now) p (place c.sea
     (c.in_ok-at.ensures.at.come true (map Some c.args.piece.now) (rw c.new-text.ensures (λ i b at. at)))
 
 -- where it ends
-end : (g : Over) (c : After-found-last g)
+end : (g : _) (c : After-found-last g)
     → ends_at false (first_place (cache c.args.self.now) (cursor_value c.args.self.now.states c.args.start))
     (map Some c.args.piece.now) ≡ place c.search_bytes.new.self c.in_ok-at.at
 end g c = end-here (come g c)
     (rw (c.new-text.ensures, ← length-map c.args.piece.now Some) at c.in_ok-at.ensures.stopped)
 
 -- and what it leaves
-left : {T E : Type 0} (r : Result T E) (g : Over) (c : After-found-last g)
+left : {T E : Type 0} (r : Result T E) (g : _) (c : After-found-last g)
     → IsLeftBy false (map Some c.args.piece.now)
     (first_place (cache c.args.self.now) (cursor_value c.args.self.now.states c.args.start)) r
     (cache c.search_bytes.new.self)
@@ -42,7 +38,7 @@ pub returns-in_err-state-clause-left : goal.returns-in_err-state-clause-left
 returns-in_err-state-clause-left g c = left _ g (goal.at.returns-in_err-state-clause-left g c).After-found-last
 
 -- the last match is that of the piece
-last_is : (g : Over) (c : After-found-last g) → c.found-last.result
+last_is : (g : _) (c : After-found-last g) → c.found-last.result
     ≡ last_match (future c.args.self.now.nfa c.args.self.now.kind
     (cursor_value c.args.self.now.states c.args.start) (map Some c.args.piece.now))
 last_is g c = c.found-last.ensures ∙ ap (λ (q : Place). q.last) (sym (end g c))

@@ -1,12 +1,10 @@
-use Rattle.determinize_lazy.proofs.Common.{all_read, ap, arith, cache, cached_place, dead, first_place}
-use Rattle.determinize_lazy.proofs.Common.{get_or_from_slice_get, HasCome, inl, inr, LazyValue, match_of}
-use Rattle.determinize_lazy.proofs.Common.{match_reported, option_or, slice_get, slice_get-get_or, slice_get_within}
-use Rattle.determinize_lazy.proofs.Common.{slice_index_or, start_value, Tag, tag_in, tag_of, units, Value, ◌∙◌, ◌≡◌}
-use Rattle.determinize_lazy.proofs.finding.Searching.{over-at, tag-last}
-use Rattle.determinize_lazy.proofs.lazy.LazyDfa.read_text.Given.{Over}
-use Rattle.determinize_lazy.proofs.lazy.LazyDfa.read_text.Goals.{After-len}
+use Rattle.determinize_lazy.proofs.{all_read, ap, arith, cache, cached_place, dead, first_place, get_or_from_slice_get}
+use Rattle.determinize_lazy.proofs.{HasCome, inl, inr, LazyValue, match_of, match_reported, option_or, over-at}
+use Rattle.determinize_lazy.proofs.{slice_get, slice_get-get_or, slice_get_within, slice_index_or, start_value, Tag}
+use Rattle.determinize_lazy.proofs.{tag-last, tag_in, tag_of, units, Value, ◌∙◌, ◌≡◌}
 use Rattle.determinize_lazy.proofs.lazy.LazyDfa.read_text.Goals.{then-at-len-via-else-at-len+then-is_last}
 use Rattle.determinize_lazy.proofs.lazy.LazyDfa.read_text.Goals.{then-at-len-via-then-at-len}
+use Rattle.determinize_lazy.proofs.lazy.LazyDfa.read_text.Goals.{After-len}
 use Rattle.determinize_lazy.proofs.lazy.LazyDfa.read_text.Goals as goal
 
 pub follow_to_end-at-requires : goal.follow_to_end-at-requires
@@ -14,7 +12,7 @@ follow_to_end-at-requires g c =
     slice_get_within c.args.self.now.states c.in-Some.id _ c.in-Some.ensures.at
 
 -- the search of what is cached
-cached : (g : Over) (c : After-len g) → HasCome c.args.earliest (units c.args.text.now)
+cached : (g : _) (c : After-len g) → HasCome c.args.earliest (units c.args.text.now)
     (first_place (cache c.args.self.now) (start_value c.args.self.now.nfa c.args.start c.args.text.now.behind))
     (cached_place c.args.self.now c.follow_to_end-at.result)
 cached g c = rw (get_or_from_slice_get c.args.self.now.states c.in-Some.id _ dead

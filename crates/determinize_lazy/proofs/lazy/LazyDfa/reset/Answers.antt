@@ -1,4 +1,4 @@
-use Rattle.determinize_lazy.proofs.steps.Empty.{empty_is_lazy}
+use Rattle.determinize_lazy.proofs.{empty_is_lazy}
 use Rattle.determinize_lazy.proofs.lazy.LazyDfa.reset.Goals as goal
 
 pub invariant_of-self : goal.invariant_of-self

@@ -1,4 +1,4 @@
-use Rattle.determinize_lazy.proofs.walking.Plenty.{has_read, read_none}
+use Rattle.determinize_lazy.proofs.{has_read, read_none}
 use Rattle.determinize_lazy.proofs.lazy.LazyDfa.scan_text.Goals as goal
 
 pub returns-in_err-cursor-clause-cache : goal.returns-in_err-cursor-clause-cache

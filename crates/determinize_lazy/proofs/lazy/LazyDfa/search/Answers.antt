@@ -1,6 +1,4 @@
-use Rattle.determinize_lazy.proofs.Common.{cache, IfOk-weaker, refl}
-use Rattle.determinize_lazy.proofs.finding.Searching.{over-text, search-is}
-use Rattle.determinize_lazy.proofs.walking.Plenty.{has_read}
+use Rattle.determinize_lazy.proofs.{cache, has_read, IfOk-weaker, over-text, refl, search-is}
 use Rattle.determinize_lazy.proofs.lazy.LazyDfa.search.Goals as goal
 
 pub returns : goal.returns

@@ -1,12 +1,10 @@
-use Rattle.determinize_lazy.proofs.Common.{cache, cursor_value, Fails, false, inr, is_last, place, ◌≡◌}
-use Rattle.determinize_lazy.proofs.finding.Searching.{fails-next, goes-next, goes_twice, more-still, tag-last}
-use Rattle.determinize_lazy.proofs.steps.Rule.{of_err}
-use Rattle.determinize_lazy.proofs.lazy.LazyDfa.search_bytes.Given.{Over}
+use Rattle.determinize_lazy.proofs.{cache, cursor_value, Fails, fails-next, false, goes-next, goes_twice, inr, is_last}
+use Rattle.determinize_lazy.proofs.{more-still, of_err, place, tag-last, ◌≡◌}
 use Rattle.determinize_lazy.proofs.lazy.LazyDfa.search_bytes.Goals.{After-byte-byte}
 use Rattle.determinize_lazy.proofs.lazy.LazyDfa.search_bytes.Goals as goal
 
 -- the search does not stop at the position
-more : (g : Over) (c : After-byte-byte g)
+more : (g : _) (c : After-byte-byte g)
     → is_last c.args.earliest (cursor_value c.loop-at.self.states c.loop-at.at.cursor) ≡ false
 more g c = tag-last c.args.earliest c.tag_at.result.bits (cursor_value c.loop-at.self.states c.loop-at.at.cursor)
     c.tag_at.ensures c.is_last.ensures c.if-is_last.false

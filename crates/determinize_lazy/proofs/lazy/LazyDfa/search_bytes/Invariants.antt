@@ -1,4 +1,4 @@
-use Rattle.determinize_lazy.proofs.Common.{GoesTo, length, place, ◌-◌}
+use Rattle.determinize_lazy.proofs.{GoesTo, length, place, ◌-◌}
 use Rattle.determinize_lazy.proofs.lazy.LazyDfa.search_bytes.Given as goal
 
 abbrev pub invariant-loop-at : goal.invariant-loop-at

@@ -1,6 +1,4 @@
-use Rattle.determinize_lazy.proofs.Common.{ap, IfOk-from_err, Place, ◌∙◌}
-use Rattle.determinize_lazy.proofs.finding.Searching.{ends-left}
-use Rattle.determinize_lazy.proofs.walking.CachedWalks.{left_err, left_whole}
+use Rattle.determinize_lazy.proofs.{ap, ends-left, IfOk-from_err, left_err, left_whole, Place, ◌∙◌}
 use Rattle.determinize_lazy.proofs.lazy.LazyDfa.search_from.Goals as goal
 
 pub returns-in_err-at : goal.returns-in_err-at

@@ -1,9 +1,6 @@
-use Rattle.determinize_lazy.proofs.Common.{cache, false, is_done, IsSearch, rules, start_for, sym, text_of, ◌∙◌, ◌≡◌}
-use Rattle.determinize_lazy.proofs.finding.Searching.{search-is}
+use Rattle.determinize_lazy.proofs.{cache, false, has_read, is_done, IsSearch, left_whole, read_err, rules, search-is}
+use Rattle.determinize_lazy.proofs.{searched-in, start_for, sym, text_of, ◌∙◌, ◌≡◌}
 use Rattle.determinize_engine.proofs.Ranges.{is-result, none-done, offset-within}
-use Rattle.determinize_lazy.proofs.walking.CachedWalks.{left_whole}
-use Rattle.determinize_lazy.proofs.walking.Plenty.{has_read, read_err, searched-in}
-use Rattle.determinize_lazy.proofs.lazy.LazyDfa.search_input.Given.{Over}
 use Rattle.determinize_lazy.proofs.lazy.LazyDfa.search_input.Goals.{In_ok-found}
 use Rattle.determinize_lazy.proofs.lazy.LazyDfa.search_input.Goals as goal
 
@@ -15,7 +12,7 @@ returns-in_err-found-clause-cache g c = searched-in (sym c.is_done.ensures ∙ c
     (read_err c.from_residual.ensures.0 c.in_err-found.ensures.over.left.failed c.in_err-found.ensures.over.left.grows)
 
 -- the search of the text
-answer : (g : Over) (c : In_ok-found g) → let v = c.args.self.now in IsSearch v.nfa v.kind
+answer : (g : _) (c : In_ok-found g) → let v = c.args.self.now in IsSearch v.nfa v.kind
     (start_for v.nfa c.args.input.now.anchored) (text_of v.nfa.reverse c.args.input.now) c.in_ok-found.found
 answer g c = search-is (cache c.args.self.now) _ _ c.search_range.ensures.sound.accepted
     c.in_ok-found.ensures.over.last

@@ -1,5 +1,4 @@
-use Rattle.determinize_lazy.proofs.Common.{ap, rules, start_for, sym, text_of, ◌∙◌, ◌≡◌}
-use Rattle.determinize_lazy.proofs.finding.Searching.{over-text}
+use Rattle.determinize_lazy.proofs.{ap, over-text, rules, start_for, sym, text_of, ◌∙◌, ◌≡◌}
 use Rattle.determinize_lazy.proofs.lazy.LazyDfa.search_range.Goals as goal
 
 pub returns-then-is_reverse-clause-over : goal.returns-then-is_reverse-clause-over

@@ -1,13 +1,9 @@
-use Rattle.determinize_lazy.proofs.Common.{ap, cache, IfOk-from_err, refl, Some}
-use Rattle.determinize_lazy.proofs.finding.Searching.{over-more, over-same}
-use Rattle.determinize_lazy.proofs.walking.CachedWalks.{left_none}
-use Rattle.determinize_lazy.specs.Private.Searched.{IsShort}
-use Rattle.determinize_lazy.proofs.lazy.LazyDfa.search_rest.Given.{Over}
+use Rattle.determinize_lazy.proofs.{ap, cache, IfOk-from_err, IsShort, left_none, over-more, over-same, refl, Some}
 use Rattle.determinize_lazy.proofs.lazy.LazyDfa.search_rest.Goals.{In-Some}
 use Rattle.determinize_lazy.proofs.lazy.LazyDfa.search_rest.Goals as goal
 
 -- how far it came
-come : (g : Over) (c : In-Some g)
+come : (g : _) (c : In-Some g)
     → IsShort c.args.earliest c.args.self.now c.args.start c.args.text.now (Some c.in-Some.at)
 come g c = rw c.in-Some.is at c.requires.reached
 

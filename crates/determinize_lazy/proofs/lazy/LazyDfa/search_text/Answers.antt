@@ -1,5 +1,4 @@
-use Rattle.determinize_lazy.proofs.Common.{refl}
-use Rattle.determinize_lazy.proofs.finding.Searching.{over-any, over-text}
+use Rattle.determinize_lazy.proofs.{over-any, over-text, refl}
 use Rattle.determinize_lazy.proofs.lazy.LazyDfa.search_text.Goals as goal
 
 pub returns-in-End-clause-over : goal.returns-in-End-clause-over

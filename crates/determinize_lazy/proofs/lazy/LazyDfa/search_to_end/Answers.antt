@@ -1,10 +1,7 @@
-use Rattle.determinize_lazy.proofs.Common.{all_read, ap, arith, cursor_value, false, IfOk-weaker, inl, inr, is_last}
-use Rattle.determinize_lazy.proofs.Common.{length, on_err_weaker, Place, slice_get, Some, sym, true, true≢false}
-use Rattle.determinize_lazy.proofs.Common.{unit-here, unit-last, units, ℕ, ◌+◌, ◌<◌, ◌∙◌, ◌≡◌, ◌≤◌}
-use Rattle.std.proofs.lemmas.Result.{IfOk-from_err}
-use Rattle.determinize_lazy.proofs.finding.Searching.{come-next, come_twice, end-here, fails-next, tag-last}
-use Rattle.determinize_lazy.proofs.steps.Rule.{grows-more, of_err}
-use Rattle.determinize_lazy.proofs.lazy.LazyDfa.search_to_end.Given.{Over}
+use Rattle.determinize_lazy.proofs.{all_read, ap, arith, come-next, come_twice, cursor_value, end-here, fails-next}
+use Rattle.determinize_lazy.proofs.{false, grows-more, IfOk-from_err, IfOk-weaker, inl, inr, is_last, length, of_err}
+use Rattle.determinize_lazy.proofs.{on_err_weaker, Place, slice_get, Some, sym, tag-last, true, true≢false, unit-here}
+use Rattle.determinize_lazy.proofs.{unit-last, units, ℕ, ◌+◌, ◌<◌, ◌∙◌, ◌≡◌, ◌≤◌}
 use Rattle.determinize_lazy.proofs.lazy.LazyDfa.search_to_end.Goals.{After-ahead}
 use Rattle.determinize_lazy.proofs.lazy.LazyDfa.search_to_end.Goals as goal
 
@@ -16,13 +13,13 @@ next : (n : ℕ) → n < n + 1
 next n = omega arith
 
 -- the search does not stop after the bytes
-more : (g : Over) (c : After-ahead g)
+more : (g : _) (c : After-ahead g)
     → is_last c.args.earliest (cursor_value c.search_bytes.new.self.states c.in_ok-at.at.cursor) ≡ false
 more g c = tag-last c.args.earliest c.tag_at.result.bits (cursor_value c.search_bytes.new.self.states
     c.in_ok-at.at.cursor) c.tag_at.ensures c.is_last.ensures c.if-is_last.false
 
 -- so all of them are read
-ahead : (g : Over) (c : After-ahead g)
+ahead : (g : _) (c : After-ahead g)
     → (c.in_ok-at.at.read ≡ length c.args.text.now.bytes)
     × (slice_get (units c.args.text.now) c.in_ok-at.at.read ≡ Some c.ahead.result)
 ahead g c =

@@ -1,5 +1,4 @@
-use Rattle.determinize_lazy.proofs.Common.{IfOk-weaker}
-use Rattle.determinize_lazy.proofs.steps.FewStates.{known-start}
+use Rattle.determinize_lazy.proofs.{IfOk-weaker, known-start}
 use Rattle.determinize_lazy.proofs.lazy.LazyDfa.start_state.Goals as goal
 
 pub returns-clause-known : goal.returns-clause-known

@@ -1,6 +1,4 @@
-use Rattle.determinize_lazy.proofs.Common.{dead, refl, slice_get-get_or}
-use Rattle.determinize_lazy.proofs.steps.Cursors.{stepped_at}
-use Rattle.determinize_lazy.proofs.steps.Rule.{lazy-sound}
+use Rattle.determinize_lazy.proofs.{dead, lazy-sound, refl, slice_get-get_or, stepped_at}
 use Rattle.determinize_lazy.proofs.lazy.LazyDfa.step.Goals as goal
 
 pub returns-in-Some : goal.returns-in-Some

@@ -1,10 +1,8 @@
-use Rattle.determinize_lazy.proofs.Common.{[], ap, between, cache, future, IsCacheAfter, LazyValue, List, Option, rules}
-use Rattle.determinize_lazy.proofs.Common.{start_value, subst, Text, units, ℕ, ◌∙◌, ◌≡◌}
+use Rattle.determinize_lazy.proofs.{[], ap, between, cache, future, has_read, IsCacheAfter, LazyValue}
+use Rattle.determinize_lazy.proofs.{left_whole, List, Option, read_err, read_none, rules, start_value, subst, Text}
+use Rattle.determinize_lazy.proofs.{units, ℕ, ◌∙◌, ◌≡◌}
 use Rattle.determinize_core.proofs.walk.ReturnedWalk.{is_walk}
 use Rattle.determinize_core.specs.Chain.{chain}
-use Rattle.determinize_lazy.proofs.walking.CachedWalks.{left_whole}
-use Rattle.determinize_lazy.proofs.walking.Plenty.{has_read, read_err, read_none}
-use Rattle.determinize_lazy.proofs.lazy.LazyDfa.walk_between.Given.{Over}
 use Rattle.determinize_lazy.proofs.lazy.LazyDfa.walk_between.Goals.{After-walk_on}
 use Rattle.determinize_lazy.proofs.lazy.LazyDfa.walk_between.Goals as goal
 
@@ -24,7 +22,7 @@ walk_on-requires-clause-begun g c =
     let none : c.in_ok-states.states.items ≡ [] = search rules in rw none at c.in_ok-push_state.ensures
 
 -- what the walk leaves
-left : (g : Over) (c : After-walk_on g) → let t = between c.args.look_behind c.args.text.now c.args.look_ahead in
+left : (g : _) (c : After-walk_on g) → let t = between c.args.look_behind c.args.text.now c.args.look_ahead in
     IsCacheAfter (cache c.args.self.now) (start_value c.args.self.now.nfa c.args.start t.behind) (units t)
     c.walk_on.result (cache c.walk_on.new.self)
 left g c = subst (λ (t : Text). IsCacheAfter (cache c.args.self.now)

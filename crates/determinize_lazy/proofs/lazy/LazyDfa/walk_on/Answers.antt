@@ -1,9 +1,6 @@
-use Rattle.determinize_lazy.proofs.Common.{[], all_read, append-nil, cache, cursor_value, drop, drop_all, IsWalking}
-use Rattle.determinize_lazy.proofs.Common.{refl, units, ◌++◌, ◌+◌, ◌∷◌}
-use Rattle.determinize_lazy.proofs.steps.Rule.{grows-more}
-use Rattle.determinize_lazy.proofs.walking.CachedWalks.{cut_off-first, cut_off-none, drop-one, left_err, left_whole}
-use Rattle.determinize_lazy.proofs.walking.CachedWalks.{walks-on}
-use Rattle.determinize_lazy.proofs.lazy.LazyDfa.walk_on.Given.{Over}
+use Rattle.determinize_lazy.proofs.{[], all_read, append-nil, cache, cursor_value, cut_off-first, cut_off-none, drop}
+use Rattle.determinize_lazy.proofs.{drop-one, drop_all, grows-more, IsWalking, left_err, left_whole, refl, units}
+use Rattle.determinize_lazy.proofs.{walks-on, ◌++◌, ◌+◌, ◌∷◌}
 use Rattle.determinize_lazy.proofs.lazy.LazyDfa.walk_on.Goals.{In_ok-cursor}
 use Rattle.determinize_lazy.proofs.lazy.LazyDfa.walk_on.Goals as goal
 
@@ -14,7 +11,7 @@ returns-in_err-cursor-clause-left g c = left_err c.from_residual.ensures.0
     (grows-more c.loop-read.invariant.walking.grows c.in_err-cursor.ensures.grows)
 
 -- the walk after one more step
-on : (g : Over) (c : In_ok-cursor g) → IsWalking (cache c.args.self.now)
+on : (g : _) (c : In_ok-cursor g) → IsWalking (cache c.args.self.now)
     (cursor_value c.args.self.now.states c.args.first) (units c.args.text.now)
     (c.loop-read.states.items ++ cursor_value c.step.new.self.states c.in_ok-cursor.cursor ∷ [])
     (cache c.step.new.self) (cursor_value c.step.new.self.states c.in_ok-cursor.cursor)

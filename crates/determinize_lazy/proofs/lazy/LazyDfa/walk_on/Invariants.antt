@@ -1,4 +1,4 @@
-use Rattle.determinize_lazy.proofs.Common.{cache, cursor_value, drop, IsReady, IsWalking, length, units, ◌+◌, ◌-◌}
+use Rattle.determinize_lazy.proofs.{cache, cursor_value, drop, IsReady, IsWalking, length, units, ◌+◌, ◌-◌}
 use Rattle.determinize_lazy.proofs.lazy.LazyDfa.walk_on.Given as goal
 
 abbrev pub invariant-loop-read : goal.invariant-loop-read

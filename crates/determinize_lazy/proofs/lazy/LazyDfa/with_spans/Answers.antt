@@ -1,5 +1,4 @@
-use Rattle.determinize_lazy.proofs.Common.{arith}
-use Rattle.determinize_lazy.proofs.steps.Empty.{empty_is_lazy}
+use Rattle.determinize_lazy.proofs.{arith, empty_is_lazy}
 use Rattle.determinize_lazy.proofs.lazy.LazyDfa.with_spans.Goals as goal
 
 pub invariant_of-result : goal.invariant_of-result

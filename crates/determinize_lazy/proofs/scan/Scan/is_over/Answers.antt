@@ -1,4 +1,4 @@
-use Rattle.determinize_lazy.proofs.Common.{between, is-search, is_nonempty, none_left, not, rules, sym, ◌++◌, ◌∙◌, ◌≡◌}
+use Rattle.determinize_lazy.proofs.{between, is-search, is_nonempty, none_left, not, rules, sym, ◌++◌, ◌∙◌, ◌≡◌}
 use Rattle.determinize_engine.proofs.Scanning.{settled}
 use Rattle.determinize_lazy.proofs.scan.Scan.is_over.Goals as goal
 

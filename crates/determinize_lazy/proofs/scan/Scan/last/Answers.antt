@@ -1,4 +1,4 @@
-use Rattle.determinize_lazy.proofs.finding.Scans.{found-before_last}
+use Rattle.determinize_lazy.proofs.{found-before_last}
 use Rattle.determinize_lazy.proofs.scan.Scan.last.Goals as goal
 
 pub returns-clause-search : goal.returns-clause-search
