@@ -37,7 +37,7 @@ pub use Rattle.determinize_lazy.specs.Marks.{AreMarked, AreSomeMarked, HasMatchO
 pub use Rattle.determinize_lazy.specs.MostBytes.{most_bytes}
 pub use Rattle.determinize_lazy.specs.Plenty.{HasRoom, KeepsAll, missing, with_step, with_walk}
 pub use Rattle.determinize_lazy.specs.Private.{AreStarts, cached_place, ends_at, EndsAt, Fails, first_place, GoesTo}
-pub use Rattle.determinize_lazy.specs.Private.{GoesToCached, HasCome, IsCacheAfter, IsCachedPosition, IsCutOffAt}
+pub use Rattle.determinize_lazy.specs.Private.{GoesToCached, HasCome, HasStopped, IsCacheAfter, IsCachedPosition, IsCutOffAt}
 pub use Rattle.determinize_lazy.specs.Private.{IsFailedStep, IsFollowed, IsKnown, IsLazy, IsLeftBy}
 pub use Rattle.determinize_lazy.specs.Private.{IsMarking, IsNext, IsOver, IsOverText, IsPieceRead}
 pub use Rattle.determinize_lazy.specs.Private.{IsPosition, IsReady, IsShort, IsSound, IsStarted, IsStateOf, IsStepped}

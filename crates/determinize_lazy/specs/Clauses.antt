@@ -5,12 +5,12 @@ pub use Rattle.determinize_below.specs.Search.{is_done}
 pub use Rattle.determinize_below.specs.Semantics.{between}
 pub use Rattle.determinize_core.specs.Chain.{future, units}
 pub use Rattle.determinize_core.specs.Step.{start_value, step}
-pub use Rattle.determinize_core.specs.Value.{dead, is_nonempty, Value}
+pub use Rattle.determinize_core.specs.Value.{dead, is_nonempty}
 pub use Rattle.determinize_core.specs.WholeWalk.{IsWalk}
 pub use Rattle.determinize_engine.specs.Lists.{ListsAtEnd}
 pub use Rattle.determinize_engine.specs.Scans.{IsScan}
 pub use Rattle.determinize_engine.specs.Searches.{has_start, HasMatch, IsSearch, IsSearchResult, start_for, text_of}
-pub use Rattle.determinize_lazy.specs.Cache.{cache, classes_from, EachWalkComputesFew, empty_cache, Grows, LazyValue, step_of}
+pub use Rattle.determinize_lazy.specs.Cache.{cache, classes_from, EachWalkComputesFew, empty_cache, Grows, step_of}
 pub use Rattle.determinize_lazy.specs.CachedSearches.{HasRead, HasSearched, HasSearchedIn}
 pub use Rattle.determinize_lazy.specs.Marks.{AreMarked, AreSomeMarked, HasMatchOf}
 pub use Rattle.determinize_lazy.specs.MostBytes.{most_bytes}

@@ -204,7 +204,7 @@ impl<R: AsNfa, A: Allocator + Copy> LazyDfa<R, A> {
     {
         let start = self.cursor_of(&scan.state, scan.id)?;
         let text = Text::new(None, &[], look_ahead);
-        let found = self.search_from(Position::start(start), &text, false)?;
-        Ok(or_later(scan.last, scan.read, found))
+        let at = self.search_to_end(Position::start(start), &text, false)?;
+        Ok(or_later(scan.last, scan.read, self.found(&at)))
     }
 }

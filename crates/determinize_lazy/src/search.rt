@@ -4,9 +4,9 @@
 //! transitions from row to row (`cached`). For each byte `follow` reads two numbers in the row
 //! of the current state: the entry of the byte, which is the offset of the next row, and the tag.
 //! It neither allocates nor hashes, and computes no state. From the first transition that is not
-//! cached, `search_from` continues (its loop is `search_bytes`): it computes that step and follows
-//! cached transitions again. If the id of the start state is not kept, `search_rest` computes that
-//! state and looks it up first.
+//! cached, `search_rest` continues (its loop is `search_bytes`): it computes that step and follows
+//! cached transitions again. If the id of the start state is not kept, it computes that state and
+//! looks it up first.
 //!
 //! A search ends after the unit ahead of its text, at a dead state (one that records no NFA states)
 //! and, in `is_match`, at the first match state.
@@ -15,8 +15,8 @@
 //! to it. So a search also reads the unit ahead of its text, and a start state is no match state.
 
 ghost use Rattle.std.specs.Prelude.{Decides, ◌≡◌, ◌<◌, ◌≤◌, false, true, Option, drop, length, IfOk, OnErr, Ok, None, Some};
-ghost use Rattle.determinize_lazy.specs.Clauses.{between, cache, cursor_value, Grows, has_start, HasMatch, HasSearched, HasSearchedIn, is_done, IsSearch, IsSearchResult, LazyValue, start_for, start_value, text_of, units, Value};
-ghost use Rattle.determinize_lazy.specs.Private.{EndsAt, Fails, first_place, GoesTo, HasStopped, IsFailedStep, IsNext, IsOver, IsOverText, IsPosition, IsReady, IsShort, IsSound, place, with_cursor};
+ghost use Rattle.determinize_lazy.specs.Clauses.{between, cache, cursor_value, Grows, has_start, HasMatch, HasSearched, HasSearchedIn, is_done, IsSearch, IsSearchResult, start_for, start_value, text_of, units};
+ghost use Rattle.determinize_lazy.specs.Private.{EndsAt, Fails, first_position, GoesTo, HasStopped, IsFailedStep, IsNext, IsOverText, IsPosition, IsShort, IsSound, place, with_cursor};
 
 use crate::cached::{CachedPosition, Reached};
 use crate::lazy::LazyDfa;
@@ -49,10 +49,7 @@ pub(crate) struct Position<A: Allocator> {
 impl<A: Allocator> Position<A> {
     /// Returns the position before the first unit.
     pub(crate) fn start(cursor: Cursor<A>) -> Position<A>
-        ensures position { (c : LazyValue) → IsReady c cursor → IsPosition c result }
-        ensures place { (c : LazyValue) (v : Value) → cursor_value c.states cursor ≡ v
-            → place c result ≡ first_place (cache c) v }
-        ensures read { result.read ≡ 0 }
+        ensures { result ≡ first_position cursor }
     {
         Position {
             cursor,
@@ -160,25 +157,6 @@ impl<R: AsNfa, A: Allocator + Copy> LazyDfa<R, A> {
             at = self.run(next, text, earliest);
         }
         Ok(at)
-    }
-
-    /// Searches a text from a position to its end, with the unit ahead. Returns the last match of
-    /// all states of the search, with those before the position.
-    #[cold]
-    #[inline(never)]
-    pub(crate) fn search_from(
-        &mut self,
-        from: Position<A>,
-        text: &Text<'_>,
-        earliest: bool,
-    ) -> Result<Option<HalfMatch>, AllocError>
-        requires position { IsPosition self.old from }
-        requires read { from.read ≤ length text.now.bytes }
-        ensures { IsOver earliest (drop from.read (units text.now)) (place self.old from) result
-            (cache self.new) }
-    {
-        let at = self.search_to_end(from, text, earliest)?;
-        Ok(self.found(&at))
     }
 
     /// Searches a text from a position to its end, with the unit ahead. Returns the position at
@@ -333,12 +311,11 @@ impl<R: AsNfa, A: Allocator + Copy> LazyDfa<R, A> {
         requires reached { IsShort earliest self.old start text.now reached }
         ensures { IsOverText earliest (cache self.old) start text.now result (cache self.new) }
     {
-        match reached {
-            Some(at) => self.search_from(at.with_cursor(), text, earliest),
-            None => {
-                let cursor = self.find_start(start, text.behind())?;
-                self.search_from(Position::start(cursor), text, earliest)
-            }
-        }
+        let from = match reached {
+            Some(at) => at.with_cursor(),
+            None => Position::start(self.find_start(start, text.behind())?),
+        };
+        let at = self.search_to_end(from, text, earliest)?;
+        Ok(self.found(&at))
     }
 }

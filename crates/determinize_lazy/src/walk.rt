@@ -58,35 +58,30 @@ impl<R: AsNfa, A: Allocator + Copy> LazyDfa<R, A> {
         Ok(())
     }
 
-    /// Takes the steps of a walk over a text from its first state, and adds a clone of each state
-    /// that follows.
-    fn walk_on(
-        &mut self,
-        first: Cursor<A>,
-        text: &Text<'_>,
-        states: &mut Vec<State<A>, A>,
-    ) -> Result<(), AllocError>
-        requires ready { IsReady self.old first }
-        requires begun { states.old.items ≡ cursor_value self.old.states first ∷ [] }
-        ensures values { OnOk result (states.new.items ≡ future self.old.nfa self.old.kind
+    /// Returns the states of a walk over a text from its first state on.
+    fn walk_on(&mut self, first: Cursor<A>, text: &Text<'_>) -> Result<Vec<State<A>, A>, AllocError>
+        requires { IsReady self.old first }
+        ensures values { IfOk result (λ states. states.items ≡ future self.old.nfa self.old.kind
             (cursor_value self.old.states first) (units text.now)) }
         ensures left { IsCacheAfter (cache self.old) (cursor_value self.old.states first)
             (units text.now) result (cache self.new) }
     {
+        let mut states = Vec::with_capacity(self.alloc, text.len() + 2)?;
+        self.push_state(&first, &mut states)?;
         let mut cursor = first;
         let mut read = 0;
         while read <= text.len() {
             let unit = text.unit(read);
             cursor = self.step(cursor, unit)?;
-            self.push_state(&cursor, states)?;
+            self.push_state(&cursor, &mut states)?;
             read += 1;
             if let Cursor::Cached(id) = &cursor {
-                let (id, next) = self.follow_bytes(*id, read, text, states)?;
+                let (id, next) = self.follow_bytes(*id, read, text, &mut states)?;
                 cursor = Cursor::Cached(id);
                 read = next;
             }
         }
-        Ok(())
+        Ok(states)
     }
 
     /// Returns the states of a walk over a text, as `walk` of `determinize_core` does: the start
@@ -123,9 +118,6 @@ impl<R: AsNfa, A: Allocator + Copy> LazyDfa<R, A> {
     {
         let text = Text::new(look_behind, text, look_ahead);
         let first = self.start(start, text.behind())?;
-        let mut states = Vec::with_capacity(self.alloc, text.len() + 2)?;
-        self.push_state(&first, &mut states)?;
-        self.walk_on(first, &text, &mut states)?;
-        Ok(states)
+        self.walk_on(first, &text)
     }
 }

@@ -5,8 +5,8 @@
 use Rattle.determinize_lazy.proofs.Common.{All, AreMarked, AreSomeMarked, Asked, Bool, Contains, drop_all, false}
 use Rattle.determinize_lazy.proofs.Common.{HasCome, HasMatchOf, is_last, IsAccepted, IsMarking, length, List, listed}
 use Rattle.determinize_lazy.proofs.Common.{listed_from, MatchKind, next_place, Nfa, none_left, Option, Place, refl}
-use Rattle.determinize_lazy.proofs.Common.{slice_get, Some, start_for, start_value, subst, Text, text_of, true, units, ℕ}
-use Rattle.determinize_lazy.proofs.Common.{◌≡◌, ◌≤◌}
+use Rattle.determinize_lazy.proofs.Common.{slice_get, Some, start_for, start_value, subst, Text, text_of, true, units}
+use Rattle.determinize_lazy.proofs.Common.{ℕ, ◌≡◌, ◌≤◌}
 use Rattle.determinize_lazy.proofs.finding.Marks.{are_same, marking-last, marking-next, some_same}
 use Rattle.determinize_lazy.proofs.finding.Reported.{listed-come, listed-matches, listed-over, matches-listed}
 use Rattle.determinize_lazy.proofs.walking.CachedWalks.{drop-one}

@@ -2,9 +2,9 @@
 -- Main statements: mark-next, marking-first, marking-next, marking-last, marking-some, are_same, some_same.
 -- Used by: `mark`, `mark_text` and `which_patterns`.
 -- Idea: what is marked, and then what is to come, is the whole list all along.
-use Rattle.determinize_lazy.proofs.Common.{[], append_assoc, AreMarked, AreSomeMarked, arith, Bool, by_cases, by_test, Contains}
-use Rattle.determinize_lazy.proofs.Common.{eqb-true, false, get_or, get_or-set_other, get_or-set_same, inl, inr}
-use Rattle.determinize_lazy.proofs.Common.{IsMarked, IsMarking, length, length-set, List, nat_eq, refl, slice_set}
+use Rattle.determinize_lazy.proofs.Common.{[], append_assoc, AreMarked, AreSomeMarked, arith, Bool, by_cases, by_test}
+use Rattle.determinize_lazy.proofs.Common.{Contains, eqb-true, false, get_or, get_or-set_other, get_or-set_same, inl}
+use Rattle.determinize_lazy.proofs.Common.{inr, IsMarking, length, length-set, List, nat_eq, refl, slice_set, step}
 use Rattle.determinize_lazy.proofs.Common.{take, take_more, true, ℕ, ◌++◌, ◌+◌, ◌<◌, ◌↔◌, ◌∙◌, ◌∷◌, ◌≡◌, ◌≤◌, ◌⊎◌}
 use Rattle.std.proofs.lemmas.List.Elements.{Contains-append_cases, Contains-append_left, Contains-append_right}
 

@@ -3,14 +3,14 @@
 -- Used by: Marking.
 -- Idea: a search for the earliest match passes only values that list nothing, and the value at index i + 1 lists what
 -- matches at position i.
-use Rattle.determinize_lazy.proofs.Common.{[], append-nil, Accepts, after_at, All, ap, arith, by_cases, by_test, chain, Contains}
-use Rattle.determinize_lazy.proofs.Common.{dead, dead_stays, drop, drop-drop, ends_at, false, future, future_is, get_or}
-use Rattle.determinize_lazy.proofs.Common.{HalfMatch, HasCome, IfSome, inl, inr, is-search, is_last, is_nonempty}
-use Rattle.determinize_lazy.proofs.Common.{IsAccepted, IsFarthestMatch, last_match, LeftmostFirst, length}
-use Rattle.determinize_lazy.proofs.Common.{length-tail, List, listed, listed_from, MatchKind, next_place, Nfa, None, not_none, of_some}
-use Rattle.determinize_lazy.proofs.Common.{Option, Place, refl, slice_get, slice_get-get_or, Some, start_value, step}
-use Rattle.determinize_lazy.proofs.Common.{step_over, suc, sym, Text, true, true≢false, units, Value, zero, ℕ, ◌++◌, ◌<◌}
-use Rattle.determinize_lazy.proofs.Common.{◌∙◌, ◌∷◌, ◌≡◌, ◌≤◌}
+use Rattle.determinize_lazy.proofs.Common.{[], Accepts, after_at, All, ap, append-nil, arith, by_cases, by_test, chain}
+use Rattle.determinize_lazy.proofs.Common.{Contains, dead, dead_stays, drop, drop-drop, ends_at, false, future}
+use Rattle.determinize_lazy.proofs.Common.{future_is, get_or, HalfMatch, HasCome, IfSome, is-search, is_last}
+use Rattle.determinize_lazy.proofs.Common.{is_nonempty, IsAccepted, IsFarthestMatch, last_match, LeftmostFirst, length}
+use Rattle.determinize_lazy.proofs.Common.{length-tail, List, listed, listed_from, MatchKind, next_place, Nfa, None}
+use Rattle.determinize_lazy.proofs.Common.{not_none, of_some, Option, Place, refl, slice_get, slice_get-get_or, Some}
+use Rattle.determinize_lazy.proofs.Common.{start_value, step, step_over, suc, sym, Text, true, true≢false, units, Value}
+use Rattle.determinize_lazy.proofs.Common.{zero, ℕ, ◌++◌, ◌<◌, ◌∙◌, ◌∷◌, ◌≡◌, ◌≤◌}
 use Rattle.std.proofs.lemmas.List.Elements.{Contains-append_cases, Contains-append_left, Contains-append_right}
 use Rattle.std.proofs.lemmas.List.FromFn.{length-map-range_with_len}
 use Rattle.determinize_core.proofs.walk.WalkOfRuns.{leftmost_walk, walk_of_all}

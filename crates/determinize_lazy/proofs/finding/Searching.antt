@@ -6,17 +6,17 @@
 use Rattle.determinize_lazy.proofs.Common.{[], after_walk, ap, arith, Asked, Bool, by_test, Cache, cache, Cached}
 use Rattle.determinize_lazy.proofs.Common.{cached_place, CachedPosition, chain, cursor_value, dead, Decides, drop}
 use Rattle.determinize_lazy.proofs.Common.{drop_all, ended_at, ends_at, EndsAt, false, first_place, future, GoesTo}
-use Rattle.determinize_lazy.proofs.Common.{Grows, HalfMatch, HasCome, HasMatch, IfOk-weaker, inl, inr, is-search}
+use Rattle.determinize_lazy.proofs.Common.{Grows, HalfMatch, HasCome, HasMatch, HasStopped, inl, inr, is-search}
 use Rattle.determinize_lazy.proofs.Common.{is_last, is_last_tag, is_nonempty, is_some, IsAccepted, IsAt}
 use Rattle.determinize_lazy.proofs.Common.{IsCachedPosition, IsCutOffAt, IsFailedStep, IsLeftBy, IsNext, IsOver}
 use Rattle.determinize_lazy.proofs.Common.{IsOverText, IsSearch, IsSound, IsTarget, last_from, last_from-first}
 use Rattle.determinize_lazy.proofs.Common.{last_from-next, last_from-over, last_match, LazyValue, length, length-map}
 use Rattle.determinize_lazy.proofs.Common.{List, map, match_of, match_reported, next_place, None, none_left, Ok}
-use Rattle.determinize_lazy.proofs.Common.{on_err_weaker, Option, option_or, place, Place, Position, refl, Result}
+use Rattle.determinize_lazy.proofs.Common.{on_err_weaker, Option, option_or, Place, place, Position, refl, Result}
 use Rattle.determinize_lazy.proofs.Common.{slice_get, slice_get-get_or, slice_get_within, slice_index_or, Some}
 use Rattle.determinize_lazy.proofs.Common.{start_for, start_value, step, step_of, subst, sym, tag_in, tag_of, Text}
 use Rattle.determinize_lazy.proofs.Common.{text_of, true, true≢false, units, units_read, Value, value_after}
-use Rattle.determinize_lazy.proofs.Common.{with_cursor, ℕ, ◌&&◌, ◌+◌, ◌∙◌, ◌∷◌, ◌≡◌, ◌≤◌, ◌⊎◌}
+use Rattle.determinize_lazy.proofs.Common.{with_cursor, ℕ, ◌&&◌, ◌+◌, ◌∙◌, ◌∷◌, ◌≡◌}
 use Rattle.determinize_lazy.proofs.steps.Rule.{grows-more, grows_none}
 use Rattle.determinize_lazy.proofs.walking.CachedWalks.{cut_off-first, cut_off-later, drop-one, left_whole}
 use Rattle.determinize_engine.proofs.Ranges.{match-decides}
@@ -109,7 +109,7 @@ module _ {earliest : Bool} {us : List (Option ℕ)} {p : Place} where
     }
 
     -- a search that has stopped
-    module _ (stopped : (length us ≤ q.read) ⊎ (is_last earliest q.value ≡ true)) where
+    module _ (stopped : HasStopped earliest (length us) q) where
       pub end-here : ends_at earliest p (drop p.read us) ≡ q
       end-here = sym h.ends ∙ elim stopped [
         | inl none ↦ rw (drop_all q.read us none) refl
@@ -127,14 +127,12 @@ module _ {earliest : Bool} {us : List (Option ℕ)} {p : Place} where
           → IsOver {E = E} earliest (drop p.read us) p (Ok found) q.cache
       over-at is = record { last = rw end-here is; left = left-at _ }
 
--- what a search leaves that returns where it ends
-pub ends-left : {A E : Type 0} {earliest : Bool} {us : List (Option ℕ)} {p : Place} {r : Result (Position A) E}
-    {new : LazyValue} → EndsAt earliest us p r new → IsLeftBy earliest us p r (cache new)
-ends-left {earliest = earliest} {us} {p} {r} h = record {
-  after = IfOk-weaker r _ _ (λ at is. ap (λ (q : Place). q.cache) is ∙ (end-is earliest us p).0) h.place;
-  failed = h.failed;
-  grows = h.grows;
-}
+-- what a search leaves that ends at a position, whatever is returned then
+pub end-left : {A D E T : Type 0} {earliest : Bool} {us : List (Option ℕ)} {p : Place} {at : Position A}
+    {new : LazyValue} → EndsAt {E = D} earliest us p (Ok at) new → (r : Result T E)
+    → IsLeftBy earliest us p r (cache new)
+end-left {earliest = earliest} {us} {p} h r =
+    left_whole r (ap (λ (q : Place). q.cache) h.place ∙ (end-is earliest us p).0) h.grows
 
 -- a search that takes a step over a byte, and one that continues twice
 module _ {A B : Type 0} {earliest : Bool} {text : Text} {p : Place} {c : LazyValue} {at : Position A}
@@ -232,6 +230,14 @@ some-is (u ∷ us) p seen = by_test (is_last true p.value)
 pub last-found : (c : Cache) (v : Value) (us : List (Option ℕ))
     → (ends_at false (first_place c v) us).last ≡ last_match (future c.nfa c.kind v us)
 last-found c v us = last-is us (first_place c v) ∙ last_from-first c.nfa c.kind v us
+
+-- what a search has found, and where it is, that has come to its end
+pub at-end : {c : Cache} {v : Value} {us : List (Option ℕ)} {q : Place} → HasCome false us (first_place c v) q
+    → HasStopped false (length us) q
+    → (q.last ≡ last_match (future c.nfa c.kind v us))
+    × (q.value ≡ value_after c.nfa c.kind v (units_read (step_of c) false v us))
+at-end {c} {v} {us} h stopped =
+    rw (← end-here h stopped) (last-found c v us, (end-is false us (first_place c v)).1)
 
 pub search-is : (old : Cache) (start : ℕ) (text : Text) {found : Option HalfMatch} → IsAccepted old.nfa
     → found ≡ (ends_at false (first_place old (start_value old.nfa start text.behind)) (units text)).last

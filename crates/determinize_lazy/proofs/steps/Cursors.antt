@@ -2,7 +2,7 @@
 -- Main statements: cached_target, cached_step, stepped_at, followed-next.
 -- Used by: `step`, `compute`, `follow_bytes`, and searches of what is cached.
 -- Idea: each cached transition is a step of the DFA, and the step over it changes nothing.
-use Rattle.determinize_lazy.proofs.Common.{[], after_step, ap, arith, cache, Cache, Cached, Cursor, cursor_value, dead}
+use Rattle.determinize_lazy.proofs.Common.{[], after_step, ap, arith, Cache, cache, Cached, Cursor, cursor_value, dead}
 use Rattle.determinize_lazy.proofs.Common.{false, get_or, get_or_from_slice_get, is_cached, is_some, IsAt, IsCursor}
 use Rattle.determinize_lazy.proofs.Common.{IsFollowed, IsSound, IsStarted, IsStepped, IsTable, IsTarget, LazyValue}
 use Rattle.determinize_lazy.proofs.Common.{List, Ok, Option, refl, slice_get, slice_get-get_or, slice_get_within, Some}

@@ -19,7 +19,9 @@ use Rattle.determinize_lazy.specs.declared.search.Position.{Position}
 use Rattle.determinize_lazy.specs.declared.cached.CachedPosition.{CachedPosition}
 use Rattle.determinize_lazy.specs.declared.cached.Reached.{Reached}
 use Rattle.determinize_lazy.specs.declared.cached.Reached.TheVariants.{End, Short}
+use Rattle.determinize_table.specs.declared.table.Cursor.{Cursor}
 use Rattle.determinize_table.specs.declared.table.Cursor.TheVariants.{Cached}
+use Rattle.determinize_table.specs.declared.tag.TheConstants.LastMatch.{NONE}
 
 -- the match that a value reports which is entered after n units
 abbrev pub reported : ℕ → Value → Option HalfMatch
@@ -63,6 +65,10 @@ pub record IsPosition {A : Type 0} (c : LazyValue) (at : Position A) : Type 0 wh
 -- the same of a position at a cached state
 abbrev pub IsCachedPosition : LazyValue → CachedPosition → Type 0
 IsCachedPosition c at = IsPosition {A = Unit {0}} c (with_cursor at)
+
+-- the position before the first unit
+abbrev pub first_position : {A : Type 0} → Cursor A → Position A
+first_position cursor = record { cursor = cursor; read = 0; last = NONE }
 
 -- the place after one more unit
 abbrev pub next_place : Place → Option ℕ → Place

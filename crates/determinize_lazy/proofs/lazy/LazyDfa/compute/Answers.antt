@@ -1,6 +1,5 @@
-use Rattle.determinize_lazy.proofs.{absent-at, arith, cache, classes_from, count_after, cursor_value, Err, grows_none}
-use Rattle.determinize_lazy.proofs.{inl, inr, lazy-kept, lazy-known, lazy-sound, option_copied, refl, rules}
-use Rattle.determinize_lazy.proofs.{stepped, ◌≡◌}
+use Rattle.determinize_lazy.proofs.{absent-at, cache, classes_from, count_after, cursor_value, Err, grows_none, inl}
+use Rattle.determinize_lazy.proofs.{inr, lazy-kept, lazy-known, lazy-sound, option_copied, refl, rules, stepped, ◌≡◌}
 use Rattle.determinize_lazy.proofs.Common.{step}
 use Rattle.determinize_lazy.proofs.lazy.LazyDfa.compute.Goals as goal
 

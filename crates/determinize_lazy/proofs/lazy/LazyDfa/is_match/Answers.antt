@@ -1,5 +1,4 @@
-use Rattle.determinize_lazy.proofs.{cache, decides, has_read, left_whole, read_err, rules, searched-in, sym, true≢false}
-use Rattle.determinize_lazy.proofs.{◌∙◌}
+use Rattle.determinize_lazy.proofs.{cache, decides, has_read, left_whole, read_err, searched-in, sym, true≢false, ◌∙◌}
 use Rattle.determinize_lazy.proofs.lazy.LazyDfa.is_match.Goals as goal
 
 pub returns-in_err-search_range-clause-cache : goal.returns-in_err-search_range-clause-cache

@@ -1,7 +1,7 @@
 use Rattle.determinize_lazy.proofs.{all-some, all_read, ap, arith, cache, come-next, come_none, come_twice}
 use Rattle.determinize_lazy.proofs.{cursor_value, fails-next, false, first_place, grows-more, HasCome, inl, inr}
 use Rattle.determinize_lazy.proofs.{is_last, left-at, left_err, left_none, listed_from, marking-end, marking-first}
-use Rattle.determinize_lazy.proofs.{marking-over, marking-some, marking-step, place, Place, refl, start_value}
+use Rattle.determinize_lazy.proofs.{marking-over, marking-some, marking-step, Place, place, refl, rules, start_value}
 use Rattle.determinize_lazy.proofs.{tag-last, true, unit-here, units, ◌≡◌}
 use Rattle.determinize_lazy.proofs.lazy.LazyDfa.mark_text.Goals.{After-mark, After-unit-unit}
 use Rattle.determinize_lazy.proofs.lazy.LazyDfa.mark_text.Goals as goal
@@ -13,11 +13,11 @@ returns-in_err-start-clause-left g c =
 pub loop-at-init : goal.loop-at-init
 loop-at-init g c =
     let v = c.args.self.now in
-    let first : cursor_value v.states c.in_ok-start.field-0 ≡ start_value v.nfa c.args.start c.args.text.now.behind
-    = rw (c.in_ok-start.ensures.unchanged, c.behind.ensures) at c.in_ok-start.ensures.value in
-    let at = c.start-at.ensures.place v _ first in record {
-      position = c.start-at.ensures.position _ c.in_ok-start.ensures.ready;
-      within = omega (arith, c.start-at.ensures.read);
+    let at : place v c.start-at.result ≡ first_place (cache v) (start_value v.nfa c.args.start c.args.text.now.behind)
+    = rw c.start-at.ensures (ap (first_place (cache v))
+    (rw (c.in_ok-start.ensures.unchanged, c.behind.ensures) at c.in_ok-start.ensures.value)) in record {
+      position = search rules;
+      within = omega (arith, ap (λ (p : Place). p.read) at);
       marking = rw c.in_ok-start.ensures.unchanged (marking-first (ap (listed_from (units c.args.text.now)) at));
       come = rw c.in_ok-start.ensures.unchanged (come_none at);
     }

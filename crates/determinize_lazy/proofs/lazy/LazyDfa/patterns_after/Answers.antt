@@ -1,7 +1,6 @@
-use Rattle.determinize_lazy.proofs.{ap, arith, at-text, cache, drop, ends-left, EndsAt, false, first_place, has_read}
-use Rattle.determinize_lazy.proofs.{IfOk-weaker, inl, inr, left_whole, length, lists-end, Place, read_err, read_none}
-use Rattle.determinize_lazy.proofs.{rules, searched-in, start_for, start_value, subst, sym, Text, text_of, true≢false}
-use Rattle.determinize_lazy.proofs.{units, ◌∙◌, ◌≡◌}
+use Rattle.determinize_lazy.proofs.{ap, arith, at-text, cache, end-left, EndsAt, false, first_place, has_read}
+use Rattle.determinize_lazy.proofs.{IfOk-weaker, inl, inr, length, lists-end, read_err, read_none, rules, searched-in}
+use Rattle.determinize_lazy.proofs.{start_for, start_value, sym, Text, text_of, true≢false, units, ◌∙◌, ◌≡◌}
 use Rattle.determinize_lazy.proofs.lazy.LazyDfa.patterns_after.Goals.{After-search_to_end}
 use Rattle.determinize_lazy.proofs.lazy.LazyDfa.patterns_after.Goals as goal
 
@@ -18,16 +17,11 @@ end : (g : _) (c : After-search_to_end g) → let t = text_of c.args.self.now.nf
     (start_for c.args.self.now.nfa c.args.input.now.anchored) t.behind)) c.search_to_end.result c.search_to_end.new.self
 end g c =
     let start : c.start_for-start.result ≡ start_for c.args.self.now.nfa c.get_anchored.result = search rules in
-    let h : EndsAt false (units c.of_input-text.result) (first_place (cache c.args.self.now)
-    (start_value c.args.self.now.nfa c.start_for-start.result c.of_input-text.result.behind))
-    c.search_to_end.result c.search_to_end.new.self
-    = subst (λ (p : Place). EndsAt false (drop p.read (units c.of_input-text.result)) p c.search_to_end.result
-    c.search_to_end.new.self) (c.start-2.ensures.place c.args.self.now _
-    (rw (c.in_ok-cursor.ensures.unchanged, c.behind.ensures) at c.in_ok-cursor.ensures.value))
-    (rw c.in_ok-cursor.ensures.unchanged at c.search_to_end.ensures) in
     at-text (λ s t. EndsAt false (units t) (first_place (cache c.args.self.now)
     (start_value c.args.self.now.nfa s t.behind)) c.search_to_end.result c.search_to_end.new.self)
-    (start ∙ ap (λ a. start_for c.args.self.now.nfa a) c.get_anchored.ensures) (text g c) h
+    (start ∙ ap (λ a. start_for c.args.self.now.nfa a) c.get_anchored.ensures) (text g c)
+    (rw (c.start-2.ensures, c.in_ok-cursor.ensures.value, c.in_ok-cursor.ensures.unchanged, c.behind.ensures)
+    at c.search_to_end.ensures)
 
 pub returns-in_err-cursor-clause-cache : goal.returns-in_err-cursor-clause-cache
 returns-in_err-cursor-clause-cache g c = searched-in (sym c.is_done.ensures ∙ c.if-is_done.false)
@@ -43,31 +37,25 @@ pub returns-then-at-len : goal.returns-then-at-len
 returns-then-at-len g c =
     let d = (goal.at.returns-then-at-len g c).After-search_to_end in
     let more = sym c.is_done.ensures ∙ c.if-is_done.false in
-    let left = ends-left (end g d) in record {
-      lists = λ _. lists-end (cache c.args.self.now) _ _ _ _ c.in_ok-cursor.ensures.sound.accepted
-          (rw c.in_ok-at.was at (end g d).place) (inl (
-            omega (arith, c.if-at-len.true, c.len.ensures.value, ap (λ (t : Text). length t.bytes) (text g d)),
-            c.new-then-at-len.ensures.items,
-          ));
+    let ends = rw c.in_ok-at.was at (end g d) in record {
+      lists = λ _. lists-end (cache c.args.self.now) _ _ _ _ c.in_ok-cursor.ensures.sound.accepted ends.place (inl (
+        omega (arith, c.if-at-len.true, c.len.ensures.value, ap (λ (t : Text). length t.bytes) (text g d)),
+        c.new-then-at-len.ensures.items,
+      ));
       done = λ e. absurd (true≢false (sym e ∙ more));
-      cache = searched-in more (has_read c.in_ok-cursor.ensures.sound
-          (left_whole _ (rw c.in_ok-at.was at left.after) left.grows));
+      cache = searched-in more (has_read c.in_ok-cursor.ensures.sound (end-left ends _));
     }
 
 pub returns : goal.returns
 returns g c =
     let d = (goal.at.returns g c).After-search_to_end in
     let more = sym c.is_done.ensures ∙ c.if-is_done.false in
-    let left = ends-left (end g d) in record {
+    let ends = rw c.in_ok-at.was at (end g d) in record {
       lists = λ _. IfOk-weaker c.patterns_at.result _ _ (λ ids is. lists-end (cache c.args.self.now) _ _ _ _
-          c.in_ok-cursor.ensures.sound.accepted (rw c.in_ok-at.was at (end g d).place) (inr (
+          c.in_ok-cursor.ensures.sound.accepted ends.place (inr (
             omega (arith, c.if-at-len.false, c.len.ensures.value, ap (λ (t : Text). length t.bytes) (text g d)),
             is,
           ))) c.patterns_at.ensures;
       done = λ e. absurd (true≢false (sym e ∙ more));
-      cache = searched-in more (has_read c.in_ok-cursor.ensures.sound
-          (left_whole _ (rw c.in_ok-at.was at left.after) left.grows));
+      cache = searched-in more (has_read c.in_ok-cursor.ensures.sound (end-left ends _));
     }
-
-pub search_to_end-requires-clause-position : goal.search_to_end-requires-clause-position
-search_to_end-requires-clause-position g c = c.start-2.ensures.position _ c.in_ok-cursor.ensures.ready

@@ -1,29 +1,39 @@
-use Rattle.determinize_lazy.proofs.{ap, cache, IfOk-from_err, IsShort, left_none, over-more, over-same, refl, Some}
-use Rattle.determinize_lazy.proofs.lazy.LazyDfa.search_rest.Goals.{In-Some}
+use Rattle.determinize_lazy.proofs.{ap, cache, come_none, end-left, first_place, grows-more, HasCome, IfOk-from_err}
+use Rattle.determinize_lazy.proofs.{left_err, left_none, over-more, Place, place, start_value, units, ◌∙◌}
+use Rattle.determinize_lazy.proofs.lazy.LazyDfa.search_rest.Goals.{in-Some, in-None+in_ok-find_start-in-None}
+use Rattle.determinize_lazy.proofs.lazy.LazyDfa.search_rest.Goals.{After-search_to_end}
 use Rattle.determinize_lazy.proofs.lazy.LazyDfa.search_rest.Goals as goal
 
--- how far it came
-come : (g : _) (c : In-Some g)
-    → IsShort c.args.earliest c.args.self.now c.args.start c.args.text.now (Some c.in-Some.at)
-come g c = rw c.in-Some.is at c.requires.reached
+-- how far the search has come
+come : (g : _) (c : After-search_to_end g) → HasCome c.args.earliest (units c.args.text.now)
+    (first_place (cache c.args.self.now) (start_value c.args.self.now.nfa c.args.start c.args.text.now.behind))
+    (place c.match-reached.self c.match-reached.from)
+come g c = elim c.match-reached.branch [
+  | in-Some w ↦ rw (w.self-is, w.from-is, w.with_cursor-from.ensures) (rw w.in-Some.is at c.requires.reached).2
+  | in-None+in_ok-find_start-in-None w ↦
+      let same = w.in_ok-find_start-in-None.ensures.unchanged in
+      rw (w.self-is, w.from-is, w.start-from.ensures, same) (come_none (ap (first_place (cache c.args.self.now))
+      (rw (same, w.behind.ensures) at w.in_ok-find_start-in-None.ensures.value)))
+]
 
-pub returns-in-Some : goal.returns-in-Some
-returns-in-Some g c =
-    let (position, within, h) = come g (goal.at.returns-in-Some g c).In-Some in
-    over-more h (rw c.with_cursor.ensures at c.search_from.ensures)
-
-pub returns-in_ok-cursor-in-None : goal.returns-in_ok-cursor-in-None
-returns-in_ok-cursor-in-None g c =
-    over-same {t = c.args.text.now} (c.start.ensures.place c.args.self.now _ (rw
-    (c.in_ok-cursor-in-None.ensures.unchanged, c.behind.ensures) at c.in_ok-cursor-in-None.ensures.value)) refl
-    (rw c.in_ok-cursor-in-None.ensures.unchanged at c.search_from-in-None.ensures)
-
-pub returns-in_err-cursor-in-None : goal.returns-in_err-cursor-in-None
-returns-in_err-cursor-in-None g c = record {
+pub returns-in_err-find_start-in-None : goal.returns-in_err-find_start-in-None
+returns-in_err-find_start-in-None g c = record {
   last = IfOk-from_err _ _ c.from_residual.ensures.0;
-  left = left_none c.from_residual.ensures.0 (ap cache c.in_err-cursor-in-None.ensures.unchanged);
+  left = left_none c.from_residual.ensures.0 (ap cache c.in_err-find_start-in-None.ensures.unchanged);
 }
 
-pub search_from-requires-in-None-clause-position : goal.search_from-requires-in-None-clause-position
-search_from-requires-in-None-clause-position g c =
-    c.start.ensures.position _ c.in_ok-cursor-in-None.ensures.ready
+pub returns-in_err-at : goal.returns-in_err-at
+returns-in_err-at g c =
+    let h = come g (goal.at.returns-in_err-at g c).After-search_to_end in record {
+      last = IfOk-from_err _ _ c.from_residual-in_err-at.ensures.0;
+      left = left_err c.from_residual-in_err-at.ensures.0 (h.failed _ c.in_err-at.ensures.failed)
+          (grows-more h.grows c.in_err-at.ensures.grows);
+    }
+
+pub returns : goal.returns
+returns g c =
+    over-more (come g (goal.at.returns g c).After-search_to_end)
+    record {
+      last = c.found.ensures ∙ ap (λ (q : Place). q.last) c.in_ok-at.ensures.place;
+      left = end-left c.in_ok-at.ensures _;
+    }

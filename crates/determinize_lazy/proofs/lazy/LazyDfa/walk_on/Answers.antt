@@ -1,11 +1,17 @@
 use Rattle.determinize_lazy.proofs.{[], all_read, append-nil, cache, cursor_value, cut_off-first, cut_off-none, drop}
-use Rattle.determinize_lazy.proofs.{drop-one, drop_all, grows-more, IsWalking, left_err, left_whole, refl, units}
+use Rattle.determinize_lazy.proofs.{drop-one, drop_all, grows-more, IsWalking, left_err, left_none, left_whole, refl, units}
 use Rattle.determinize_lazy.proofs.{walks-on, ◌++◌, ◌+◌, ◌∷◌}
 use Rattle.determinize_lazy.proofs.lazy.LazyDfa.walk_on.Goals.{In_ok-cursor}
 use Rattle.determinize_lazy.proofs.lazy.LazyDfa.walk_on.Goals as goal
 
+pub returns-in_err-states-clause-left : goal.returns-in_err-states-clause-left
+returns-in_err-states-clause-left g c = left_none c.from_residual.ensures.0 refl
+
+pub returns-in_err-push_state-clause-left : goal.returns-in_err-push_state-clause-left
+returns-in_err-push_state-clause-left g c = left_none c.from_residual-in_err-push_state.ensures.0 refl
+
 pub returns-in_err-cursor-clause-left : goal.returns-in_err-cursor-clause-left
-returns-in_err-cursor-clause-left g c = left_err c.from_residual.ensures.0
+returns-in_err-cursor-clause-left g c = left_err c.from_residual-in_err-cursor.ensures.0
     (rw (drop-one _ _ _ c.unit-unit.ensures) at c.loop-read.invariant.walking.failed _
     (cut_off-first c.in_err-cursor.ensures.failed))
     (grows-more c.loop-read.invariant.walking.grows c.in_err-cursor.ensures.grows)
@@ -19,10 +25,10 @@ on : (g : _) (c : In_ok-cursor g) → IsWalking (cache c.args.self.now)
 on g c = walks-on (rw (drop-one _ _ _ c.unit-unit.ensures) at c.loop-read.invariant.walking)
     c.in_ok-cursor.ensures.value c.in_ok-cursor.ensures.after c.in_ok-cursor.ensures.grows
 
-pub returns-in_err-push_state-clause-left : goal.returns-in_err-push_state-clause-left
-returns-in_err-push_state-clause-left g c =
-    let walk = on g (goal.at.returns-in_err-push_state-clause-left g c).In_ok-cursor in
-    left_err c.from_residual-in_err-push_state.ensures.0 (walk.failed _ (cut_off-none refl)) walk.grows
+pub returns-in_err-push_state-2-clause-left : goal.returns-in_err-push_state-2-clause-left
+returns-in_err-push_state-2-clause-left g c =
+    let walk = on g (goal.at.returns-in_err-push_state-2-clause-left g c).In_ok-cursor in
+    left_err c.from_residual-in_err-push_state-2.ensures.0 (walk.failed _ (cut_off-none refl)) walk.grows
 
 pub returns-in_err-id-clause-left : goal.returns-in_err-id-clause-left
 returns-in_err-id-clause-left g c =
@@ -31,7 +37,7 @@ returns-in_err-id-clause-left g c =
 
 pub loop-read-preserved : goal.loop-read-preserved
 loop-read-preserved g c = record {
-  walking = rw c.in_ok-push_state.ensures (on g (goal.at.loop-read-preserved g c).In_ok-cursor);
+  walking = rw c.in_ok-push_state-2.ensures (on g (goal.at.loop-read-preserved g c).In_ok-cursor);
   ready = c.in_ok-cursor.ensures.ready;
 }
 
@@ -39,13 +45,13 @@ pub loop-read-preserved-in-Cached : goal.loop-read-preserved-in-Cached
 loop-read-preserved-in-Cached g c =
     let walk = on g (goal.at.loop-read-preserved-in-Cached g c).In_ok-cursor in record {
       walking = c.in_ok-id.ensures.walking _ _
-          (rw (rw c.in-Cached.is at c.in_ok-push_state.ensures) (rw c.in-Cached.is at walk));
+          (rw (rw c.in-Cached.is at c.in_ok-push_state-2.ensures) (rw c.in-Cached.is at walk));
       ready = record { cursor = c.in_ok-id.ensures.inside; known = tt };
     }
 
 pub returns : goal.returns
 returns g c =
-    let past = all_read c.args.text.now c.loop-read-test.false c.len.ensures.value in
+    let past = all_read c.args.text.now c.loop-read-test.false c.len-in-loop-read.ensures.value in
     let walk = c.loop-read.invariant.walking in record {
       values = rw (drop_all _ _ past, append-nil) at walk.values;
       left = left_whole _ (rw (drop_all _ _ past) at walk.after) walk.grows;
