@@ -1,7 +1,5 @@
 -- Searches over the cache: what they find and leave, in a haystack and in pieces.
 pub mod Lists
-pub mod Marking
 pub mod Marks
 pub mod Reported
-pub mod Scans
 pub mod Searching

@@ -3,7 +3,7 @@
 ghost use Rattle.std.specs.Prelude.{◌≡◌, ◌<◌, [], Contains, false, true, length, IfOk, OnOk};
 ghost use Rattle.determinize_lazy.specs.Clauses.{AreMarked, AreSomeMarked, cache, has_start, HasMatchOf, HasSearchedIn, is_done, ListsAtEnd, start_for, start_value, text_of, units};
 ghost use Rattle.determinize_below.specs.declared.search.MatchKind.TheVariants as kinds;
-ghost use Rattle.determinize_lazy.specs.Private.{first_place, IsLeftBy, IsPosition, listed, place};
+ghost use Rattle.determinize_lazy.specs.Private.{first_place, IsLeftBy, IsPosition, listed_over, place};
 
 use crate::lazy::LazyDfa;
 use crate::search::{Position, start_for};
@@ -94,11 +94,10 @@ impl<R: AsNfa, A: Allocator + Copy> LazyDfa<R, A> {
         found: &mut [bool],
     ) -> Result<(), AllocError>
         requires { start < length self.old.nfa.states }
-        ensures marked { OnOk result (AreMarked found.old (Contains (listed self.old.nfa
-            self.old.kind (start_value self.old.nfa start text.now.behind) (units text.now)))
-            found.new) }
-        ensures some { AreSomeMarked found.old (Contains (listed self.old.nfa self.old.kind
-            (start_value self.old.nfa start text.now.behind) (units text.now))) found.new }
+        ensures marked { OnOk result (AreMarked found.old
+            (Contains (listed_over self.old.nfa self.old.kind start text.now)) found.new) }
+        ensures some { AreSomeMarked found.old
+            (Contains (listed_over self.old.nfa self.old.kind start text.now)) found.new }
         ensures left { IsLeftBy false (units text.now) (first_place (cache self.old)
             (start_value self.old.nfa start text.now.behind)) result (cache self.new) }
     {

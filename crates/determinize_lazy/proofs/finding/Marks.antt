@@ -1,25 +1,28 @@
--- Marks of patterns: those of a list, and what is still to be marked.
--- Main statements: mark-next, marking-first, marking-next, marking-last, marking-some, are_same, some_same.
+-- Marks of patterns: those of a list, and of what a walk lists, from place to place.
+-- Main statements: mark-next, marking-first, marking-over, marking-step, marking-end, marked-matches, some-matches.
 -- Used by: `mark`, `mark_text` and `which_patterns`.
--- Idea: what is marked, and then what is to come, is the whole list all along.
-use Rattle.determinize_lazy.proofs.Common.{[], append_assoc, AreMarked, AreSomeMarked, arith, Bool, by_cases, by_test}
-use Rattle.determinize_lazy.proofs.Common.{Contains, eqb-true, false, get_or, get_or-set_other, get_or-set_same, inl}
-use Rattle.determinize_lazy.proofs.Common.{inr, IsMarking, length, length-set, List, nat_eq, refl, slice_set, step}
-use Rattle.determinize_lazy.proofs.Common.{take, take_more, true, ℕ, ◌++◌, ◌+◌, ◌<◌, ◌↔◌, ◌∙◌, ◌∷◌, ◌≡◌, ◌≤◌, ◌⊎◌}
-use Rattle.std.proofs.lemmas.List.Elements.{Contains-append_cases, Contains-append_left, Contains-append_right}
+-- Idea: what is marked, and then what is to come, is the whole list all along. Where a search for the next match state
+-- stops, what its value lists is marked.
+use Rattle.determinize_lazy.proofs.Common.{[], All, append_assoc, AreMarked, AreSomeMarked, arith, Asked, Bool}
+use Rattle.determinize_lazy.proofs.Common.{by_cases, by_test, Contains, Contains-append_cases, Contains-append_left}
+use Rattle.determinize_lazy.proofs.Common.{Contains-append_right, drop_all, eqb-true, false, get_or, get_or-set_other}
+use Rattle.determinize_lazy.proofs.Common.{get_or-set_same, HasCome, HasMatchOf, inl, inr, is_last, IsAccepted}
+use Rattle.determinize_lazy.proofs.Common.{IsMarking, length, length-set, List, listed_from, listed_over, MatchKind}
+use Rattle.determinize_lazy.proofs.Common.{nat_eq, next_place, Nfa, none_left, Option, Place, refl, slice_get}
+use Rattle.determinize_lazy.proofs.Common.{slice_set, Some, start_for, step, subst, take, take_more, text_of, true, ℕ}
+use Rattle.determinize_lazy.proofs.Common.{◌++◌, ◌+◌, ◌<◌, ◌↔◌, ◌∙◌, ◌∷◌, ◌≡◌, ◌≤◌, ◌⊎◌}
+use Rattle.determinize_lazy.proofs.finding.Reported.{listed-come, listed-matches, listed-over, matches-listed}
+use Rattle.determinize_lazy.proofs.walking.CachedWalks.{drop-one}
 
 -- what is so of marks is so of them by another name
-pub are_same : {old new : List Bool} {P Q : ℕ → Type 0} → ((p : ℕ) → P p ↔ Q p) → AreMarked old P new
+are_same : {old new : List Bool} {P Q : ℕ → Type 0} → ((p : ℕ) → P p ↔ Q p) → AreMarked old P new
     → AreMarked old Q new
 are_same same are = record {
   same = are.same;
-  marks = λ p l. (
-    λ m. by_cases ((are.marks p l).0 m) (λ m. inl m) (λ h. inr ((same p).0 h)),
-    λ m. (are.marks p l).1 (by_cases m (λ m. inl m) (λ h. inr ((same p).1 h))),
-  );
+  marks = λ p l. (λ m. grind (arith, are.marks p l, same p), λ m. grind (arith, are.marks p l, same p));
 }
 
-pub some_same : {old new : List Bool} {P Q : ℕ → Type 0} → ((p : ℕ) → P p → Q p) → AreSomeMarked old P new
+some_same : {old new : List Bool} {P Q : ℕ → Type 0} → ((p : ℕ) → P p → Q p) → AreSomeMarked old P new
     → AreSomeMarked old Q new
 some_same same are = record {
   same = are.same;
@@ -41,9 +44,7 @@ marked_twice : {old now new : List Bool} (xs ys : List ℕ) → AreMarked old (C
 marked_twice {now = now} xs ys are more = record {
   same = more.same ∙ are.same;
   marks = λ p l. let k : p < length now = omega (arith, are.same, l) in (
-    λ m. by_cases ((more.marks p k).0 m)
-        (λ m. by_cases ((are.marks p l).0 m) (λ m. inl m) (λ c. inr (Contains-append_left xs ys p c)))
-        (λ c. inr (Contains-append_right xs ys p c)),
+    λ m. grind (arith, more.marks p k, are.marks p l, Contains-append_left xs ys p, Contains-append_right xs ys p),
     λ m. (more.marks p k).1 (by_cases m (λ m. inl ((are.marks p l).1 (inl m)))
         (λ c. by_cases (Contains-append_cases xs ys p c) (λ c. inl ((are.marks p l).1 (inr c))) (λ c. inr c))),
   );
@@ -80,7 +81,7 @@ module _ {old now : List Bool} {all rest : List ℕ} (is : IsMarking old all now
   marking-some = rw (← is.whole) (some_same (Contains-append_left is.done rest) (all-some is.are))
 
   -- what comes next is marked, and all that is to come
-  pub marking-next : {new : List Bool} (xs ys : List ℕ) → AreMarked now (Contains xs) new → rest ≡ xs ++ ys
+  marking-next : {new : List Bool} (xs ys : List ℕ) → AreMarked now (Contains xs) new → rest ≡ xs ++ ys
       → IsMarking old all new ys
   marking-next xs ys more split = record {
     done = is.done ++ xs;
@@ -88,5 +89,40 @@ module _ {old now : List Bool} {all rest : List ℕ} (is : IsMarking old all now
     whole = rw (append_assoc, ← split) is.whole;
   }
 
-  pub marking-last : {new : List Bool} → AreMarked now (Contains rest) new → AreMarked old (Contains all) new
+  marking-last : {new : List Bool} → AreMarked now (Contains rest) new → AreMarked old (Contains all) new
   marking-last more = rw (← is.whole) (marked_twice is.done rest is.are more)
+
+-- no unit is left
+pub marking-end : {old now new : List Bool} {all : List ℕ} (us : List (Option ℕ)) (p : Place)
+    → IsMarking old all now (listed_from us p) → length us ≤ p.read → AreMarked now (Contains p.value.patterns) new
+    → AreMarked old (Contains all) new
+marking-end us p is past are = marking-last (rw (drop_all p.read us past) at is) are
+
+-- where a search for the next match state stops
+module _ {old now new : List Bool} {all : List ℕ} {us : List (Option ℕ)} {p q : Place} (h : HasCome true us p q)
+    (is : IsMarking old all now (listed_from us p)) (are : AreMarked now (Contains q.value.patterns) new) where
+  come : IsMarking old all now (listed_from us q)
+  come = record { done = is.done; are = is.are; whole = rw (listed-come h) at is.whole }
+
+  pub marking-over : is_last false q.value ≡ true → AreMarked old (Contains all) new
+  marking-over over = marking-last
+      (rw (listed-over q.cache.nfa q.cache.kind q.value _ (none_left q.value.states over)) at come) are
+
+  pub marking-step : {u : Option ℕ} {r : Place} → slice_get us q.read ≡ Some u → r ≡ next_place q u
+      → IsMarking old all new (listed_from us r)
+  marking-step {u} at r_is = rw r_is (marking-next come _ _ are (rw (drop-one us q.read u at) refl))
+
+-- what is listed over the text of an input matches
+module _ (nfa : Nfa) (accepted : IsAccepted nfa) (asked : Asked) where
+  abbrev listed_in : MatchKind → List ℕ
+  listed_in kind = listed_over nfa kind (start_for nfa asked.anchored) (text_of nfa.reverse asked)
+
+  pub marked-matches : {old new : List Bool} (kind : MatchKind) → kind ≡ All
+      → AreMarked old (Contains (listed_in kind)) new → AreMarked old (HasMatchOf nfa asked) new
+  marked-matches {old} {new} kind all are =
+      are_same (λ x. (listed-matches nfa accepted _ _ All x, matches-listed nfa accepted _ _ x))
+      (subst (λ k. AreMarked old (Contains (listed_in k)) new) all are)
+
+  pub some-matches : {old new : List Bool} (kind : MatchKind) → AreSomeMarked old (Contains (listed_in kind)) new
+      → AreSomeMarked old (HasMatchOf nfa asked) new
+  some-matches kind are = some_same (listed-matches nfa accepted _ _ kind) are

@@ -1,17 +1,17 @@
 -- The patterns that the values of a walk list, and what a search for the next of them passes over.
 -- Main statements: listed-over, listed-come, listed-matches, matches-listed.
--- Used by: Marking.
+-- Used by: Marks.
 -- Idea: a search for the earliest match passes only values that list nothing, and the value at index i + 1 lists what
 -- matches at position i.
 use Rattle.determinize_lazy.proofs.Common.{[], Accepts, after_at, All, ap, append-nil, arith, by_cases, by_test, chain}
-use Rattle.determinize_lazy.proofs.Common.{Contains, dead, dead_stays, drop, drop-drop, ends_at, false, future}
-use Rattle.determinize_lazy.proofs.Common.{future_is, get_or, HalfMatch, HasCome, IfSome, is-search, is_last}
-use Rattle.determinize_lazy.proofs.Common.{is_nonempty, IsAccepted, IsFarthestMatch, last_match, LeftmostFirst, length}
-use Rattle.determinize_lazy.proofs.Common.{length-tail, List, listed, listed_from, MatchKind, next_place, Nfa, None}
-use Rattle.determinize_lazy.proofs.Common.{not_none, of_some, Option, Place, refl, slice_get, slice_get-get_or, Some}
-use Rattle.determinize_lazy.proofs.Common.{start_value, step, step_over, suc, sym, Text, true, true≢false, units, Value}
-use Rattle.determinize_lazy.proofs.Common.{zero, ℕ, ◌++◌, ◌<◌, ◌∙◌, ◌∷◌, ◌≡◌, ◌≤◌}
-use Rattle.std.proofs.lemmas.List.Elements.{Contains-append_cases, Contains-append_left, Contains-append_right}
+use Rattle.determinize_lazy.proofs.Common.{Contains, Contains-append_cases, Contains-append_left, Contains-append_right}
+use Rattle.determinize_lazy.proofs.Common.{dead, dead_stays, drop, drop-drop, ends_at, false, future, future_is, get_or}
+use Rattle.determinize_lazy.proofs.Common.{HalfMatch, HasCome, IfSome, is-search, is_last, is_nonempty, IsAccepted}
+use Rattle.determinize_lazy.proofs.Common.{IsFarthestMatch, last_match, LeftmostFirst, length, length-tail, List}
+use Rattle.determinize_lazy.proofs.Common.{listed, listed_from, listed_over, MatchKind, next_place, Nfa, None, not_none}
+use Rattle.determinize_lazy.proofs.Common.{of_some, Option, Place, refl, slice_get, slice_get-get_or, Some, start_value}
+use Rattle.determinize_lazy.proofs.Common.{step, step_over, suc, sym, Text, true, true≢false, units, Value, zero, ℕ}
+use Rattle.determinize_lazy.proofs.Common.{◌++◌, ◌<◌, ◌∙◌, ◌∷◌, ◌≡◌, ◌≤◌}
 use Rattle.std.proofs.lemmas.List.FromFn.{length-map-range_with_len}
 use Rattle.determinize_core.proofs.walk.WalkOfRuns.{leftmost_walk, walk_of_all}
 
@@ -65,7 +65,7 @@ listed-come {us} {p} {q} h = stop us (drop p.read us) p refl ∙ ap (listed_from
 module _ (nfa : Nfa) (accepted : IsAccepted nfa) (start : ℕ) (text : Text) where
   -- what is listed matches
   pub listed-matches : (kind : MatchKind) (x : ℕ)
-      → Contains (listed nfa kind (start_value nfa start text.behind) (units text)) x
+      → Contains (listed_over nfa kind start text) x
       → (cs : List ℕ) × (i : ℕ) × Accepts nfa text start cs i x
   unfolding chain
   listed-matches kind x c = of kind (at-listed nfa kind (units text) (start_value nfa start text.behind) x c)
@@ -94,7 +94,7 @@ module _ (nfa : Nfa) (accepted : IsAccepted nfa) (start : ℕ) (text : Text) whe
 
   -- and under `All` each match is listed
   pub matches-listed : (x : ℕ) → (cs : List ℕ) × (i : ℕ) × Accepts nfa text start cs i x
-      → Contains (listed nfa All (start_value nfa start text.behind) (units text)) x
+      → Contains (listed_over nfa All start text) x
   unfolding chain
   matches-listed x (cs, i, run) =
       let first : Value = start_value nfa start text.behind in

@@ -3,7 +3,7 @@
 -- Used by: the functions of `cached.rt`, `search.rt` and `scan.rt`.
 -- Idea: where a search ends depends only on the place where it is and on the units that are left; and the place where
 -- it ends has the last match and the cache of the walk over the units that it reads.
-use Rattle.determinize_lazy.proofs.Common.{[], after_walk, ap, arith, Asked, Bool, by_test, Cache, cache, Cached}
+use Rattle.determinize_lazy.proofs.Common.{[], after_walk, ap, arith, Asked, Bool, by_test, cache, Cache, Cached}
 use Rattle.determinize_lazy.proofs.Common.{cached_place, CachedPosition, chain, cursor_value, dead, Decides, drop}
 use Rattle.determinize_lazy.proofs.Common.{drop_all, ended_at, ends_at, EndsAt, false, first_place, future, GoesTo}
 use Rattle.determinize_lazy.proofs.Common.{Grows, HalfMatch, HasCome, HasMatch, HasStopped, inl, inr, is-search}
@@ -11,15 +11,14 @@ use Rattle.determinize_lazy.proofs.Common.{is_last, is_last_tag, is_nonempty, is
 use Rattle.determinize_lazy.proofs.Common.{IsCachedPosition, IsCutOffAt, IsFailedStep, IsLeftBy, IsNext, IsOver}
 use Rattle.determinize_lazy.proofs.Common.{IsOverText, IsSearch, IsSound, IsTarget, last_from, last_from-first}
 use Rattle.determinize_lazy.proofs.Common.{last_from-next, last_from-over, last_match, LazyValue, length, length-map}
-use Rattle.determinize_lazy.proofs.Common.{List, map, match_of, match_reported, next_place, None, none_left, Ok}
-use Rattle.determinize_lazy.proofs.Common.{on_err_weaker, Option, option_or, Place, place, Position, refl, Result}
-use Rattle.determinize_lazy.proofs.Common.{slice_get, slice_get-get_or, slice_get_within, slice_index_or, Some}
-use Rattle.determinize_lazy.proofs.Common.{start_for, start_value, step, step_of, subst, sym, tag_in, tag_of, Text}
-use Rattle.determinize_lazy.proofs.Common.{text_of, true, true≢false, units, units_read, Value, value_after}
-use Rattle.determinize_lazy.proofs.Common.{with_cursor, ℕ, ◌&&◌, ◌+◌, ◌∙◌, ◌∷◌, ◌≡◌}
+use Rattle.determinize_lazy.proofs.Common.{List, map, match-decides, match_of, match_reported, next_place, None}
+use Rattle.determinize_lazy.proofs.Common.{none_left, Ok, on_err_weaker, Option, option_or, place, Place, Position}
+use Rattle.determinize_lazy.proofs.Common.{refl, Result, slice_get, slice_get-get_or, slice_get_within, slice_index_or}
+use Rattle.determinize_lazy.proofs.Common.{Some, start_for, start_value, step, step_of, subst, sym, tag_in, tag_of}
+use Rattle.determinize_lazy.proofs.Common.{Text, text_of, true, true≢false, units, units_read, Value, value_after}
+use Rattle.determinize_lazy.proofs.Common.{with_cursor, ℕ, ◌&&◌, ◌+◌, ◌<◌, ◌∙◌, ◌∷◌, ◌≡◌, ◌≤◌}
 use Rattle.determinize_lazy.proofs.steps.Rule.{grows-more, grows_none}
 use Rattle.determinize_lazy.proofs.walking.CachedWalks.{cut_off-first, cut_off-later, drop-one, left_whole}
-use Rattle.determinize_engine.proofs.Ranges.{match-decides}
 use Rattle.determinize_table.specs.declared.tag.LastMatch.{LastMatch}
 use Rattle.determinize_lazy.proofs.steps.Cursors.{cached_step, cached_target}
 
@@ -36,28 +35,13 @@ more-still e earliest v more = grind (arith, more)
 reported-next : (n : ℕ) (patterns : List ℕ) → match_reported (n + 1) (slice_get patterns 0) ≡ ended_at n patterns
 reported-next n patterns = grind arith
 
--- what is so of a place and a text is so of those that are equal to them
-pub over-same : {E : Type 0} {earliest : Bool} {p q : Place} {t t' : Text} {r : Result (Option HalfMatch) E}
-    {new : Cache} → p ≡ q → t ≡ t' → IsOver earliest (drop p.read (units t)) p r new
-    → IsOver earliest (drop q.read (units t')) q r new
-over-same {earliest = earliest} {q = q} {t} {r = r} {new} at is o =
-    subst (λ (t : Text). IsOver earliest (drop q.read (units t)) q r new) is
-    (subst (λ (p : Place). IsOver earliest (drop p.read (units t)) p r new) at o)
-
-pub over-text : {E : Type 0} {earliest : Bool} {old : Cache} {s s' : ℕ} {t t' : Text} {r : Result (Option HalfMatch) E}
-    {new : Cache} → s ≡ s' → t ≡ t' → IsOverText earliest old s t r new → IsOverText earliest old s' t' r new
-over-text {old = old} {s' = s'} {t = t} s_is is =
-    over-same (ap (λ s. first_place old (start_value old.nfa s t.behind)) s_is
-    ∙ ap (λ (t : Text). first_place old (start_value old.nfa s' t.behind)) is) is
-
 -- what is so of a start and a text is so of those that are equal to them
 pub at-text : (P : ℕ → Text → Type 0) {s s' : ℕ} {t t' : Text} → s ≡ s' → t ≡ t' → P s t → P s' t'
 at-text P {s' = s'} {t = t} s_is t_is h = subst (λ (t : Text). P s' t) t_is (subst (λ s. P s t) s_is h)
 
--- a search that found something is the same for each type of error
-pub over-any : {D E : Type 0} {earliest : Bool} {us : List (Option ℕ)} {p : Place} {found : Option HalfMatch}
-    {new : Cache} → IsOver {E = D} earliest us p (Ok found) new → IsOver {E = E} earliest us p (Ok found) new
-over-any o = record { last = o.last; left = left_whole _ o.left.after o.left.grows }
+pub over-text : {E : Type 0} {earliest : Bool} {old : Cache} {s s' : ℕ} {t t' : Text} {r : Result (Option HalfMatch) E}
+    {new : Cache} → s ≡ s' → t ≡ t' → IsOverText earliest old s t r new → IsOverText earliest old s' t' r new
+over-text {earliest = earliest} {old} {r = r} {new} = at-text (λ s t. IsOverText earliest old s t r new)
 
 -- the cache and the value where a search ends are those after a walk over the units that it reads
 pub end-is : (earliest : Bool) (us : List (Option ℕ)) (p : Place)
@@ -127,6 +111,16 @@ module _ {earliest : Bool} {us : List (Option ℕ)} {p : Place} where
           → IsOver {E = E} earliest (drop p.read us) p (Ok found) q.cache
       over-at is = record { last = rw end-here is; left = left-at _ }
 
+-- a search that has stopped, but not at the value, has read all bytes
+pub read_all : (earliest : Bool) (n : ℕ) (q : Place) → HasStopped earliest n q → q.read ≤ n
+    → is_last earliest q.value ≡ false → q.read ≡ n
+read_all earliest n q (inl all) within more = omega (arith, all, within)
+read_all earliest n q (inr last) within more = absurd (true≢false (sym last ∙ more))
+
+-- on numbers, without what else is known
+pub next : (n : ℕ) → n < n + 1
+next n = omega arith
+
 -- what a search leaves that ends at a position, whatever is returned then
 pub end-left : {A D E T : Type 0} {earliest : Bool} {us : List (Option ℕ)} {p : Place} {at : Position A}
     {new : LazyValue} → EndsAt {E = D} earliest us p (Ok at) new → (r : Result T E)
@@ -172,14 +166,13 @@ pub next-cached : (x : LazyValue) → IsSound (cache x) → (at : CachedPosition
     (with_cursor (record { id = id; read = at.read + 1; last = last }))
 next-cached x is at position u id looked bits tagged earliest told more last found =
     let v : Value = slice_index_or x.states at.id dead in
-    let there : slice_get x.states at.id ≡ Some v = slice_get-get_or x.states at.id dead position.cursor in
+    let there : slice_get x.states at.id ≡ Some v = slice_get-get_or x.states at.id dead position.ready.cursor in
     let w : IsAt {A = Unit {0}} x.states (Cached id) (step x.nfa x.kind v u) =
     cached_target (cache x) v u id is.table (looked v there) in (
       tag-last earliest bits v (tagged v there) told more,
       record {
         position = record {
-          cursor = w.cursor_is;
-          known = tt;
+          ready = record { cursor = w.cursor_is; known = tt };
           unmatched = λ e. absurd (omega arith);
         };
         place =

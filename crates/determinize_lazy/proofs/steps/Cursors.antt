@@ -2,14 +2,13 @@
 -- Main statements: cached_target, cached_step, stepped_at, followed-next.
 -- Used by: `step`, `compute`, `follow_bytes`, and searches of what is cached.
 -- Idea: each cached transition is a step of the DFA, and the step over it changes nothing.
-use Rattle.determinize_lazy.proofs.Common.{[], after_step, ap, arith, Cache, cache, Cached, Cursor, cursor_value, dead}
+use Rattle.determinize_lazy.proofs.Common.{[], after_step, ap, arith, cache, Cache, Cached, Cursor, cursor_value, dead}
 use Rattle.determinize_lazy.proofs.Common.{false, get_or, get_or_from_slice_get, is_cached, is_some, IsAt, IsCursor}
-use Rattle.determinize_lazy.proofs.Common.{IsFollowed, IsSound, IsStarted, IsStepped, IsTable, IsTarget, LazyValue}
-use Rattle.determinize_lazy.proofs.Common.{List, Ok, Option, refl, slice_get, slice_get-get_or, slice_get_within, Some}
-use Rattle.determinize_lazy.proofs.Common.{step_of, true, Uncached, Value, ℕ, ◌++◌, ◌+◌, ◌∙◌, ◌∷◌, ◌≡◌}
+use Rattle.determinize_lazy.proofs.Common.{IsFollowed, IsSound, IsStepped, IsTable, IsTarget, LazyValue, List}
+use Rattle.determinize_lazy.proofs.Common.{not_source, Ok, Option, refl, slice_get, slice_get-get_or, Some, step_of}
+use Rattle.determinize_lazy.proofs.Common.{true, Uncached, Value, ℕ, ◌++◌, ◌+◌, ◌∙◌, ◌∷◌, ◌≡◌}
 use Rattle.determinize_lazy.proofs.walking.CachedWalks.{drop-one, walks-on}
 use Rattle.determinize_lazy.proofs.steps.Rule.{grows_none}
-use Rattle.determinize_table.proofs.Transitions.{not_source}
 
 module _ (c : Cache) (v : Value) (u : Option ℕ) (id : ℕ) (is : IsTable (step_of c) c.table)
     (target : IsTarget c.table v u (Some id)) where
@@ -21,16 +20,6 @@ module _ (c : Cache) (v : Value) (u : Option ℕ) (id : ℕ) (is : IsTable (step
 
   pub cached_step : c ≡ after_step c v u
   cached_step = let there_is : is_cached c.table v u ≡ true = ap is_some there in rw there_is refl
-
--- what a call for a start state leaves that finds it cached
-pub started_at : {A E : Type 0} {old new : LazyValue} {v : Value} {id : ℕ} → new ≡ old → IsSound (cache old)
-    → slice_get old.states id ≡ Some v → IsStarted {A = A} {E = E} old v (Ok (Cached id)) new
-started_at {old = old} {v = v} {id = id} is sound at = rw is record {
-  ready = record { cursor = slice_get_within old.states id v at; known = tt };
-  value = get_or_from_slice_get old.states id v dead at;
-  sound = sound;
-  unchanged = refl;
-}
 
 -- what a step over a cached transition leaves
 pub stepped_at : {A E : Type 0} (old : LazyValue) (v : Value) (u : Option ℕ) (id : ℕ) → IsSound (cache old)

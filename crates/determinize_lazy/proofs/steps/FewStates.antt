@@ -2,27 +2,24 @@
 -- Main statements: known-start, known-step, few_bytes.
 -- Used by: what keeps the states of a cache small, and `cached_memory_usage`.
 -- Idea: a closure lists each state once, and a pattern comes from a match state.
-use Rattle.determinize_lazy.proofs.Common.{[], accepted_sound, add-one, All, ap, arith, Assertion, Bool, by_test, cond}
-use Rattle.determinize_lazy.proofs.Common.{count_by, distinct_states, Each, edges, ends, eqb-true, Fail, flat_map}
-use Rattle.determinize_lazy.proofs.Common.{fresh, get_or, is_capture, is_reopened, is_some, IsAccepted, IsStateOf}
+use Rattle.determinize_lazy.proofs.Common.{[], accepted_sound, add-one, All, All-contains, All-weaker, ap, arith}
+use Rattle.determinize_lazy.proofs.Common.{Assertion, Bool, by_test, cache_bytes, cond, count_by, distinct_states, Each}
+use Rattle.determinize_lazy.proofs.Common.{edges, ends, eqb-true, Fail, flat_map, fresh, get_or, has, have_after}
+use Rattle.determinize_lazy.proofs.Common.{have_at_start, is_capture, is_reopened, is_some, IsAccepted, IsStateOf}
 use Rattle.determinize_lazy.proofs.Common.{joined, LeftmostFirst, length, List, MatchKind, member, most_bytes, nat_eq}
 use Rattle.determinize_lazy.proofs.Common.{Nfa, None, none_held, opened_by, Option, option_to_list, or_false}
-use Rattle.determinize_lazy.proofs.Common.{pattern_of, patterns_of, patterns_read, refl, same_decides, Some}
-use Rattle.determinize_lazy.proofs.Common.{start_value, suc, sum_by, sym, tables_of, take, take_all, targets, true}
-use Rattle.determinize_lazy.proofs.Common.{Value, without, working_list, zero, ℕ, ◌*◌, ◌+◌, ◌<◌, ◌∙◌, ◌∷◌, ◌≡◌, ◌≤◌}
+use Rattle.determinize_lazy.proofs.Common.{pattern_of, patterns_of, patterns_read, reach, refl, same_decides, Some}
+use Rattle.determinize_lazy.proofs.Common.{start_value, step, suc, sum_by, sym, tables_of, take, take_all, targets}
+use Rattle.determinize_lazy.proofs.Common.{true, Value, without, working_list, zero, ℕ, ◌*◌, ◌+◌, ◌<◌, ◌∙◌, ◌∷◌, ◌≡◌}
+use Rattle.determinize_lazy.proofs.Common.{◌≤◌}
 use Rattle.std.proofs.Math.Nat.{mul-le-mul_right}
 use Rattle.std.proofs.lemmas.List.Concat.{length-flat_map}
-use Rattle.std.proofs.lemmas.List.Elements.{All-contains, All-weaker}
 use Rattle.std.proofs.lemmas.List.Sums.{count_by-le-length, length-filter, sum_by-cons, sum_by-le, sum_by_more}
 use Rattle.determinize_below.proofs.nfas.SoundNfa.{ends_within_states, length-reach}
-use Rattle.determinize_below.specs.Edges.{is_match_node, pattern_count, reach}
-use Rattle.determinize_core.proofs.Common.{has, have_after}
+use Rattle.determinize_below.specs.Edges.{is_match_node, pattern_count}
 use Rattle.determinize_core.proofs.step.Resolving.{start_resolves, step_resolves, targets_resolve}
-use Rattle.determinize_core.specs.Step.{step}
 use Rattle.determinize_engine.specs.StateBytes.{heap_bytes}
-use Rattle.determinize_start.specs.LookTables.{have_at_start}
 use Rattle.determinize_state.proofs.encoding.EncodedLength.{spell_short}
-use Rattle.determinize_table.specs.CacheBytes.{cache_bytes}
 use Rattle.ordered_reach.proofs.graph.FiniteGraphs.{below_member, fresh_below}
 use Rattle.ordered_reach.proofs.graph.SearchBound.{weight, weight-fresh}
 use Rattle.ordered_reach.proofs.lists.Elements.{In_Contains, member_In}

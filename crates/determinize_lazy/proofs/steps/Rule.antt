@@ -1,45 +1,31 @@
 -- What the rule keeps, and what is true of a cache after it; and general laws.
--- Main statements: lazy-kept, stepped, lazy-sound.
--- Used by: `compute`, `step`, `kept_start`; the general laws by searches and `determinize_find`, too.
+-- Main statements: lazy-kept, stepped, empty_is_lazy, lazy-sound.
+-- Used by: `compute`, `step`, `with_spans`, `reset`, `next`; the general laws by searches and `determinize_find`, too.
 -- Idea: a step leaves the table that the rule keeps or, if it fails, the one before or none.
-use Rattle.determinize_lazy.proofs.Common.{[], All-nil, arith, Bool, by_cases, by_test, cache, Cache, Cached, Classes}
-use Rattle.determinize_lazy.proofs.Common.{classes_from, count_after, Cursor, cursor_value, dead, Each, empty, Err}
-use Rattle.determinize_lazy.proofs.Common.{false, fits, Grows, IfOk-weaker, inr, is_cached, IsAccepted, IsAt, IsCursor}
-use Rattle.determinize_lazy.proofs.Common.{IsKept, IsKnown, IsLazy, IsSound, IsStateOf, IsStepped, IsTable, keep}
-use Rattle.determinize_lazy.proofs.Common.{LazyValue, length, List, list_any, MatchKind, Nfa, Ok, on_err_weaker}
-use Rattle.determinize_lazy.proofs.Common.{on_ok_weaker, OnErr, Option, refl, Result, same, shared_by, shares, step}
-use Rattle.determinize_lazy.proofs.Common.{step_of, StoredTable, sym, Table, table_of, true, Uncached, Value}
-use Rattle.determinize_lazy.proofs.Common.{with_value, ℕ, ◌∙◌, ◌≡◌, ◌≤◌}
+use Rattle.determinize_lazy.proofs.Common.{All-get_or, All-nil, All-push, ap, AreClassesOf, arith, Bool, by_cases}
+use Rattle.determinize_lazy.proofs.Common.{by_test, cache, Cache, Cached, Classes, classes_from, count_after, Cursor}
+use Rattle.determinize_lazy.proofs.Common.{cursor_value, dead, Each, empty, empty-is, Err, false, fits, Grows}
+use Rattle.determinize_lazy.proofs.Common.{IfOk-weaker, IfSome, inr, is_cached, IsAccepted, IsAt, IsEmpty, IsKept}
+use Rattle.determinize_lazy.proofs.Common.{IsKnown, IsLazy, IsReady, IsSound, IsStateOf, IsStepped, IsTable, keep}
+use Rattle.determinize_lazy.proofs.Common.{LazyValue, length, List, list_any, MatchKind, Nfa, not_none, Ok}
+use Rattle.determinize_lazy.proofs.Common.{on_err_weaker, on_ok_weaker, OnErr, Option, refl, Result, same, shared_by}
+use Rattle.determinize_lazy.proofs.Common.{shares, slot_number, step, step_of, StoredTable, sym, Table, table_of}
+use Rattle.determinize_lazy.proofs.Common.{Uncached, Value, viewed, with_transition, with_transition-is, with_value, ℕ}
+use Rattle.determinize_lazy.proofs.Common.{◌∙◌, ◌≡◌, ◌≤◌}
 use Rattle.determinize_lazy.proofs.steps.Sharing.{shared_steps, shares-self}
-use Rattle.std.proofs.lemmas.List.Elements.{All-get_or, All-push}
 use Rattle.determinize_lazy.proofs.steps.FewStates.{known-step}
-use Rattle.determinize_table.proofs.Transitions.{empty-is, with_transition-is}
 use Rattle.determinize_lazy.proofs.steps.Starts.{starts-stay}
 
--- what is so of the values of a table and of two more is so of those that the rule keeps
+-- what is so of no table, and of one with one more transition, is so of the one that the rule keeps
+kept-by : (P : Table → Type 0) (over : Option ℕ → Bool) (limit : ℕ) (t : Table) (v w : Value) → P t → P empty
+    → ((t : Table) → P t → P (with_transition over t v w)) → P (keep over limit t v w)
+kept-by P over limit t v w here none more = by_test (fits limit t v w) (λ e. rw e (more t here))
+    (λ e. rw e (by_test (fits limit empty v w) (λ k. rw k (more empty none)) (λ k. rw k none)))
+
 All-with_value : (P : Value → Type 0) (values : List Value) (v : Value) → Each P values → P v
     → Each P (with_value values v)
 All-with_value P values v each one =
     by_test (list_any (same v) values) (λ e. rw e each) (λ e. rw e (All-push P values v each one))
-
-All-kept : (P : Value → Type 0) (over : Option ℕ → Bool) (limit : ℕ) (t : Table) (v w : Value) → Each P t.states
-    → P v → P w → Each P (keep over limit t v w).states
-All-kept P over limit t v w each source next =
-    let both = λ (values : List Value) (e : Each P values).
-    All-with_value P (with_value values v) w (All-with_value P values v e source) next in
-    by_test (fits limit t v w) (λ e. rw e (both t.states each))
-    (λ e. rw e (by_test (fits limit empty v w) (λ k. rw k (both [] (All-nil P))) (λ k. rw k (All-nil P))))
-
--- the rule keeps a table of steps with at most `limit` states
-keep-is : (f : Value → Option ℕ → Value) (over : Option ℕ → Bool) (limit : ℕ) (t : Table) (v w : Value) (u : Option ℕ)
-    → over u ≡ true → IsTable f t → ((y : Option ℕ) → over y ≡ true → w ≡ f v y)
-    → IsTable f (keep over limit t v w) × (length (keep over limit t v w).states ≤ limit)
-keep-is f over limit t v w u in_it is w_is = (
-  by_test (fits limit t v w) (λ e. rw e (with_transition-is f over t v w u in_it is w_is))
-      (λ e. rw e (by_test (fits limit empty v w)
-      (λ k. rw k (with_transition-is f over empty v w u in_it (empty-is f) w_is)) (λ k. rw k (empty-is f)))),
-  grind arith,
-)
 
 -- after a transition was computed
 pub lazy-kept : {A E : Type 0} {nfa : Nfa} {kind : MatchKind} {limit count counted : ℕ}
@@ -52,18 +38,21 @@ lazy-kept {A} {E} {nfa} {kind} {limit} {classes = classes} {t = t} {t' = t'} {w}
     let f : Value → Option ℕ → Value = step nfa kind in
     let next : IsStateOf nfa w = rw w_is (known-step nfa is.sound.accepted kind v u source) in
     let over : Option ℕ → Bool = shares (classes_from nfa v classes) u in
-    let (table, within) = keep-is f over limit (table_of t) v w u (shares-self _ u) is.sound.table
-    (λ y in_it. w_is ∙ sym (shared_steps is.sound.accepted classes is.sound.classes kind v u y in_it)) in record {
+    let steps : IsTable f (keep over limit (table_of t) v w) =
+    kept-by (IsTable f) over limit (table_of t) v w is.sound.table (empty-is f) (λ x steps.
+    with_transition-is f over x v w u (shares-self _ u) steps
+    (λ y in_it. w_is ∙ sym (shared_steps is.sound.accepted classes is.sound.classes kind v u y in_it))) in record {
       sound = record {
         accepted = is.sound.accepted;
-        table = by r (IsTable f) kept table is.sound.table (empty-is f);
+        table = by r (IsTable f) kept steps is.sound.table (empty-is f);
         small = small;
         classes = is.sound.classes;
       };
-      within = by r (λ (x : Table). length x.states ≤ limit) kept within is.within (omega arith);
+      within = by r (λ (x : Table). length x.states ≤ limit) kept (grind arith) is.within (omega arith);
       known = by r (λ (x : Table). Each (IsStateOf nfa) x.states) kept
-          (All-kept (IsStateOf nfa) over limit (table_of t) v w is.known source next) is.known
-          (All-nil (IsStateOf nfa));
+          (kept-by (λ (x : Table). Each (IsStateOf nfa) x.states) over limit (table_of t) v w is.known
+          (All-nil (IsStateOf nfa)) (λ x each. All-with_value (IsStateOf nfa) (with_value x.states v) w
+          (All-with_value (IsStateOf nfa) x.states v each source) next)) is.known (All-nil (IsStateOf nfa));
       starts = starts-stay nfa t t' is.starts kept.starts;
     }
   where
@@ -99,27 +88,37 @@ stepped old {v = v} u {r} accepted known small absent table_is kept = record {
   grows = record { nfa = refl; kind = refl; limit = refl; classes = refl; computed = grind (arith, small) };
 }
 
--- what is true of a `Lazy` is true of its cache
-pub lazy-sound : {nfa : Nfa} {kind : MatchKind} {limit count : ℕ} {classes : Option Classes} {t : StoredTable}
-    {x : LazyValue} → IsLazy nfa kind limit count classes t
-    → record {
-      nfa = nfa;
-      kind = kind;
-      limit = limit;
-      states = t.states;
-      rows = t.rows;
-      computed = count;
-      classes = classes;
-    } ≡ x
-    → IsSound (cache x)
-lazy-sound is view_is = rw (← view_is) is.sound
+-- a cache in which nothing is kept
+pub empty_is_lazy : (nfa : Nfa) (kind : MatchKind) (limit computed : ℕ) (classes : Option Classes)
+    (stored : StoredTable)
+    → IsAccepted nfa → computed ≤ 18446744073709551615 → IfSome classes (λ p. AreClassesOf nfa p) → IsEmpty stored
+    → IsLazy nfa kind limit computed classes stored
+empty_is_lazy nfa kind limit computed classes stored accepted small are is = record {
+  sound = record {
+    accepted = accepted;
+    table = rw is.table (empty-is (step nfa kind));
+    small = small;
+    classes = are;
+  };
+  within = omega (arith, ap (λ (t : Table). length t.states) is.table);
+  known = let none = ap (λ (t : Table). t.states) is.table in rw none (All-nil _);
+  starts = λ s p slot id of kept. not_none (sym kept ∙ is.starts (slot_number slot));
+}
 
--- and a step may be taken from the value of a cursor
-pub lazy-known : {A : Type 0} {nfa : Nfa} {kind : MatchKind} {limit count : ℕ} {classes : Option Classes}
-    {t : StoredTable} (at : Cursor A) → IsLazy nfa kind limit count classes t → IsCursor t.states at → IsKnown nfa at
-    → IsStateOf nfa (cursor_value t.states at)
-lazy-known {nfa = nfa} (Cached id) is inside known = All-get_or (IsStateOf nfa) _ id dead inside is.known
-lazy-known (Uncached state) is inside known = known
+module _ {nfa : Nfa} {kind : MatchKind} {limit count : ℕ} {classes : Option Classes} {t : StoredTable} {x : LazyValue}
+    (is : IsLazy nfa kind limit count classes t) (view_is : viewed nfa kind limit count classes t ≡ x) where
+  -- what is true of a `Lazy` is true of its cache
+  pub lazy-sound : IsSound (cache x)
+  lazy-sound = rw (← view_is) is.sound
+
+  -- and a step may be taken from the value of a cursor
+  pub lazy-known : {A : Type 0} (at : Cursor A) → IsReady x at → IsStateOf nfa (cursor_value t.states at)
+  lazy-known at ready = known at (rw (← view_is) at ready)
+    where
+      known : {A : Type 0} (at : Cursor A) → IsReady (viewed nfa kind limit count classes t) at
+          → IsStateOf nfa (cursor_value t.states at)
+      known (Cached id) ready = All-get_or (IsStateOf nfa) _ id dead ready.cursor is.known
+      known (Uncached state) ready = ready.known
 
 -- a cache as it is, and one that changes twice
 pub grows_none : {c : Cache} → Grows c c

@@ -12,13 +12,10 @@ use Rattle.determinize_lazy.proofs.Common.{take, take_all, Text, units, Value, z
 use Rattle.determinize_lazy.proofs.steps.Rule.{grows-more, grows_none, of_err}
 
 -- the steps stay, and which of them are shared
-pub same_steps : (us : List (Option ℕ)) (c : Cache) (v : Value) → step_of (after_walk c v us) ≡ step_of c
-same_steps [] c v = refl
+pub same_steps : (us : List (Option ℕ)) (c : Cache) (v : Value)
+    → (step_of (after_walk c v us) ≡ step_of c) × (shared_by (after_walk c v us) ≡ shared_by c)
+same_steps [] c v = (refl, refl)
 same_steps (u ∷ us) c v = same_steps us (after_step c v u) (step_of c v u)
-
-pub same_sharing : (us : List (Option ℕ)) (c : Cache) (v : Value) → shared_by (after_walk c v us) ≡ shared_by c
-same_sharing [] c v = refl
-same_sharing (u ∷ us) c v = same_sharing us (after_step c v u) (step_of c v u)
 
 -- the part of a list from an index on
 pub drop-one : {K : Type 0} (xs : List K) (i : ℕ) (x : K) → slice_get xs i ≡ Some x → drop i xs ≡ x ∷ drop (i + 1) xs

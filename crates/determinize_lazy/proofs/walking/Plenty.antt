@@ -4,17 +4,16 @@
 -- Idea: each step adds its transition and leaves room for the others; then the same walk finds each transition.
 use Rattle.determinize_lazy.proofs.Common.{[], after_step, after_walk, ap, AreClassesOf, arith, Asked, Bool, by_test}
 use Rattle.determinize_lazy.proofs.Common.{cache, Cache, classes_from, cond, count_after, false, fits, future}
-use Rattle.determinize_lazy.proofs.Common.{future_is, Grows, HasRead, HasRoom, HasSearched, HasSearchedIn}
+use Rattle.determinize_lazy.proofs.Common.{future_is, Grows, has_new, HasRead, HasRoom, HasSearched, HasSearchedIn}
 use Rattle.determinize_lazy.proofs.Common.{IfOk-from_err, IfSome, is_cached, is_done, IsAccepted, IsCacheAfter}
-use Rattle.determinize_lazy.proofs.Common.{IsCutOff, IsErr, IsSound, IsTable, KeepsAll, LazyValue, length, List}
-use Rattle.determinize_lazy.proofs.Common.{list_any, list_any-from_Contains, missing, on_ok_weaker, Option, refl}
-use Rattle.determinize_lazy.proofs.Common.{Result, same, same_laws, shared_by, start_for, start_value, step_of, sym}
-use Rattle.determinize_lazy.proofs.Common.{Table, tail, Text, text_of, true, true≢false, units, Value, with_step}
-use Rattle.determinize_lazy.proofs.Common.{with_value, with_values, with_walk, ℕ, ◌+◌, ◌∙◌, ◌∷◌, ◌≡◌, ◌≤◌}
-use Rattle.determinize_table.proofs.Transitions.{not_source, with_target-new, with_transition-is}
-use Rattle.determinize_table.proofs.Values.{has_new, length_with}
+use Rattle.determinize_lazy.proofs.Common.{IsCutOff, IsErr, IsSound, IsTable, KeepsAll, LazyValue, length, length_with}
+use Rattle.determinize_lazy.proofs.Common.{List, list_any, list_any-from_Contains, missing, not_source, on_ok_weaker}
+use Rattle.determinize_lazy.proofs.Common.{Option, refl, Result, same, same_laws, shared_by, start_for, start_value}
+use Rattle.determinize_lazy.proofs.Common.{step_of, sym, Table, tail, Text, text_of, true, true≢false, units, Value}
+use Rattle.determinize_lazy.proofs.Common.{with_step, with_target-new, with_transition-is, with_value, with_values}
+use Rattle.determinize_lazy.proofs.Common.{with_walk, ℕ, ◌+◌, ◌∙◌, ◌∷◌, ◌≡◌, ◌≤◌}
 use Rattle.determinize_lazy.proofs.steps.Rule.{grows_none, of_err}
-use Rattle.determinize_lazy.proofs.walking.CachedWalks.{cut_off-none, same_sharing, same_steps}
+use Rattle.determinize_lazy.proofs.walking.CachedWalks.{cut_off-none, same_steps}
 use Rattle.determinize_lazy.proofs.steps.Sharing.{shared_steps, shares-self}
 
 module _ (f : Value → Option ℕ → Value) (shared : Value → Option ℕ → Option ℕ → Bool)
@@ -112,7 +111,7 @@ keeps_all {old} {new} {v} {us} sound is room =
       table = table;
       once = once;
       again = unchanged (after_walk old v us) us old.table v
-          (λ x y h. rw table (rw (same_steps us old v, same_sharing us old v) at h));
+          (λ x y h. rw table (rw ((same_steps us old v).0, (same_steps us old v).1) at h));
     }
 
 -- what a call leaves that reads units

@@ -10,10 +10,10 @@ use Rattle.determinize_core.specs.Step.{start_value}
 use Rattle.determinize_core.specs.Value.{Value}
 use Rattle.determinize_lazy.specs.Cache.{Cache, Grows, IsCutOff, LazyValue, after_step}
 use Rattle.determinize_lazy.specs.Cache.{cache, step_of}
-use Rattle.determinize_lazy.specs.Private.Steps.{IsCacheAfter, IsKnown}
+use Rattle.determinize_lazy.specs.Private.Steps.{IsCacheAfter, IsReady}
 use Rattle.determinize_engine.specs.Scans.{Scanned}
 use Rattle.determinize_engine.specs.UnitsRead.{is_last, units_read}
-use Rattle.determinize_table.specs.Cursors.{IsCursor, cursor_value}
+use Rattle.determinize_table.specs.Cursors.{cursor_value}
 use Rattle.determinize_table.specs.Tags.{match_of, match_reported, tag_of}
 use Rattle.determinize_lazy.specs.declared.search.Position.{Position}
 use Rattle.determinize_lazy.specs.declared.cached.CachedPosition.{CachedPosition}
@@ -58,8 +58,7 @@ first_place c v = record { read = 0; value = v; last = None; cache = c }
 
 -- a step may be taken from the cursor of a position, and before the first unit there is no match
 pub record IsPosition {A : Type 0} (c : LazyValue) (at : Position A) : Type 0 where
-  pub cursor : IsCursor c.states at.cursor
-  pub known : IsKnown c.nfa at.cursor
+  pub ready : IsReady c at.cursor
   pub unmatched : at.read ≡ 0 → match_of at.last ≡ None
 
 -- the same of a position at a cached state

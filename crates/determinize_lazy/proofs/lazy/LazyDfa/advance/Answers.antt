@@ -4,8 +4,7 @@ use Rattle.determinize_lazy.proofs.lazy.LazyDfa.advance.Goals as goal
 pub returns-clause-next : goal.returns-clause-next
 returns-clause-next g c = record {
   position = record {
-    cursor = c.in_ok-cursor.ensures.ready.cursor;
-    known = c.in_ok-cursor.ensures.ready.known;
+    ready = c.in_ok-cursor.ensures.ready;
     unmatched = λ e. absurd (omega arith);
   };
   place =

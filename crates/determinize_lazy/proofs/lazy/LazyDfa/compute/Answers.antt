@@ -10,8 +10,7 @@ invariant_of-self-2 g c =
     let shared : option_copied c.classes_from-spans.result ≡ classes_from (g.R.AsNfa.nfa c.self.inside.nfa)
     (cursor_value c.self.inside.table.states c.args.cursor) c.self.inside.spans = search rules in
     lazy-kept _ c.args.unit c.self.invariant following
-    (lazy-known c.args.cursor c.self.invariant (rw (← c.self.view_is) at c.requires.ready.cursor)
-    (rw (← c.self.view_is) at c.requires.ready.known)) (search rules)
+    (lazy-known c.self.invariant c.self.view_is c.args.cursor c.requires.ready) (search rules)
     (rw shared at c.keep.ensures)
 
 pub returns-in_err-following : goal.returns-in_err-following
@@ -34,8 +33,7 @@ returns g c =
     let counted : c.saturating_add-self-inside.result ≡ count_after c.self.inside.computed 1 = search rules in
     let absent = rw (← c.self.view_is) at (absent-at (cache c.args.self.now) c.args.cursor c.args.unit
     (lazy-sound c.self.invariant c.self.view_is).table c.requires.ready.cursor c.requires.uncached) in
-    let known = lazy-known c.args.cursor c.self.invariant (rw (← c.self.view_is) at c.requires.ready.cursor)
-    (rw (← c.self.view_is) at c.requires.ready.known) in
+    let known = lazy-known c.self.invariant c.self.view_is c.args.cursor c.requires.ready in
     rw (← c.self.view_is, counted)
     (stepped _ c.args.unit c.self.invariant.sound.accepted known c.self.invariant.sound.small absent refl
     (rw (following, shared) at c.keep.ensures))

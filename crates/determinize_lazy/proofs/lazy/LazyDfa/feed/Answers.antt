@@ -1,7 +1,6 @@
 use Rattle.determinize_lazy.proofs.{ap, arith, cache, cursor_value, has_read, IsPieceRead, last_match-within}
 use Rattle.determinize_lazy.proofs.{later-within, later_by, left_whole, length, length-map, map, option_map, option_or}
-use Rattle.determinize_lazy.proofs.{read_err, read_none, refl, rules, Scanned, Some, ◌+◌, ◌∙◌, ◌≡◌, ◌≤◌}
-use Rattle.determinize_engine.proofs.Scanning.{scan-piece}
+use Rattle.determinize_lazy.proofs.{rules, scan-piece, Scanned, Some, ◌+◌, ◌∙◌, ◌≡◌, ◌≤◌}
 use Rattle.determinize_lazy.proofs.lazy.LazyDfa.feed.Goals.{After-rest}
 use Rattle.determinize_lazy.proofs.lazy.LazyDfa.feed.Goals as goal
 
@@ -30,18 +29,6 @@ returns-clause-fed g c start behind bytes is =
     (c.or_later-scan-inside.ensures
     ∙ ap (λ (s : Scanned). option_or (option_map (later_by s.read) c.rest.inside.last) s.last) c.scan.view_is)
     (sum ∙ ap (λ (s : Scanned). s.read + length c.args.piece.now) c.scan.view_is)
-
-pub returns-clause-resolve : goal.returns-clause-resolve
-returns-clause-resolve g c = λ _. rw (← c.rest.view_is) at c.in_ok-rest.ensures.resolve
-
-pub returns-in_err-start-clause-cache : goal.returns-in_err-start-clause-cache
-returns-in_err-start-clause-cache g c = read_none c.from_residual.ensures.0 refl
-
-pub returns-in_err-rest-clause-cache : goal.returns-in_err-rest-clause-cache
-returns-in_err-rest-clause-cache g c =
-    let left = rw (c.in_ok-start.ensures.value ∙ ap (λ (s : Scanned). s.state) c.scan.view_is)
-    at c.in_err-rest.ensures.left in
-    read_err c.from_residual-in_err-rest.ensures.0 left.failed left.grows
 
 pub returns-clause-cache : goal.returns-clause-cache
 returns-clause-cache g c =

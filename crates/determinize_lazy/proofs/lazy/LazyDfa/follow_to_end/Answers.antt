@@ -1,23 +1,15 @@
-use Rattle.determinize_lazy.proofs.{ap, arith, cache, cached_place, come-next, come_twice, dead, first_place, HasCome}
-use Rattle.determinize_lazy.proofs.{lazy-sound, length, next-cached, slice_index_or, Some, sym, true, unit-here}
-use Rattle.determinize_lazy.proofs.{unit-last, units, ◌∙◌, ◌≡◌}
-use Rattle.determinize_lazy.proofs.lazy.LazyDfa.follow_to_end.Goals.{After-follow-at}
+use Rattle.determinize_lazy.proofs.{ap, arith, come-next, come_twice, lazy-sound, length, next-cached, Some, sym, true}
+use Rattle.determinize_lazy.proofs.{unit-here, unit-last, ◌∙◌, ◌≡◌}
 use Rattle.determinize_lazy.proofs.lazy.LazyDfa.follow_to_end.Goals as goal
 
--- the search of the bytes
-bytes : (g : _) (c : After-follow-at g) → HasCome c.args.earliest (units c.args.text.now)
-    (first_place (cache c.args.self.now) (slice_index_or c.args.self.now.states c.args.start dead))
-    (cached_place c.args.self.now c.follow-at.result)
-bytes g c = c.follow-at.ensures.come true _ (unit-here c.args.text.now)
-
 pub returns-then-at-len-clause-come : goal.returns-then-at-len-clause-come
-returns-then-at-len-clause-come g c = bytes g (goal.at.returns-then-at-len-clause-come g c).After-follow-at
+returns-then-at-len-clause-come g c = c.follow-at.ensures.come true _ (unit-here c.args.text.now)
 
 pub returns-in_default-clause-come : goal.returns-in_default-clause-come
-returns-in_default-clause-come g c = bytes g (goal.at.returns-in_default-clause-come g c).After-follow-at
+returns-in_default-clause-come g c = c.follow-at.ensures.come true _ (unit-here c.args.text.now)
 
 pub returns-in_default-2-clause-come : goal.returns-in_default-2-clause-come
-returns-in_default-2-clause-come g c = bytes g (goal.at.returns-in_default-2-clause-come g c).After-follow-at
+returns-in_default-2-clause-come g c = c.follow-at.ensures.come true _ (unit-here c.args.text.now)
 
 -- the step over the unit ahead
 pub returns-in-Some : goal.returns-in-Some
@@ -29,7 +21,7 @@ returns-in-Some g c =
     let all : c.follow-at.result.read ≡ length c.args.text.now.bytes =
     omega (arith, c.if-at-len.false, c.follow-at.ensures.within, c.len.ensures.value) in record {
       position = next.position;
-      come = come_twice (bytes g (goal.at.returns-in-Some g c).After-follow-at)
+      come = come_twice (c.follow-at.ensures.come true _ (unit-here c.args.text.now))
           (come-next (unit-last c.args.text.now c.follow-at.result.read all ∙ ap Some (sym c.ahead.ensures)) more
           next.place next.grows);
       within = omega (arith, all);

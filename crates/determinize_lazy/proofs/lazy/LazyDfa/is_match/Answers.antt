@@ -1,10 +1,5 @@
-use Rattle.determinize_lazy.proofs.{cache, decides, has_read, left_whole, read_err, searched-in, sym, true≢false, ◌∙◌}
+use Rattle.determinize_lazy.proofs.{cache, decides, has_read, left_whole, searched-in, sym, true≢false, ◌∙◌}
 use Rattle.determinize_lazy.proofs.lazy.LazyDfa.is_match.Goals as goal
-
-pub returns-in_err-search_range-clause-cache : goal.returns-in_err-search_range-clause-cache
-returns-in_err-search_range-clause-cache g c = searched-in (sym c.is_done.ensures ∙ c.if-is_done.false)
-    (read_err c.from_residual.ensures.0 c.in_err-search_range.ensures.over.left.failed
-    c.in_err-search_range.ensures.over.left.grows)
 
 pub returns : goal.returns
 returns g c =

@@ -1,18 +1,12 @@
 use Rattle.determinize_lazy.proofs.{ap, cursor_value, cut_off-first, cut_off-whole, has_read, lazy-known, LazyValue}
-use Rattle.determinize_lazy.proofs.{left_whole, read_err, read_none, refl, walked-next, ◌∙◌, ◌≡◌}
+use Rattle.determinize_lazy.proofs.{left_whole, read_err, walked-next, ◌∙◌, ◌≡◌}
 use Rattle.determinize_lazy.proofs.Common.{step}
 use Rattle.determinize_lazy.proofs.lazy.LazyDfa.next.Goals.{In_ok-walker-inside}
 use Rattle.determinize_lazy.proofs.lazy.LazyDfa.next.Goals as goal
 
-pub returns-in_err-cursor-clause-cache : goal.returns-in_err-cursor-clause-cache
-returns-in_err-cursor-clause-cache g c = read_none c.from_residual.ensures.0 refl
-
 pub returns-in_err-next-clause-cache : goal.returns-in_err-next-clause-cache
 returns-in_err-next-clause-cache g c = read_err c.from_residual-in_err-next.ensures.0 (cut_off-first
     (rw (c.in_ok-cursor.ensures.value ∙ c.walker.view_is) at c.in_err-next.ensures.failed)) c.in_err-next.ensures.grows
-
-pub returns-in_err-next-clause-resolve : goal.returns-in_err-next-clause-resolve
-returns-in_err-next-clause-resolve g c r = rw c.in_err-next.ensures.grows.nfa r
 
 pub returns-in_err-walker-inside-clause-resolve : goal.returns-in_err-walker-inside-clause-resolve
 returns-in_err-walker-inside-clause-resolve g c r = rw c.in_ok-next.ensures.grows.nfa r
@@ -38,9 +32,8 @@ returns-clause-walked g c start index text at here =
     (stepped g (goal.at.returns-clause-walked g c).In_ok-walker-inside)
 
 pub returns-clause-resolve : goal.returns-clause-resolve
-returns-clause-resolve g c _ = rw (c.in_ok-walker-inside.ensures, ← c.self.view_is) (lazy-known c.in_ok-next.next
-    c.self.invariant (rw (← c.self.view_is) at c.in_ok-next.ensures.ready.cursor)
-    (rw (← c.self.view_is) at c.in_ok-next.ensures.ready.known)).resolve
+returns-clause-resolve g c _ = rw (c.in_ok-walker-inside.ensures, ← c.self.view_is) (lazy-known c.self.invariant
+    c.self.view_is c.in_ok-next.next c.in_ok-next.ensures.ready).resolve
 
 pub returns-clause-cache : goal.returns-clause-cache
 returns-clause-cache g c = has_read c.cursor_of.ensures.sound (left_whole _

@@ -1,6 +1,6 @@
 use Rattle.determinize_lazy.proofs.{ap, arith, at-text, cache, end-left, EndsAt, false, first_place, has_read}
-use Rattle.determinize_lazy.proofs.{IfOk-weaker, inl, inr, length, lists-end, read_err, read_none, rules, searched-in}
-use Rattle.determinize_lazy.proofs.{start_for, start_value, sym, Text, text_of, true≢false, units, ◌∙◌, ◌≡◌}
+use Rattle.determinize_lazy.proofs.{IfOk-weaker, inl, inr, length, lists-end, read_none, rules, searched-in, start_for}
+use Rattle.determinize_lazy.proofs.{start_value, sym, Text, text_of, true≢false, units, ◌∙◌, ◌≡◌}
 use Rattle.determinize_lazy.proofs.lazy.LazyDfa.patterns_after.Goals.{After-search_to_end}
 use Rattle.determinize_lazy.proofs.lazy.LazyDfa.patterns_after.Goals as goal
 
@@ -26,12 +26,6 @@ end g c =
 pub returns-in_err-cursor-clause-cache : goal.returns-in_err-cursor-clause-cache
 returns-in_err-cursor-clause-cache g c = searched-in (sym c.is_done.ensures ∙ c.if-is_done.false)
     (read_none c.from_residual.ensures.0 c.in_err-cursor.ensures.unchanged)
-
-pub returns-in_err-at-clause-cache : goal.returns-in_err-at-clause-cache
-returns-in_err-at-clause-cache g c =
-    let ends = end g (goal.at.returns-in_err-at-clause-cache g c).After-search_to_end in
-    searched-in (sym c.is_done.ensures ∙ c.if-is_done.false)
-    (read_err c.from_residual-in_err-at.ensures.0 (rw c.in_err-at.was at ends.failed) ends.grows)
 
 pub returns-then-at-len : goal.returns-then-at-len
 returns-then-at-len g c =

@@ -38,8 +38,7 @@ returns g c =
     let is = c.in_ok-state.ensures
     ∙ ap (λ (x : LazyValue). cursor_value x.states c.in_ok-at.at.cursor) c.self.view_is in record {
       read = record { state = is ∙ value; last = c.found-last.ensures ∙ last; read = search rules };
-      resolve = rw (c.in_ok-state.ensures, ← c.self.view_is) (lazy-known c.in_ok-at.at.cursor c.self.invariant
-          (rw (← c.self.view_is) at c.in_ok-at.ensures.at.position.cursor)
-          (rw (← c.self.view_is) at c.in_ok-at.ensures.at.position.known)).resolve;
+      resolve = rw (c.in_ok-state.ensures, ← c.self.view_is) (lazy-known c.self.invariant c.self.view_is
+          c.in_ok-at.at.cursor c.in_ok-at.ensures.at.position.ready).resolve;
       left = left-at (come g d) (stopped g d) _;
     }

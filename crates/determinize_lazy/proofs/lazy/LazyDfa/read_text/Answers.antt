@@ -1,15 +1,11 @@
 use Rattle.determinize_lazy.proofs.{all_read, ap, arith, cache, cached_place, dead, first_place, get_or_from_slice_get}
 use Rattle.determinize_lazy.proofs.{HasCome, inl, inr, LazyValue, match_of, match_reported, option_or, over-at}
-use Rattle.determinize_lazy.proofs.{slice_get, slice_get-get_or, slice_get_within, slice_index_or, start_value, Tag}
-use Rattle.determinize_lazy.proofs.{tag-last, tag_in, tag_of, units, Value, ◌∙◌, ◌≡◌}
+use Rattle.determinize_lazy.proofs.{slice_get, slice_get-get_or, slice_index_or, start_value, Tag, tag-last, tag_in}
+use Rattle.determinize_lazy.proofs.{tag_of, units, Value, ◌∙◌, ◌≡◌}
 use Rattle.determinize_lazy.proofs.lazy.LazyDfa.read_text.Goals.{then-at-len-via-else-at-len+then-is_last}
 use Rattle.determinize_lazy.proofs.lazy.LazyDfa.read_text.Goals.{then-at-len-via-then-at-len}
 use Rattle.determinize_lazy.proofs.lazy.LazyDfa.read_text.Goals.{After-len}
 use Rattle.determinize_lazy.proofs.lazy.LazyDfa.read_text.Goals as goal
-
-pub follow_to_end-at-requires : goal.follow_to_end-at-requires
-follow_to_end-at-requires g c =
-    slice_get_within c.args.self.now.states c.in-Some.id _ c.in-Some.ensures.at
 
 -- the search of what is cached
 cached : (g : _) (c : After-len g) → HasCome c.args.earliest (units c.args.text.now)
@@ -25,7 +21,7 @@ returns-then-at-len-clause-reached g c =
     let v : Value = slice_index_or c.args.self.now.states at.id dead in
     let tag : tag_in c.tag-tag.result.bits ≡ tag_of v = c.tag-tag.ensures _
     (ap (λ (x : LazyValue). slice_get x.states at.id) c.self.view_is
-    ∙ slice_get-get_or c.args.self.now.states at.id dead c.follow_to_end-at.ensures.position.cursor) in
+    ∙ slice_get-get_or c.args.self.now.states at.id dead c.follow_to_end-at.ensures.position.ready.cursor) in
     over-at (cached g d) (elim c.then-at-len.branch [
       | then-at-len-via-then-at-len w ↦ inl
           (all_read c.args.text.now (omega (arith, w.if-at-len.true)) c.len.ensures.value)
@@ -33,10 +29,3 @@ returns-then-at-len-clause-reached g c =
           inr (tag-last c.args.earliest c.tag-tag.result.bits v tag w.is_last.ensures w.if-is_last.true)
     ]) (c.get.ensures ∙ c.or_match.ensures c.follow_to_end-at.ensures.position.unmatched
     ∙ ap (λ (k : Tag). option_or (match_reported at.read k.pattern) (match_of at.last)) tag)
-
-pub returns-clause-reached : goal.returns-clause-reached
-returns-clause-reached g c = (
-  c.follow_to_end-at.ensures.position,
-  omega (arith, c.if-at-len.false, c.len.ensures.value, c.follow_to_end-at.ensures.within),
-  cached g (goal.at.returns-clause-reached g c).After-len,
-)

@@ -3,7 +3,10 @@ use Rattle.determinize_lazy.proofs.lazy.LazyDfa.run.Goals as goal
 pub returns-in-Cached : goal.returns-in-Cached
 returns-in-Cached g c =
     let h = c.follow-at.ensures in rw (c.with_cursor.ensures, c.in-Cached.is) record {
-      position = record { cursor = h.position.cursor; known = tt; unmatched = h.position.unmatched };
+      position = record {
+        ready = record { cursor = h.position.ready.cursor; known = tt };
+        unmatched = h.position.unmatched;
+      };
       forward = h.forward;
       within = h.within;
       come = h.come;

@@ -1,4 +1,4 @@
-use Rattle.determinize_lazy.proofs.{cache, cursor_value, Fails, fails-next, false, goes-next, goes_twice, inr, is_last}
+use Rattle.determinize_lazy.proofs.{cache, cursor_value, Fails, fails-next, false, goes-next, goes_twice, is_last}
 use Rattle.determinize_lazy.proofs.{more-still, of_err, place, tag-last, ◌≡◌}
 use Rattle.determinize_lazy.proofs.lazy.LazyDfa.search_bytes.Goals.{After-byte-byte}
 use Rattle.determinize_lazy.proofs.lazy.LazyDfa.search_bytes.Goals as goal
@@ -22,8 +22,3 @@ pub loop-at-preserved : goal.loop-at-preserved
 loop-at-preserved g c =
     goes_twice (goes-next c.loop-at.invariant c.byte-byte.ensures
     (more g (goal.at.loop-at-preserved g c).After-byte-byte) c.in_ok-next.ensures.next) c.run-at.ensures
-
-pub returns-then-is_last-clause-stopped : goal.returns-then-is_last-clause-stopped
-returns-then-is_last-clause-stopped g c =
-    inr (tag-last c.args.earliest c.tag_at.result.bits (cursor_value c.loop-at.self.states c.loop-at.at.cursor)
-    c.tag_at.ensures c.is_last.ensures c.if-is_last.true)

@@ -1,15 +1,10 @@
-use Rattle.determinize_lazy.proofs.{cache, false, has_read, is_done, IsSearch, left_whole, read_err, rules, search-is}
-use Rattle.determinize_lazy.proofs.{searched-in, start_for, sym, text_of, ◌∙◌, ◌≡◌}
-use Rattle.determinize_engine.proofs.Ranges.{is-result, none-done, offset-within}
+use Rattle.determinize_lazy.proofs.{cache, false, has_read, is-result, is_done, IsSearch, left_whole, none-done}
+use Rattle.determinize_lazy.proofs.{offset-within, rules, search-is, searched-in, start_for, sym, text_of, ◌∙◌, ◌≡◌}
 use Rattle.determinize_lazy.proofs.lazy.LazyDfa.search_input.Goals.{In_ok-found}
 use Rattle.determinize_lazy.proofs.lazy.LazyDfa.search_input.Goals as goal
 
 pub returns-then-is_done-clause-search : goal.returns-then-is_done-clause-search
 returns-then-is_done-clause-search g c = none-done c.args.input.now (sym c.is_done.ensures ∙ c.if-is_done.true)
-
-pub returns-in_err-found-clause-cache : goal.returns-in_err-found-clause-cache
-returns-in_err-found-clause-cache g c = searched-in (sym c.is_done.ensures ∙ c.if-is_done.false)
-    (read_err c.from_residual.ensures.0 c.in_err-found.ensures.over.left.failed c.in_err-found.ensures.over.left.grows)
 
 -- the search of the text
 answer : (g : _) (c : In_ok-found g) → let v = c.args.self.now in IsSearch v.nfa v.kind

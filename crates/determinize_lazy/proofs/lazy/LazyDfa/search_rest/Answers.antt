@@ -1,5 +1,5 @@
 use Rattle.determinize_lazy.proofs.{ap, cache, come_none, end-left, first_place, grows-more, HasCome, IfOk-from_err}
-use Rattle.determinize_lazy.proofs.{left_err, left_none, over-more, Place, place, start_value, units, ◌∙◌}
+use Rattle.determinize_lazy.proofs.{left_err, over-more, place, Place, start_value, units, ◌∙◌}
 use Rattle.determinize_lazy.proofs.lazy.LazyDfa.search_rest.Goals.{in-Some, in-None+in_ok-find_start-in-None}
 use Rattle.determinize_lazy.proofs.lazy.LazyDfa.search_rest.Goals.{After-search_to_end}
 use Rattle.determinize_lazy.proofs.lazy.LazyDfa.search_rest.Goals as goal
@@ -15,12 +15,6 @@ come g c = elim c.match-reached.branch [
       rw (w.self-is, w.from-is, w.start-from.ensures, same) (come_none (ap (first_place (cache c.args.self.now))
       (rw (same, w.behind.ensures) at w.in_ok-find_start-in-None.ensures.value)))
 ]
-
-pub returns-in_err-find_start-in-None : goal.returns-in_err-find_start-in-None
-returns-in_err-find_start-in-None g c = record {
-  last = IfOk-from_err _ _ c.from_residual.ensures.0;
-  left = left_none c.from_residual.ensures.0 (ap cache c.in_err-find_start-in-None.ensures.unchanged);
-}
 
 pub returns-in_err-at : goal.returns-in_err-at
 returns-in_err-at g c =

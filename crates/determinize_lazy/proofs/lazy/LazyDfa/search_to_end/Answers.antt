@@ -1,16 +1,9 @@
-use Rattle.determinize_lazy.proofs.{all_read, ap, arith, come-next, come_twice, cursor_value, end-here, fails-next}
-use Rattle.determinize_lazy.proofs.{false, grows-more, IfOk-from_err, IfOk-weaker, inl, inr, is_last, length, of_err}
-use Rattle.determinize_lazy.proofs.{on_err_weaker, Place, slice_get, Some, sym, tag-last, true, true≢false, unit-here}
-use Rattle.determinize_lazy.proofs.{unit-last, units, ℕ, ◌+◌, ◌<◌, ◌∙◌, ◌≡◌, ◌≤◌}
+use Rattle.determinize_lazy.proofs.{all_read, ap, come-next, come_twice, cursor_value, end-here, fails-next, false}
+use Rattle.determinize_lazy.proofs.{grows-more, IfOk-from_err, IfOk-weaker, inl, inr, is_last, length, next, of_err}
+use Rattle.determinize_lazy.proofs.{on_err_weaker, place, Place, read_all, slice_get, Some, sym, tag-last, true}
+use Rattle.determinize_lazy.proofs.{unit-here, unit-last, units, ◌∙◌, ◌≡◌}
 use Rattle.determinize_lazy.proofs.lazy.LazyDfa.search_to_end.Goals.{After-ahead}
 use Rattle.determinize_lazy.proofs.lazy.LazyDfa.search_to_end.Goals as goal
-
--- on numbers, without what else is known
-both : (m n : ℕ) → n ≤ m → m ≤ n → m ≡ n
-both m n more fewer = omega arith
-
-next : (n : ℕ) → n < n + 1
-next n = omega arith
 
 -- the search does not stop after the bytes
 more : (g : _) (c : After-ahead g)
@@ -19,14 +12,11 @@ more g c = tag-last c.args.earliest c.tag_at.result.bits (cursor_value c.search_
     c.in_ok-at.at.cursor) c.tag_at.ensures c.is_last.ensures c.if-is_last.false
 
 -- so all of them are read
-ahead : (g : _) (c : After-ahead g)
-    → (c.in_ok-at.at.read ≡ length c.args.text.now.bytes)
+ahead : (g : _) (c : After-ahead g) → (c.in_ok-at.at.read ≡ length c.args.text.now.bytes)
     × (slice_get (units c.args.text.now) c.in_ok-at.at.read ≡ Some c.ahead.result)
 ahead g c =
-    let all : c.in_ok-at.at.read ≡ length c.args.text.now.bytes = elim c.in_ok-at.ensures.stopped [
-      | inl all ↦ both _ _ all c.in_ok-at.ensures.at.within
-      | inr last ↦ absurd (true≢false (sym last ∙ more g c))
-    ] in
+    let all = read_all c.args.earliest _ (place c.search_bytes.new.self c.in_ok-at.at) c.in_ok-at.ensures.stopped
+    c.in_ok-at.ensures.at.within (more g c) in
     (all, unit-last c.args.text.now c.in_ok-at.at.read all ∙ ap Some (sym c.ahead.ensures))
 
 pub returns-in_err-at : goal.returns-in_err-at

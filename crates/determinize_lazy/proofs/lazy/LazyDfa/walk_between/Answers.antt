@@ -1,11 +1,8 @@
 use Rattle.determinize_lazy.proofs.{ap, between, cache, future, has_read, IfOk-weaker, IsCacheAfter, LazyValue, List}
-use Rattle.determinize_lazy.proofs.{Option, read_none, start_value, subst, Text, units, ℕ, ◌∙◌}
+use Rattle.determinize_lazy.proofs.{Option, start_value, subst, Text, units, ℕ, ◌∙◌}
 use Rattle.determinize_core.proofs.walk.ReturnedWalk.{is_walk}
 use Rattle.determinize_core.specs.Chain.{chain}
 use Rattle.determinize_lazy.proofs.lazy.LazyDfa.walk_between.Goals as goal
-
-pub returns-in_err-first-clause-cache : goal.returns-in_err-first-clause-cache
-returns-in_err-first-clause-cache g c = read_none c.from_residual.ensures.0 c.in_err-first.ensures.unchanged
 
 pub returns : goal.returns
 unfolding chain

@@ -1,5 +1,5 @@
-use Rattle.determinize_lazy.proofs.{between, is-search, is_nonempty, none_left, not, rules, sym, ◌++◌, ◌∙◌, ◌≡◌}
-use Rattle.determinize_engine.proofs.Scanning.{settled}
+use Rattle.determinize_lazy.proofs.{between, is-search, is_nonempty, none_left, not, rules, settled, sym, ◌++◌, ◌∙◌}
+use Rattle.determinize_lazy.proofs.{◌≡◌}
 use Rattle.determinize_lazy.proofs.scan.Scan.is_over.Goals as goal
 
 pub returns-clause-settled : goal.returns-clause-settled
