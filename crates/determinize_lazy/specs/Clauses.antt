@@ -1,4 +1,4 @@
--- The names that the clauses of this crate have in common: of the crates below, and of its own.
+-- The names that the clauses of this crate have in common: of the crates below, and of this one.
 pub use Rattle.determinize_below.specs.ByteClasses.{AreClassesOf, Classes}
 pub use Rattle.determinize_below.specs.Nfa.{AllResolve, IsAccepted}
 pub use Rattle.determinize_below.specs.Search.{is_done}

@@ -9,7 +9,7 @@ use Rattle.determinize_lazy.proofs.Common.{Contains-append_right, drop_all, eqb-
 use Rattle.determinize_lazy.proofs.Common.{get_or-set_same, HasCome, HasMatchOf, inl, inr, is_last, IsAccepted}
 use Rattle.determinize_lazy.proofs.Common.{IsMarking, length, length-set, List, listed_from, listed_over, MatchKind}
 use Rattle.determinize_lazy.proofs.Common.{nat_eq, next_place, Nfa, none_left, Option, Place, refl, slice_get}
-use Rattle.determinize_lazy.proofs.Common.{slice_set, Some, start_for, step, subst, take, take_more, text_of, true, ℕ}
+use Rattle.determinize_lazy.proofs.Common.{slice_set, Some, start_for, subst, take, take_more, text_of, true, ℕ}
 use Rattle.determinize_lazy.proofs.Common.{◌++◌, ◌+◌, ◌<◌, ◌↔◌, ◌∙◌, ◌∷◌, ◌≡◌, ◌≤◌, ◌⊎◌}
 use Rattle.determinize_lazy.proofs.finding.Reported.{listed-come, listed-matches, listed-over, matches-listed}
 use Rattle.determinize_lazy.proofs.walking.CachedWalks.{drop-one}
@@ -50,7 +50,7 @@ marked_twice {now = now} xs ys are more = record {
   );
 }
 
--- a pattern that has a flag, or none
+-- one pattern, which is left out past the last flag
 mark_one : {now new : List Bool} (x : ℕ)
     → ((x < length now) × (new ≡ slice_set now x true)) ⊎ ((length now ≤ x) × (new ≡ now))
     → AreMarked now (Contains (x ∷ [])) new
@@ -69,7 +69,7 @@ pub mark-next : {old now new : List Bool} (ps : List ℕ) (i x : ℕ) → AreMar
     → i < length ps → x ≡ get_or ps i 0
     → ((x < length now) × (new ≡ slice_set now x true)) ⊎ ((length now ≤ x) × (new ≡ now))
     → AreMarked old (Contains (take (i + 1) ps)) new
-mark-next ps i x are more is step = rw (take_more ps i 0 more, ← is) (marked_twice _ _ are (mark_one x step))
+mark-next ps i x are more is new_is = rw (take_more ps i 0 more, ← is) (marked_twice _ _ are (mark_one x new_is))
 
 -- before anything is marked
 pub marking-first : {old : List Bool} {all rest : List ℕ} → rest ≡ all → IsMarking old all old rest

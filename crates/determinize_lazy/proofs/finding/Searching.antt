@@ -118,10 +118,10 @@ read_all earliest n q (inl all) within more = omega (arith, all, within)
 read_all earliest n q (inr last) within more = absurd (true≢false (sym last ∙ more))
 
 -- on numbers, without what else is known
-pub next : (n : ℕ) → n < n + 1
-next n = omega arith
+pub below_next : (n : ℕ) → n < n + 1
+below_next n = omega arith
 
--- what a search leaves that ends at a position, whatever is returned then
+-- what a search leaves that ends at a position, for each result after that
 pub end-left : {A D E T : Type 0} {earliest : Bool} {us : List (Option ℕ)} {p : Place} {at : Position A}
     {new : LazyValue} → EndsAt {E = D} earliest us p (Ok at) new → (r : Result T E)
     → IsLeftBy earliest us p r (cache new)

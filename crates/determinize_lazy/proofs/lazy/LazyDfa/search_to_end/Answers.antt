@@ -1,6 +1,6 @@
-use Rattle.determinize_lazy.proofs.{all_read, ap, come-next, come_twice, cursor_value, end-here, fails-next, false}
-use Rattle.determinize_lazy.proofs.{grows-more, IfOk-from_err, IfOk-weaker, inl, inr, is_last, length, next, of_err}
-use Rattle.determinize_lazy.proofs.{on_err_weaker, place, Place, read_all, slice_get, Some, sym, tag-last, true}
+use Rattle.determinize_lazy.proofs.{all_read, ap, below_next, come-next, come_twice, cursor_value, end-here, fails-next}
+use Rattle.determinize_lazy.proofs.{false, grows-more, IfOk-from_err, IfOk-weaker, inl, inr, is_last, length, of_err}
+use Rattle.determinize_lazy.proofs.{on_err_weaker, Place, place, read_all, slice_get, Some, sym, tag-last, true}
 use Rattle.determinize_lazy.proofs.{unit-here, unit-last, units, ◌∙◌, ◌≡◌}
 use Rattle.determinize_lazy.proofs.lazy.LazyDfa.search_to_end.Goals.{After-ahead}
 use Rattle.determinize_lazy.proofs.lazy.LazyDfa.search_to_end.Goals as goal
@@ -46,7 +46,7 @@ returns g c =
       place = IfOk-weaker c.advance.result _ _ (λ at n. sym (end-here
           (come_twice h (come-next (ahead g d).1 (more g d) n.place n.grows))
           (inl (rw (ap (λ (p : Place). p.read) n.place)
-          (all_read c.args.text.now (next c.in_ok-at.at.read) (ahead g d).0))))) c.advance.ensures.next;
+          (all_read c.args.text.now (below_next c.in_ok-at.at.read) (ahead g d).0))))) c.advance.ensures.next;
       failed = on_err_weaker c.advance.result (fails-next h (ahead g d).1 (more g d)) c.advance.ensures.failed;
       grows = grows-more h.grows c.advance.ensures.grows;
     }
