@@ -34,17 +34,17 @@ pub use Rattle.determinize_lazy.specs.Cache.{needs_tested, shared_by}
 pub use Rattle.determinize_lazy.specs.Clauses.{AreClassesOf, AreMarked, AreSomeMarked, cache, cache_bytes, Classes}
 pub use Rattle.determinize_lazy.specs.Clauses.{classes_from, cursor_value, EachWalkComputesFew, Grows, HasMatch}
 pub use Rattle.determinize_lazy.specs.Clauses.{HasMatchOf, HasRead, HasSearched, HasSearchedIn, is_cached, IsCursor}
-pub use Rattle.determinize_lazy.specs.Clauses.{IsFoundBeforeLast, IsSearch, IsWalkedTo, most_bytes, slot_number}
-pub use Rattle.determinize_lazy.specs.Clauses.{start_for, step_of, text_of}
+pub use Rattle.determinize_lazy.specs.Clauses.{IsSearch, IsWalkedTo, most_bytes, slot_number, start_for, step_of}
+pub use Rattle.determinize_lazy.specs.Clauses.{text_of}
 pub use Rattle.determinize_lazy.specs.Marks.{IsMarked}
 pub use Rattle.determinize_lazy.specs.Plenty.{HasRoom, KeepsAll, missing, with_step, with_walk}
 pub use Rattle.determinize_lazy.specs.Private.{AreStarts, cached_place, CachedPosition, ends_at, EndsAt, Fails}
 pub use Rattle.determinize_lazy.specs.Private.{first_place, GoesTo, GoesToCached, HasCome, HasStopped, IsCacheAfter}
 pub use Rattle.determinize_lazy.specs.Private.{IsCachedPosition, IsCutOffAt, IsFailedStep, IsFollowed, IsKnown, IsLazy}
 pub use Rattle.determinize_lazy.specs.Private.{IsLeftBy, IsMarking, IsNext, IsOver, IsOverText, IsPieceRead, IsPosition}
-pub use Rattle.determinize_lazy.specs.Private.{IsReady, IsShort, IsSound, IsStarted, IsStateOf, IsStepped, IsWalking}
-pub use Rattle.determinize_lazy.specs.Private.{later_by, listed, listed_from, listed_over, next_place, place, Place}
-pub use Rattle.determinize_lazy.specs.Private.{Position, start_slot, viewed, with_cursor}
+pub use Rattle.determinize_lazy.specs.Private.{IsReady, IsSound, IsStateOf, IsStepped, IsWalking, later_by, listed}
+pub use Rattle.determinize_lazy.specs.Private.{listed_from, listed_over, next_place, place, Place, Position, start_slot}
+pub use Rattle.determinize_lazy.specs.Private.{viewed, with_cursor}
 pub use Rattle.determinize_table.proofs.Common.{empty, in_one_class, IsAt, IsKept, IsTable, list_any-from_Contains}
 pub use Rattle.determinize_table.proofs.Common.{same_unit, shares, StoredTable, Table, table_of, tag_in, tag_of}
 pub use Rattle.determinize_table.proofs.Common.{with_transition, with_value}
@@ -62,7 +62,7 @@ pub use Rattle.std.proofs.lemmas.List.Elements.{Contains-append_left, Contains-a
 pub use Rattle.std.proofs.lemmas.Result.{IfOk-from_err, on_err_weaker, on_ok_weaker}
 pub use Rattle.std.specs.List.{count_by, sum_by}
 pub use Rattle.std.specs.Option.{option_copied}
-pub use Rattle.std.specs.Prelude.{All as Each, IfOk, nat_le, OnErr, OnOk, slice_index_or, ◌↔◌}
+pub use Rattle.std.specs.Prelude.{All as Each, nat_le, OnErr, OnOk, slice_index_or, ◌↔◌}
 pub use Rattle.std.specs.Result.{IsErr}
 unfoldable pub use Rattle.determinize_core.proofs.Common.{chain, has, have_after, reach, step}
 unfoldable pub use Rattle.determinize_start.specs.LookTables.{from_word_at_start, half_crlf_at_start, have_at_start}

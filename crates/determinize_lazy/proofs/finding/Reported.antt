@@ -6,22 +6,17 @@
 use Rattle.determinize_lazy.proofs.Common.{[], Accepts, after_at, All, ap, append-nil, arith, by_cases, by_test, chain}
 use Rattle.determinize_lazy.proofs.Common.{Contains, Contains-append_cases, Contains-append_left, Contains-append_right}
 use Rattle.determinize_lazy.proofs.Common.{dead, dead_stays, drop, drop-drop, ends_at, false, future, future_is, get_or}
-use Rattle.determinize_lazy.proofs.Common.{HalfMatch, HasCome, IfSome, is-search, is_last, is_nonempty, IsAccepted}
-use Rattle.determinize_lazy.proofs.Common.{IsFarthestMatch, last_match, LeftmostFirst, length, length-tail, List}
-use Rattle.determinize_lazy.proofs.Common.{listed, listed_from, listed_over, MatchKind, next_place, Nfa, None, not_none}
-use Rattle.determinize_lazy.proofs.Common.{of_some, Option, Place, refl, slice_get, slice_get-get_or, Some, start_value}
-use Rattle.determinize_lazy.proofs.Common.{step, step_over, suc, sym, Text, true, true≢false, units, Value, zero, ℕ}
-use Rattle.determinize_lazy.proofs.Common.{◌++◌, ◌<◌, ◌∙◌, ◌∷◌, ◌≡◌, ◌≤◌}
+use Rattle.determinize_lazy.proofs.Common.{HalfMatch, HasCome, IfSome, is-search, is_last, IsAccepted, IsFarthestMatch}
+use Rattle.determinize_lazy.proofs.Common.{last_match, LeftmostFirst, length, length-tail, List, listed, listed_from}
+use Rattle.determinize_lazy.proofs.Common.{listed_over, MatchKind, next_place, Nfa, None, not_none, of_some, Option}
+use Rattle.determinize_lazy.proofs.Common.{Place, refl, slice_get, slice_get-get_or, Some, start_value, step, step_over}
+use Rattle.determinize_lazy.proofs.Common.{suc, sym, Text, true, units, Value, zero, ℕ, ◌++◌, ◌<◌, ◌∙◌, ◌∷◌, ◌≡◌, ◌≤◌}
 use Rattle.std.proofs.lemmas.List.FromFn.{length-map-range_with_len}
 use Rattle.determinize_core.proofs.walk.WalkOfRuns.{leftmost_walk, walk_of_all}
 
 -- a value at which a search for the earliest match continues lists nothing
 lists_none : (v : Value) → is_last true v ≡ false → v.patterns ≡ []
-lists_none v more = none v.patterns (grind (arith, more))
-  where
-    none : (ps : List ℕ) → is_nonempty ps ≡ false → ps ≡ []
-    none [] e = refl
-    none (p ∷ ps) e = absurd (true≢false e)
+lists_none v more = grind (arith, more)
 
 module _ (nfa : Nfa) (kind : MatchKind) where
   dead_lists : (us : List (Option ℕ)) → listed nfa kind dead us ≡ []

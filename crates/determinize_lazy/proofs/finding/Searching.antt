@@ -3,24 +3,24 @@
 -- Used by: the functions of `cached.rt`, `search.rt` and `scan.rt`.
 -- Idea: where a search ends depends only on the place where it is and on the units that are left; and the place where
 -- it ends has the last match and the cache of the walk over the units that it reads.
-use Rattle.determinize_lazy.proofs.Common.{[], after_walk, ap, arith, Asked, Bool, by_test, cache, Cache, Cached}
+use Rattle.determinize_lazy.proofs.Common.{[], after_walk, ap, arith, Asked, Bool, by_test, Cache, cache, Cached}
 use Rattle.determinize_lazy.proofs.Common.{cached_place, CachedPosition, chain, cursor_value, dead, Decides, drop}
 use Rattle.determinize_lazy.proofs.Common.{drop_all, ended_at, ends_at, EndsAt, false, first_place, future, GoesTo}
 use Rattle.determinize_lazy.proofs.Common.{Grows, HalfMatch, HasCome, HasMatch, HasStopped, inl, inr, is-search}
-use Rattle.determinize_lazy.proofs.Common.{is_last, is_last_tag, is_nonempty, is_some, IsAccepted, IsAt}
-use Rattle.determinize_lazy.proofs.Common.{IsCachedPosition, IsCutOffAt, IsFailedStep, IsLeftBy, IsNext, IsOver}
-use Rattle.determinize_lazy.proofs.Common.{IsOverText, IsSearch, IsSound, IsTarget, last_from, last_from-first}
-use Rattle.determinize_lazy.proofs.Common.{last_from-next, last_from-over, last_match, LazyValue, length, length-map}
-use Rattle.determinize_lazy.proofs.Common.{List, map, match-decides, match_of, match_reported, next_place, None}
-use Rattle.determinize_lazy.proofs.Common.{none_left, Ok, on_err_weaker, Option, option_or, place, Place, Position}
-use Rattle.determinize_lazy.proofs.Common.{refl, Result, slice_get, slice_get-get_or, slice_get_within, slice_index_or}
-use Rattle.determinize_lazy.proofs.Common.{Some, start_for, start_value, step, step_of, subst, sym, tag_in, tag_of}
-use Rattle.determinize_lazy.proofs.Common.{Text, text_of, true, true≢false, units, units_read, Value, value_after}
-use Rattle.determinize_lazy.proofs.Common.{with_cursor, ℕ, ◌&&◌, ◌+◌, ◌<◌, ◌∙◌, ◌∷◌, ◌≡◌, ◌≤◌}
+use Rattle.determinize_lazy.proofs.Common.{is_last, is_last_tag, is_nonempty, is_some, IsAccepted, IsCachedPosition}
+use Rattle.determinize_lazy.proofs.Common.{IsCutOffAt, IsFailedStep, IsLeftBy, IsNext, IsOver, IsOverText, IsSearch}
+use Rattle.determinize_lazy.proofs.Common.{IsSound, IsStepped, IsTarget, last_from, last_from-first, last_from-next}
+use Rattle.determinize_lazy.proofs.Common.{last_from-over, last_match, LazyValue, length, length-map, List, map}
+use Rattle.determinize_lazy.proofs.Common.{match-decides, match_of, match_reported, next_place, None, none_left, Ok}
+use Rattle.determinize_lazy.proofs.Common.{Option, option_or, Place, place, Position, refl, Result, slice_get}
+use Rattle.determinize_lazy.proofs.Common.{slice_get-get_or, slice_get_within, slice_index_or, Some, start_for}
+use Rattle.determinize_lazy.proofs.Common.{start_value, step_of, subst, sym, tag_in, tag_of, Text, text_of, true}
+use Rattle.determinize_lazy.proofs.Common.{true≢false, units, units_read, Value, value_after, with_cursor, ℕ, ◌&&◌, ◌+◌}
+use Rattle.determinize_lazy.proofs.Common.{◌<◌, ◌∙◌, ◌∷◌, ◌≡◌, ◌≤◌}
 use Rattle.determinize_lazy.proofs.steps.Rule.{grows-more, grows_none}
 use Rattle.determinize_lazy.proofs.walking.CachedWalks.{cut_off-first, cut_off-later, drop-one, left_whole}
 use Rattle.determinize_table.specs.declared.tag.LastMatch.{LastMatch}
-use Rattle.determinize_lazy.proofs.steps.Cursors.{cached_step, cached_target}
+use Rattle.determinize_lazy.proofs.steps.Cursors.{stepped_at}
 
 -- what the tag of a value says: whether a search ends there
 pub tag-last : (earliest : Bool) (bits : ℕ) (v : Value) {test answer : Bool} → tag_in bits ≡ tag_of v
@@ -79,18 +79,16 @@ module _ {earliest : Bool} {us : List (Option ℕ)} {p : Place} where
         → IsFailedStep q.cache q.value u new → IsCutOffAt earliest p (drop p.read us) new
     fails-next {u} at more failed = h.failed _ (rw (drop-one us q.read u at, more) (cut_off-first failed))
 
-    -- what a search from there returns and leaves
-    pub over-more : {E : Type 0} {r : Result (Option HalfMatch) E} {new : Cache}
-        → IsOver earliest (drop q.read us) q r new → IsOver earliest (drop p.read us) p r new
-    over-more {r = r} o = record {
-      last = rw (← h.ends) o.last;
-      left = record {
-        after = rw (← (end-is earliest (drop p.read us) p).0, ← h.ends, (end-is earliest (drop q.read us) q).0)
-            o.left.after;
-        failed = on_err_weaker r (h.failed _) o.left.failed;
-        grows = grows-more h.grows o.left.grows;
-      };
-    }
+    -- what a search returns and leaves that ends from there on
+    pub over-end : {A D E : Type 0} {at : Position A} {new : LazyValue} {found : Option HalfMatch}
+        → EndsAt {E = D} earliest (drop q.read us) q (Ok at) new → found ≡ (place new at).last
+        → IsOver {E = E} earliest (drop p.read us) p (Ok found) (cache new)
+    over-end e is =
+        let end = e.place ∙ h.ends in record {
+          last = is ∙ ap (λ (q : Place). q.last) end;
+          left = left_whole _ (ap (λ (q : Place). q.cache) end ∙ (end-is earliest (drop p.read us) p).0)
+              (grows-more h.grows e.grows);
+        }
 
     -- a search that has stopped
     module _ (stopped : HasStopped earliest (length us) q) where
@@ -167,18 +165,11 @@ pub next-cached : (x : LazyValue) → IsSound (cache x) → (at : CachedPosition
 next-cached x is at position u id looked bits tagged earliest told more last found =
     let v : Value = slice_index_or x.states at.id dead in
     let there : slice_get x.states at.id ≡ Some v = slice_get-get_or x.states at.id dead position.ready.cursor in
-    let w : IsAt {A = Unit {0}} x.states (Cached id) (step x.nfa x.kind v u) =
-    cached_target (cache x) v u id is.table (looked v there) in (
+    let s : IsStepped {A = Unit {0}} {E = Unit {0}} x v u (Ok (Cached id)) x = stepped_at x v u id is (looked v there) in (
       tag-last earliest bits v (tagged v there) told more,
       record {
-        position = record {
-          ready = record { cursor = w.cursor_is; known = tt };
-          unmatched = λ e. absurd (omega arith);
-        };
-        place =
-            let last_is = found position.unmatched in
-            let same = cached_step (cache x) v u id is.table (looked v there) in
-            cc (tagged v there, w.value);
+        position = record { ready = s.ready; unmatched = λ e. absurd (omega arith) };
+        place = let last_is = found position.unmatched in cc (tagged v there, s.value, s.after);
         grows = grows_none;
       },
     )

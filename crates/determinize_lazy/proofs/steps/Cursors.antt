@@ -1,36 +1,28 @@
 -- A step over a cached transition: what a lookup returns is the state that follows.
--- Main statements: cached_target, cached_step, stepped_at, followed-next.
+-- Main statements: stepped_at, absent-at, followed-next.
 -- Used by: `step`, `compute`, `follow_bytes`, and searches of what is cached.
 -- Idea: each cached transition is a step of the DFA, and the step over it changes nothing.
-use Rattle.determinize_lazy.proofs.Common.{[], after_step, ap, arith, cache, Cache, Cached, Cursor, cursor_value, dead}
-use Rattle.determinize_lazy.proofs.Common.{false, get_or, get_or_from_slice_get, is_cached, is_some, IsAt, IsCursor}
-use Rattle.determinize_lazy.proofs.Common.{IsFollowed, IsSound, IsStepped, IsTable, IsTarget, LazyValue, List}
-use Rattle.determinize_lazy.proofs.Common.{not_source, Ok, Option, refl, slice_get, slice_get-get_or, Some, step_of}
-use Rattle.determinize_lazy.proofs.Common.{true, Uncached, Value, ℕ, ◌++◌, ◌+◌, ◌∙◌, ◌∷◌, ◌≡◌}
+use Rattle.determinize_lazy.proofs.Common.{[], ap, arith, cache, Cache, Cached, Cursor, cursor_value, dead, false}
+use Rattle.determinize_lazy.proofs.Common.{get_or, get_or_from_slice_get, is_cached, is_some, IsCursor, IsFollowed}
+use Rattle.determinize_lazy.proofs.Common.{IsSound, IsStepped, IsTable, IsTarget, LazyValue, List, not_source, Ok}
+use Rattle.determinize_lazy.proofs.Common.{Option, refl, slice_get, slice_get-get_or, Some, step_of, true, Uncached}
+use Rattle.determinize_lazy.proofs.Common.{Value, ℕ, ◌++◌, ◌+◌, ◌∙◌, ◌∷◌, ◌≡◌}
 use Rattle.determinize_lazy.proofs.walking.CachedWalks.{drop-one, walks-on}
 use Rattle.determinize_lazy.proofs.steps.Rule.{grows_none}
-
-module _ (c : Cache) (v : Value) (u : Option ℕ) (id : ℕ) (is : IsTable (step_of c) c.table)
-    (target : IsTarget c.table v u (Some id)) where
-  there : c.table.target v u ≡ Some (get_or c.table.states id dead)
-  there = target.0 ∙ slice_get-get_or c.table.states id dead target.1
-
-  pub cached_target : {A : Type 0} → IsAt {A = A} c.table.states (Cached id) (step_of c v u)
-  cached_target = record { cursor_is = target.1; value = is.steps v u _ there }
-
-  pub cached_step : c ≡ after_step c v u
-  cached_step = let there_is : is_cached c.table v u ≡ true = ap is_some there in rw there_is refl
 
 -- what a step over a cached transition leaves
 pub stepped_at : {A E : Type 0} (old : LazyValue) (v : Value) (u : Option ℕ) (id : ℕ) → IsSound (cache old)
     → IsTarget (cache old).table v u (Some id) → IsStepped {A = A} {E = E} old v u (Ok (Cached id)) old
-stepped_at {A} old v u id sound target = record {
-  ready = record { cursor = target.1; known = tt };
-  value = (cached_target (cache old) v u id sound.table target {A = A}).value;
-  after = cached_step (cache old) v u id sound.table target;
-  failed = tt;
-  grows = grows_none;
-}
+stepped_at old v u id sound target =
+    let there : (cache old).table.target v u ≡ Some (get_or old.states id dead) =
+    target.0 ∙ slice_get-get_or old.states id dead target.1 in
+    let cached : is_cached (cache old).table v u ≡ true = ap is_some there in record {
+      ready = record { cursor = target.1; known = tt };
+      value = sound.table.steps v u _ there;
+      after = rw cached refl;
+      failed = tt;
+      grows = grows_none;
+    }
 
 -- the transition from a cursor is not cached, if none is from its cached state
 pub absent-at : {A : Type 0} (c : Cache) (cursor : Cursor A) (u : Option ℕ) → IsTable (step_of c) c.table
@@ -48,12 +40,11 @@ pub followed-next : {us : List (Option ℕ)} {c : LazyValue} {from start id read
     → slice_get c.states next ≡ Some w → IsFollowed us c from start before next (read + 1) (done ++ w ∷ [])
 followed-next {us} {c} {id = id} {read} {next} {u = u} {w} sound f here target at =
     let v : Value = get_or c.states id dead in
-    let goes : IsTarget (cache c).table v u (Some next) = target _ (slice_get-get_or c.states id dead f.inside) in
-    let s : IsAt {A = ℕ} c.states (Cached next) (step_of (cache c) v u) =
-    cached_target (cache c) v u next sound.table goes in
+    let s : IsStepped {A = ℕ} {E = ℕ} c v u (Ok (Cached next)) c =
+    stepped_at c v u next sound (target _ (slice_get-get_or c.states id dead f.inside)) in
     let w_is : get_or c.states next dead ≡ w = get_or_from_slice_get c.states next w dead at in record {
-      inside = s.cursor_is;
+      inside = s.ready.cursor;
       further = omega (arith, f.further);
       walking = λ old first walk. rw w_is (walks-on (rw (drop-one us read u here) at f.walking old first walk)
-          (rw (← w_is) s.value) (cached_step (cache c) v u next sound.table goes) grows_none);
+          (rw (← w_is) s.value) s.after grows_none);
     }

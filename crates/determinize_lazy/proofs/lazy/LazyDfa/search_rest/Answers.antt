@@ -1,5 +1,5 @@
-use Rattle.determinize_lazy.proofs.{ap, cache, come_none, end-left, first_place, grows-more, HasCome, IfOk-from_err}
-use Rattle.determinize_lazy.proofs.{left_err, over-more, place, Place, start_value, units, ◌∙◌}
+use Rattle.determinize_lazy.proofs.{ap, cache, come_none, first_place, grows-more, HasCome, IfOk-from_err, left_err}
+use Rattle.determinize_lazy.proofs.{over-end, place, start_value, units}
 use Rattle.determinize_lazy.proofs.lazy.LazyDfa.search_rest.Goals.{in-Some, in-None+in_ok-find_start-in-None}
 use Rattle.determinize_lazy.proofs.lazy.LazyDfa.search_rest.Goals.{After-search_to_end}
 use Rattle.determinize_lazy.proofs.lazy.LazyDfa.search_rest.Goals as goal
@@ -25,9 +25,4 @@ returns-in_err-at g c =
     }
 
 pub returns : goal.returns
-returns g c =
-    over-more (come g (goal.at.returns g c).After-search_to_end)
-    record {
-      last = c.found.ensures ∙ ap (λ (q : Place). q.last) c.in_ok-at.ensures.place;
-      left = end-left c.in_ok-at.ensures _;
-    }
+returns g c = over-end (come g (goal.at.returns g c).After-search_to_end) c.in_ok-at.ensures c.found.ensures
