@@ -45,8 +45,7 @@ marked_twice {now = now} xs ys are more = record {
   same = more.same ∙ are.same;
   marks = λ p l. let k : p < length now = omega (arith, are.same, l) in (
     λ m. grind (arith, more.marks p k, are.marks p l, Contains-append_left xs ys p, Contains-append_right xs ys p),
-    λ m. (more.marks p k).1 (by_cases m (λ m. inl ((are.marks p l).1 (inl m)))
-        (λ c. by_cases (Contains-append_cases xs ys p c) (λ c. inl ((are.marks p l).1 (inr c))) (λ c. inr c))),
+    λ m. grind (arith, more.marks p k, are.marks p l, Contains-append_cases xs ys p),
   );
 }
 

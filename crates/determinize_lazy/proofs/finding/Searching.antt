@@ -165,7 +165,8 @@ pub next-cached : (x : LazyValue) → IsSound (cache x) → (at : CachedPosition
 next-cached x is at position u id looked bits tagged earliest told more last found =
     let v : Value = slice_index_or x.states at.id dead in
     let there : slice_get x.states at.id ≡ Some v = slice_get-get_or x.states at.id dead position.ready.cursor in
-    let s : IsStepped {A = Unit {0}} {E = Unit {0}} x v u (Ok (Cached id)) x = stepped_at x v u id is (looked v there) in (
+    let s : IsStepped {A = Unit {0}} {E = Unit {0}} x v u (Ok (Cached id)) x =
+    stepped_at x v u id is (looked v there) in (
       tag-last earliest bits v (tagged v there) told more,
       record {
         position = record { ready = s.ready; unmatched = λ e. absurd (omega arith) };
