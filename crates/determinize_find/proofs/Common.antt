@@ -26,13 +26,14 @@ pub use Rattle.determinize_find.specs.Laws.{EachInputHasMatches, EachStartIsCove
 pub use Rattle.determinize_find.specs.LeftmostIn.{is_anchored, IsLeftmostIn, latest, moved}
 pub use Rattle.determinize_find.specs.Matches.{AreApart, AreMatches, BeginsAt, Covers, from, is_touching, IsEmptyAt}
 pub use Rattle.determinize_find.specs.Matches.{IsNext, IsTaken, touches}
-pub use Rattle.determinize_find.specs.Private.Begins.{IsBeginOf, IsEnded, IsEndOf}
+pub use Rattle.determinize_find.specs.Private.Begins.{IsBeginOf, IsEnded}
 pub use Rattle.determinize_find.specs.Private.Left.{left}
 pub use Rattle.determinize_find.specs.Private.Windows.{end_before, HasMoved, IsCertain, IsFresh, with_bytes, with_scan}
 pub use Rattle.determinize_find.specs.Private.Windows.{without_first}
 pub use Rattle.determinize_find.specs.Streams.{before, IsAdvance, IsEndScan, IsFed, IsFinished, IsFoundInBlock}
-pub use Rattle.determinize_find.specs.Streams.{IsFrontFed, IsKept, IsKeptScan, IsPartFed, IsScanOf, IsSearching, IsStream}
-pub use Rattle.determinize_find.specs.Streams.{KeepsFew, KeptFewAt, KeptFewInBlocks, left_in, place, Streamed, whole}
+pub use Rattle.determinize_find.specs.Streams.{IsFrontFed, IsKept, IsKeptScan, IsPartFed, IsScanOf, IsSearching}
+pub use Rattle.determinize_find.specs.Streams.{IsStream, KeepsFew, KeptFewAt, KeptFewInBlocks, left_in, place, Streamed}
+pub use Rattle.determinize_find.specs.Streams.{whole}
 pub use Rattle.determinize_lazy.proofs.steps.Rule.{of_err}
 pub use Rattle.determinize_nfa.proofs.prefixes.AfterPrefix.{none_leaves, parted, pass_all, shape, stays_out, u_not_a}
 pub use Rattle.determinize_nfa.proofs.prefixes.AfterPrefix.{u_not_x, unshape}

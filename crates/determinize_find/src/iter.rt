@@ -4,7 +4,6 @@ ghost use Rattle.std.specs.Prelude.{◌≡◌, ◌+◌, ◌≤◌, None, false, 
 ghost use Rattle.std.specs.Option.{IfSome};
 ghost use Rattle.determinize_engine.specs.Searches.{has_start};
 ghost use Rattle.determinize_find.specs.Cursors.{after_match};
-ghost use Rattle.determinize_find.specs.LeftmostIn.{IsLeftmostIn};
 ghost use Rattle.determinize_find.specs.Matches as matches;
 ghost use Rattle.determinize_find.specs.Matches.{AreMatches, IsNext};
 
@@ -38,10 +37,7 @@ impl<'h> Searcher<'h> {
         requires { has_start input.anchored ≡ true }
         ensures { result ≡ record { asked = input.entry; before = None } }
     {
-        Searcher {
-            input,
-            last_match_end: None,
-        }
+        Searcher::after(input, None)
     }
 
     /// Returns a cursor behind a match that ended where the input starts, if there was one.

@@ -1,8 +1,8 @@
 //! All matches of a text that comes in pieces, as from a socket or a file.
 
-ghost use Rattle.std.specs.Prelude.{◌≡◌, ◌++◌, ◌+◌, ◌-◌, ◌<◌, ◌≤◌, ◌∷◌, ◌⊎◌, ◌↔◌};
-ghost use Rattle.std.specs.Prelude.{ℕ, [], List, None, Some};
-ghost use Rattle.std.specs.Prelude.{cond, drop, length, take, true, IfOk, IsSome, OnErr, OnOk};
+ghost use Rattle.std.specs.Prelude.{◌≡◌, ◌++◌, ◌+◌, ◌-◌, ◌<◌, ◌≤◌, ◌∷◌, ◌⊎◌, ◌↔◌, ℕ, [], List};
+ghost use Rattle.std.specs.Prelude.{None, Some, cond, drop, length, take, true, IfOk, IsSome};
+ghost use Rattle.std.specs.Prelude.{OnErr, OnOk};
 ghost use Rattle.std.specs.List.{slice_range};
 ghost use Rattle.std.specs.Option.{IfNone, IfSome};
 ghost use Rattle.determinize_below.specs.Semantics.{Nfa};
@@ -12,13 +12,15 @@ ghost use Rattle.determinize_find.specs.Idle.{IsIdle};
 ghost use Rattle.determinize_find.specs.LeftmostIn.{moved};
 ghost use Rattle.determinize_nfa.specs.Prefix.{HasPrefixApart};
 ghost use Rattle.determinize_find.specs.Private.Windows.{HasMoved, IsCertain, IsFresh, IsInside};
-ghost use Rattle.determinize_find.specs.Private.Windows.{IsPlaceOf, IsStep, past_match};
-ghost use Rattle.determinize_find.specs.Private.Windows.{with_bytes, with_scan};
+ghost use Rattle.determinize_find.specs.Private.Windows.{IsPlaceOf, IsStep, past_match, with_bytes};
+ghost use Rattle.determinize_find.specs.Private.Windows.{with_scan};
 ghost use Rattle.determinize_find.specs.Streams.{IsAdvance, IsFed, IsFeeding, IsFinished};
-ghost use Rattle.determinize_find.specs.Streams.{IsFoundInBlock, IsKept, IsSearching};
-ghost use Rattle.determinize_find.specs.Streams.{IsStream, KeepsFew, KeptFewInBlocks, count_kept};
-ghost use Rattle.determinize_find.specs.Streams.{count_read, left_in};
+ghost use Rattle.determinize_find.specs.Streams.{IsFoundInBlock, IsKept, IsSearching, IsStream};
+ghost use Rattle.determinize_find.specs.Streams.{KeepsFew, KeptFewInBlocks, count_kept, count_read};
+ghost use Rattle.determinize_find.specs.Streams.{left_in};
 
+use crate::certain::certain_match;
+use crate::idle::is_idle;
 use crate::iter::{Searcher, is_touching};
 use crate::regex::Regex;
 use determinize_below::{AsNfa, Input, Match};
@@ -201,7 +203,8 @@ impl<A: Allocator + Copy> Pieces<A> {
         }
     }
 
-    /// Returns whether the search under way is idle (`Regex::is_idle`).
+    /// Returns whether the search under way has read some bytes and is idle (`is_idle`), if the
+    /// prefix of the NFA is apart. Then no match begins in them, regardless of what follows.
     fn is_idle<R: AsNfa, B: Engine<Error = AllocError>>(
         &self,
         regex: &Regex<LazyDfa<R, A>, B>,
@@ -213,10 +216,14 @@ impl<A: Allocator + Copy> Pieces<A> {
             → result ≡ true) }
         ensures some { result ≡ true → self.now.start < length self.now.kept }
     {
-        match &self.scan {
-            Some(scan) => regex.is_idle(self.kept.as_slice(), self.start, scan),
-            None => false,
+        let Some(scan) = &self.scan else {
+            return false;
+        };
+        let kept = self.kept.as_slice();
+        if self.start == kept.len() {
+            return false;
         }
+        is_idle(regex.forward().nfa(), scan) && regex.is_apart()
     }
 
     /// Begins a new search at the end of the kept bytes if the one under way is idle: then no match
@@ -267,7 +274,8 @@ impl<A: Allocator + Copy> Pieces<A> {
     }
 
     /// Returns the leftmost match of the kept bytes from the start on, by indices into these bytes,
-    /// if the search under way makes it certain.
+    /// if the search under way makes it certain: then nothing that follows can change it. Such a
+    /// match begins before the last of these bytes ends.
     #[inline(always)]
     fn certain_now<R: AsNfa, B: Engine<Error = AllocError>>(
         &self,
@@ -281,10 +289,23 @@ impl<A: Allocator + Copy> Pieces<A> {
             (λ m. IsInside (length self.now.kept) self.now.start m)) }
         ensures same { regex.new ≡ regex.old }
     {
-        match &self.scan {
-            Some(scan) => regex.certain(self.kept.as_slice(), self.start, scan),
-            None => Ok(None),
+        let Some(scan) = &self.scan else {
+            return Ok(None);
+        };
+        let Some(half) = certain_match(regex.forward().nfa(), scan) else {
+            return Ok(None);
+        };
+        let kept = self.kept.as_slice();
+        let end = self.start + half.offset;
+        let begin = regex.search_start(kept, self.start, end)?;
+        if begin >= kept.len() {
+            return Ok(None);
         }
+        Ok(Some(Match {
+            pattern: half.pattern,
+            start: begin,
+            end,
+        }))
     }
 
     /// Returns the leftmost match of the kept bytes from the start on if it is certain, by indices
@@ -349,30 +370,6 @@ impl<A: Allocator + Copy> Pieces<A> {
         self.is_after_match = true;
     }
 
-    /// Returns the next match in the text if it is certain, and moves the start to its end.
-    #[inline(always)]
-    fn take_next<R: AsNfa, B: Engine<Error = AllocError>>(
-        &mut self,
-        regex: &mut Regex<LazyDfa<R, A>, B>,
-    ) -> Result<Option<Match>, AllocError>
-        ensures read { IsSearching regex.old.nfa self.old → (piece : List ℕ)
-            → IsAdvance regex.old.nfa self.old self.new piece piece result }
-        ensures few { IsSearching regex.old.nfa self.old → IfOk result
-            (λ next. IfNone next (KeepsFew regex.old.nfa self.new)) }
-        ensures kept { IfOk result (λ next. IfSome next (λ m. IsKept self.new m)) }
-        ensures left { left_in [] self.new ≤ left_in [] self.old }
-        ensures fewer { IfOk result (λ next. IfSome next
-            (λ m. left_in [] self.new < left_in [] self.old)) }
-        ensures same { regex.new ≡ regex.old }
-    {
-        let Some(next) = self.next_certain(regex)? else {
-            return Ok(None);
-        };
-        let found = self.in_text(&next);
-        self.pass(&next);
-        Ok(Some(found))
-    }
-
     /// Reads a piece of the text until the next match is certain, and returns that match. The piece
     /// is then what is left of it. `None` means that all of it was read.
     ///
@@ -398,14 +395,19 @@ impl<A: Allocator + Copy> Pieces<A> {
             (λ m. left_in piece.new.now self.new < left_in piece.old.now self.old)) }
         ensures same { regex.new ≡ regex.old }
     {
-        let mut next = self.take_next(regex)?;
-        while next.is_none() && !piece.is_empty() {
+        loop {
+            if let Some(next) = self.next_certain(regex)? {
+                let found = self.in_text(&next);
+                self.pass(&next);
+                return Ok(Some(found));
+            }
+            if piece.is_empty() {
+                return Ok(None);
+            }
             let (block, rest) = piece.split_at(piece.len().min(BLOCK));
             self.keep(regex, block)?;
             *piece = rest;
-            next = self.take_next(regex)?;
         }
-        Ok(next)
     }
 
     /// Returns the bytes of a match, if all of them are kept.

@@ -3,11 +3,10 @@
 //! It takes any NFA that reads forward, with a prefix or without, and no second one. An input may
 //! be read once from each index of its range, or only from its start if it is anchored.
 
-ghost use Rattle.std.specs.Prelude.{◌≡◌, ◌≤◌, cond, false, true, None, IfOk};
+ghost use Rattle.std.specs.Prelude.{◌≡◌, ◌≤◌, cond, false, None, IfOk};
 ghost use Rattle.std.specs.Option.{IfSome};
 ghost use Rattle.determinize_below.specs.declared.search.MatchKind.TheVariants as kinds;
 ghost use Rattle.determinize_find.specs.LeftmostIn as inputs;
-ghost use Rattle.determinize_find.specs.LeftmostIn.{IsLeftmostIn};
 ghost use Rattle.determinize_find.specs.Private.BestAt.{IsBestIn};
 
 use crate::finder::Finder;
@@ -55,6 +54,26 @@ impl<'n, E: Engine, N: Allocator> Plain<'n, E, N> {
     {
         self.engine
     }
+
+    /// Returns the most preferred match that begins at this index of the range, if any.
+    fn find_at(&mut self, input: &Input<'_>, at: usize) -> Result<Option<Match>, E::Error>
+        requires start { input.now.start ≤ at }
+        requires end { at ≤ input.now.end }
+        ensures best { IfOk result (λ found. IsBestIn self.old.nfa input.now at found) }
+        ensures within { IfOk result (λ found. IfSome found
+            (λ m. (m.start ≡ at) × (at ≤ m.end) × (m.end ≤ input.now.end))) }
+        ensures same { self.new ≡ self.old }
+    {
+        let from = input.from_index(at).anchored(Anchored::Yes);
+        let Some(found) = self.engine.search_input(&from)? else {
+            return Ok(None);
+        };
+        Ok(Some(Match {
+            pattern: found.pattern,
+            start: at,
+            end: found.offset,
+        }))
+    }
 }
 
 impl<'n, E: Engine, N: Allocator> Finder for Plain<'n, E, N> {
@@ -63,7 +82,16 @@ impl<'n, E: Engine, N: Allocator> Finder for Plain<'n, E, N> {
     ghost nfa = { λ p. p.nfa };
 
     fn find(&mut self, input: &Input<'_>) -> Result<Option<Match>, E::Error> {
-        find_in_turn(self.nfa, &mut self.engine, input)
+        if input.is_done() {
+            return Ok(None);
+        }
+        let latest = latest_start(self.nfa, input);
+        for at in input.start()..latest {
+            if let Some(found) = self.find_at(input, at)? {
+                return Ok(Some(found));
+            }
+        }
+        self.find_at(input, latest)
     }
 }
 
@@ -78,58 +106,4 @@ fn latest_start<N: Allocator>(nfa: &NFA<N>, input: &Input<'_>) -> usize
     } else {
         input.end()
     }
-}
-
-/// Returns the most preferred match that begins at this index of the range, if any.
-fn find_at<E: Engine>(
-    engine: &mut E,
-    input: &Input<'_>,
-    at: usize,
-) -> Result<Option<Match>, E::Error>
-    requires forward { (E.engine engine.old).nfa.reverse ≡ false }
-    requires kind { (E.engine engine.old).kind ≡ kinds.LeftmostFirst }
-    requires start { input.now.start ≤ at }
-    requires end { at ≤ input.now.end }
-    ensures best { IfOk result
-        (λ found. IsBestIn (E.engine engine.old).nfa input.now at found) }
-    ensures within { IfOk result (λ found. IfSome found
-        (λ m. (m.start ≡ at) × (at ≤ m.end) × (m.end ≤ input.now.end))) }
-    ensures same { E.engine engine.new ≡ E.engine engine.old }
-{
-    let from = input.from_index(at).anchored(Anchored::Yes);
-    let Some(found) = engine.search_input(&from)? else {
-        return Ok(None);
-    };
-    Ok(Some(Match {
-        pattern: found.pattern,
-        start: at,
-        end: found.offset,
-    }))
-}
-
-/// Returns the leftmost match of an input, if any, by a search from one index after another.
-fn find_in_turn<E: Engine, N: Allocator>(
-    nfa: &NFA<N>,
-    engine: &mut E,
-    input: &Input<'_>,
-) -> Result<Option<Match>, E::Error>
-    requires nfa { nfa.now ≡ (E.engine engine.old).nfa }
-    requires forward { (E.engine engine.old).nfa.reverse ≡ false }
-    requires kind { (E.engine engine.old).kind ≡ kinds.LeftmostFirst }
-    ensures leftmost { IfOk result
-        (λ found. IsLeftmostIn (E.engine engine.old).nfa input.now found) }
-    ensures within { IfOk result (λ found. IfSome found (λ m.
-        (input.now.start ≤ m.start) × (m.start ≤ m.end) × (m.end ≤ input.now.end))) }
-    ensures same { E.engine engine.new ≡ E.engine engine.old }
-{
-    if input.is_done() {
-        return Ok(None);
-    }
-    let latest = latest_start(nfa, input);
-    for at in input.start()..latest {
-        if let Some(found) = find_at(engine, input, at)? {
-            return Ok(Some(found));
-        }
-    }
-    find_at(engine, input, latest)
 }

@@ -1,32 +1,27 @@
 //! The leftmost match by two searches: one forward for its end, and one backward for its start.
 
-ghost use Rattle.std.specs.Prelude.{◌≡◌, ◌+◌, ◌++◌, ◌-◌, ◌<◌, ◌≤◌, ℕ, List, None, Option, []};
-ghost use Rattle.std.specs.Prelude.{false, length, min, true, IfErr, IfOk, IsSome, Ok, OnErr, OnOk};
+ghost use Rattle.std.specs.Prelude.{◌≡◌, ◌+◌, ◌++◌, ◌-◌, ◌<◌, ◌≤◌, ℕ, List, None, Option, false};
+ghost use Rattle.std.specs.Prelude.{length, min, true, IfErr, IfOk, Ok, OnErr, OnOk};
 ghost use Rattle.std.specs.Bool.{Decides};
-ghost use Rattle.std.specs.Option.{IfNone, IfSome};
+ghost use Rattle.std.specs.Option.{IfSome};
 ghost use Rattle.determinize_below.specs.Edges.{pattern_count};
 ghost use Rattle.determinize_below.specs.Nfa.{IsAccepted};
 ghost use Rattle.determinize_below.specs.Search.{is_done};
 ghost use Rattle.determinize_below.specs.declared.search.MatchKind.TheVariants as kinds;
 ghost use Rattle.determinize_engine.specs.Searches.{HasMatch, has_start};
-ghost use Rattle.determinize_find.specs.Certain.{IsUnsettled};
-ghost use Rattle.determinize_find.specs.Idle.{IsIdle};
 ghost use Rattle.determinize_find.specs.LeftmostIn.{IsLeftmostIn};
 ghost use Rattle.determinize_find.specs.Matches.{AreMatches};
 ghost use Rattle.determinize_nfa.specs.Prefix.{HasPrefix, HasPrefixApart};
 ghost use Rattle.determinize_find.specs.Endings.{IsEnding};
 ghost use Rattle.determinize_find.specs.FullMatches.{IsFullMatch};
-ghost use Rattle.determinize_find.specs.Private.Begins.{IsBeginOf, IsEndOf};
-ghost use Rattle.determinize_find.specs.Private.Windows.{IsCertain, IsFresh, IsInside};
+ghost use Rattle.determinize_find.specs.Private.Begins.{IsBeginOf};
 ghost use Rattle.determinize_nfa.specs.Reversal.{IsReverseOf, IsTooLarge, most_states};
 ghost use Rattle.determinize_find.specs.Regexes.{IsBackward, IsForward, value_of, with_limit};
 ghost use Rattle.determinize_find.specs.Streams.{IsEndScan, IsScanOf};
 ghost use Rattle.determinize_lazy.specs.MostBytes.{most_bytes};
 ghost use Rattle.determinize_table.specs.CacheBytes.{cache_bytes};
 
-use crate::certain::certain_match;
 use crate::finder::Finder;
-use crate::idle::is_idle;
 use crate::iter::find_all;
 use crate::laws::input_law;
 use crate::prefix::has_prefix_apart;
@@ -119,46 +114,28 @@ impl<F: Engine, B: Engine<Error = F::Error>> Regex<F, B> {
         self.forward.search_input(input)
     }
 
-    /// Returns the farthest index, not before `start`, at which a match begins that has this end.
-    fn search_start(
+    /// Returns the farthest index, not before `start`, at which a match begins that has this end,
+    /// or the end if none has it.
+    pub(crate) fn search_start(
         &mut self,
         haystack: &[u8],
         start: usize,
         end: usize,
-    ) -> Result<Option<usize>, F::Error>
+    ) -> Result<usize, F::Error>
         requires order { start ≤ end }
         requires within { end ≤ length haystack.now }
-        ensures some { IsEndOf self.old.nfa haystack.now start end
-            → IfOk result (λ found. IsSome found) }
-        ensures start { IfOk result (λ found. IfSome found
-            (λ begin. IsBeginOf self.old.nfa haystack.now start end begin)) }
-        ensures inside { IfOk result (λ found. IfSome found
-            (λ begin. (start ≤ begin) × (begin ≤ end))) }
+        ensures start { IfOk result
+            (λ begin. IsBeginOf self.old.nfa haystack.now start end begin) }
+        ensures inside { IfOk result (λ begin. (start ≤ begin) × (begin ≤ end)) }
         ensures same { self.new ≡ self.old }
     {
         let before = Input::new(haystack)
             .range(start..end)
             .anchored(Anchored::Yes);
         let Some(begin) = self.backward.search_input(&before)? else {
-            return Ok(None);
+            return Ok(end);
         };
-        Ok(Some(begin.offset))
-    }
-
-    /// Returns the start of the leftmost match of a haystack from an index on that has this end.
-    #[tactic(auto, using(crate::proofs::leftmost::TwoSearches::ended_within))]
-    fn find_start(&mut self, haystack: &[u8], start: usize, end: usize) -> Result<usize, F::Error>
-        requires { IsEndOf self.old.nfa haystack.now start end }
-        ensures start { IfOk result
-            (λ begin. IsBeginOf self.old.nfa haystack.now start end begin) }
-        ensures inside { IfOk result (λ begin. (start ≤ begin) × (begin ≤ end)) }
-        ensures same { self.new ≡ self.old }
-    {
-        match self.search_start(haystack, start, end)? {
-            Some(begin) => Ok(begin),
-            // A match has this end, so the search backward finds where it begins.
-            None => unreachable!(),
-        }
+        Ok(begin.offset)
     }
 
     /// Returns the leftmost match of an input, if any: no match begins before it, and of those that
@@ -179,7 +156,7 @@ impl<F: Engine, B: Engine<Error = F::Error>> Regex<F, B> {
             return Ok(None);
         };
         let start = match input.get_anchored() {
-            Anchored::No => self.find_start(haystack, first, found.offset)?,
+            Anchored::No => self.search_start(haystack, first, found.offset)?,
             Anchored::Yes | Anchored::Pattern(_) => first,
         };
         Ok(Some(Match {
@@ -401,65 +378,10 @@ impl<R: AsNfa, A: Allocator + Copy, B: Engine<Error = AllocError>> Regex<LazyDfa
         self.forward.feed(scan, piece)
     }
 
-    /// Returns the leftmost match of a haystack from an index on, if it is certain by `scan`, the
-    /// search of those bytes: then nothing that follows the haystack can change it. Such a match
-    /// begins before the end of the haystack. Where the search backward finds none that does,
-    /// `scan` is one of another NFA, and the result is `None`.
-    #[inline(always)]
-    pub(crate) fn certain(
-        &mut self,
-        haystack: &[u8],
-        start: usize,
-        scan: &Scan<A>,
-    ) -> Result<Option<Match>, AllocError>
-        requires within { start ≤ length haystack.now }
-        requires read { scan.now.read ≡ length haystack.now - start }
-        ensures certain { IsScanOf self.old.nfa haystack.now start scan.now → IfOk result
-            (λ found. IfSome found (λ m. IsCertain self.old.nfa haystack.now start m)) }
-        ensures unsettled { IsScanOf self.old.nfa haystack.now start scan.now → IfOk result
-            (λ found. IfNone found (IsUnsettled self.old.nfa scan.now)) }
-        ensures inside { IfOk result (λ found. IfSome found
-            (λ m. IsInside (length haystack.now) start m)) }
-        ensures same { self.new ≡ self.old }
-    {
-        let Some(half) = certain_match(self.forward.nfa(), scan) else {
-            return Ok(None);
-        };
-        let end = start + half.offset;
-        let Some(begin) = self.search_start(haystack, start, end)? else {
-            return Ok(None);
-        };
-        if begin >= haystack.len() {
-            return Ok(None);
-        }
-        Ok(Some(Match {
-            pattern: half.pattern,
-            start: begin,
-            end,
-        }))
-    }
-
     /// Returns whether the prefix of the NFA is apart (`has_prefix_apart`).
-    fn is_apart(&self) -> bool
+    pub(crate) fn is_apart(&self) -> bool
         ensures { Decides result (HasPrefixApart self.now.nfa) }
     {
         self.is_known_apart || has_prefix_apart(self.forward.nfa())
-    }
-
-    /// Returns whether the search of the bytes of a haystack from an index on has read some of
-    /// them and is idle (`is_idle`), if the prefix of the NFA is apart. Then no match begins in
-    /// them, regardless of what follows.
-    pub(crate) fn is_idle(&self, haystack: &[u8], start: usize, scan: &Scan<A>) -> bool
-        requires within { start ≤ length haystack.now }
-        ensures fresh { IsScanOf self.now.nfa haystack.now start scan.now → result ≡ true
-            → IsFresh self.now.nfa haystack.now start }
-        ensures idle { HasPrefixApart self.now.nfa → IsIdle self.now.nfa scan.now
-            → start < length haystack.now → result ≡ true }
-        ensures some { result ≡ true → start < length haystack.now }
-    {
-        if start == haystack.len() {
-            return false;
-        }
-        is_idle(self.forward.nfa(), scan) && self.is_apart()
     }
 }

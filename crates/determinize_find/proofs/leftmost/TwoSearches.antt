@@ -200,9 +200,6 @@ module _ {nfa : Nfa} {haystack : List ℕ} {start end : ℕ} {asked : Asked} {m 
   lie : LiesIn asked m
   lie = lies nfa asked m (rw e.same e.within) e.leftmost
 
-  pub ended_within : (start ≤ end) × (end ≤ length haystack)
-  ended_within = (omega (arith, lie, e.starts, e.ends), omega (arith, lie, e.within, e.ends))
-
   -- what a search backward from its end searches
   same : before_end haystack start end ≡ before_end asked.haystack asked.start (asked.start + own.match.end)
   same = cc (e.same, e.starts, e.ends, own.end)

@@ -1,8 +1,8 @@
 -- What the value of a scan says of the runs so far: whether one that began before is under way, and which match is
 -- certain.
--- Main statements: begun_first, each_busy_has_begun, each_idle_is_fresh, fresh, each_certain_is_preferred, is_ended,
+-- Main statements: begun_first, each_busy_has_begun, each_idle_is_fresh, fresh, each_certain_is_preferred,
 -- certain_is.
--- Used by: `laws::idle_law` and `certain_law`, `Regex::is_idle` and `certain`.
+-- Used by: `laws::idle_law` and `certain_law`, `Pieces::is_idle` and `certain_now`.
 -- Idea: the value of a scan with an NFA state is that of a walk over its bytes. The least run to its first state is
 -- before the one that passes over all bytes, so it left the prefix earlier, and before each other run did. At an idle
 -- place it is that one, so no other run comes there; and where one accepts before, the leftmost match ends there or
@@ -15,8 +15,8 @@ use Rattle.determinize_find.proofs.Common.{by_cases, by_option, by_test, byte_be
 use Rattle.determinize_find.proofs.Common.{certain_match, chain, drop, drop-append-le, each_run_reads_forward}
 use Rattle.determinize_find.proofs.Common.{EachBusyHasBegun, EachCertainIsPreferred, EachIdleIsFresh, end_of, ended_at}
 use Rattle.determinize_find.proofs.Common.{false, from, HalfMatch, HasPrefix, HasPrefixApart, inl, inr, is_capture}
-use Rattle.determinize_find.proofs.Common.{is_match, is_reopened, IsAccepted, IsBeginOf, IsCertain, IsEnded, IsEndOf}
-use Rattle.determinize_find.proofs.Common.{IsEndScan, IsFresh, IsLeftmostIn, IsLeftmostMatch, IsPath, IsScan, IsSettled}
+use Rattle.determinize_find.proofs.Common.{is_match, is_reopened, IsAccepted, IsBeginOf, IsCertain, IsEnded, IsEndScan}
+use Rattle.determinize_find.proofs.Common.{IsFresh, IsLeftmostIn, IsLeftmostMatch, IsPath, IsScan, IsSettled}
 use Rattle.determinize_find.proofs.Common.{last_match, leads_to, LeftmostFirst, length, length-append, length-drop}
 use Rattle.determinize_find.proofs.Common.{length-map, List, map, map-append, Match, moved, Nfa, None, none-some}
 use Rattle.determinize_find.proofs.Common.{none_leaves, Option, option_map, option_or, part_read, parted, pass}
@@ -419,9 +419,6 @@ module _ {nfa : Nfa} {xs : List ℕ} {start : ℕ} {s : Scanned} {h : HalfMatch}
     leftmost = rw append-nil at now.in_haystack;
     ends = ap (λ n. start + n) now.end;
   }
-
-  pub is_ended : IsEndOf nfa xs start (start + h.offset)
-  is_ended = (from (whole xs) start, moved start now.match, ended)
 
   pub certain_is : (begin : ℕ) → IsBeginOf nfa xs start (start + h.offset) begin
       → IsCertain nfa xs start record { pattern = h.pattern; start = begin; end = start + h.offset }

@@ -9,25 +9,24 @@
 use Rattle.determinize_find.proofs.Common.{add-one, All, All-append, All-cons, All-nil, ap, append-nil, append_assoc}
 use Rattle.determinize_find.proofs.Common.{AreApart, AreMatches, arith, Asked, before, Bool, by_cases, by_test}
 use Rattle.determinize_find.proofs.Common.{cases_lt, cond, drop, drop-append-le, drop-drop, drop_all, end_before, false}
-use Rattle.determinize_find.proofs.Common.{false≢true, from, HasMoved, HasPrefixApart, IfOk-weaker, IfSome, IfSome_then, inl, inr, is_capture}
-use Rattle.determinize_find.proofs.Common.{is_touching, IsAdvance, IsCertain, IsEndScan, IsFed, IsFinished}
-use Rattle.determinize_find.proofs.Common.{IsFoundInBlock, IsFresh, IsFrontFed, IsKept, IsLeftmostIn}
-use Rattle.determinize_find.proofs.Common.{IsNext, IsPartFed, IsSearching, IsStream, IsUnsettled, KeepsFew, KeptFewAt}
-use Rattle.determinize_find.proofs.Common.{KeptFewInBlocks, left_in, length, length-append, length-drop, List, map}
-use Rattle.determinize_find.proofs.Common.{Match, min, moved, Nfa, nil_from_length, None, Option, option_map}
-use Rattle.determinize_find.proofs.Common.{option_to_list, pattern_in, pattern_of, place, reach, refl, Result, Scanned}
-use Rattle.determinize_find.proofs.Common.{Some, Streamed, sym, take-append-le, take_all, take_at, tests_capture}
-use Rattle.determinize_find.proofs.Common.{text_of, touches, true, whole, with_bytes, with_scan, without_first, [], ℕ}
-use Rattle.determinize_find.proofs.Common.{◌*◌, ◌++◌, ◌+◌, ◌-◌, ◌<◌, ◌∙◌, ◌∷◌, ◌≡◌, ◌≤◌, ◌⊎◌}
+use Rattle.determinize_find.proofs.Common.{false≢true, from, HasMoved, HasPrefixApart, IfSome, IfSome_then, inl, inr}
+use Rattle.determinize_find.proofs.Common.{is_capture, is_touching, IsCertain, IsEndScan, IsFed, IsFinished}
+use Rattle.determinize_find.proofs.Common.{IsFoundInBlock, IsFresh, IsFrontFed, IsKept, IsLeftmostIn, IsNext, IsPartFed}
+use Rattle.determinize_find.proofs.Common.{IsSearching, IsStream, IsUnsettled, KeepsFew, KeptFewAt, KeptFewInBlocks}
+use Rattle.determinize_find.proofs.Common.{left_in, length, length-append, length-drop, List, map, Match, min, moved}
+use Rattle.determinize_find.proofs.Common.{Nfa, nil_from_length, None, Option, option_map, pattern_in, pattern_of}
+use Rattle.determinize_find.proofs.Common.{place, reach, refl, Scanned, Some, Streamed, sym, take-append-le, take_all}
+use Rattle.determinize_find.proofs.Common.{take_at, tests_capture, text_of, touches, true, whole, with_bytes, with_scan}
+use Rattle.determinize_find.proofs.Common.{without_first, [], ℕ, ◌*◌, ◌++◌, ◌+◌, ◌-◌, ◌<◌, ◌∙◌, ◌∷◌, ◌≡◌, ◌≤◌, ◌⊎◌}
 use Rattle.std.proofs.Math.Seq.{take-append-add}
 use Rattle.std.specs.Prelude.{IsSome}
+use Rattle.determinize_find.specs.Streams.{IsBlockFed}
 use Rattle.determinize_find.specs.Idle.{IsIdle, NothingBefore}
 use Rattle.determinize_find.specs.Private.Windows.{IsWindow, past_match}
 use Rattle.determinize_find.proofs.matches.NextMatch.{next_further, next_plain}
 use Rattle.determinize_find.proofs.matches.OneList.{apart, lies}
 use Rattle.determinize_find.proofs.streams.Rests.{byte_before-append, byte_before-drop, rest-drop, shift_leftmost}
 use Rattle.determinize_find.proofs.streams.Rests.{skip_leftmost, text-whole}
-use Rattle.std.proofs.lemmas.Result.{on_err_weaker}
 
 module _ {nfa : Nfa} {old now new : Streamed} {more : List ℕ} {list mid after : List Match}
     (fed : IsFed nfa old now more list mid) where
@@ -327,6 +326,11 @@ skipped old None t window certain none = absurd (false≢true t)
 skipped {nfa} {now} old (Some m) t window certain none =
     record { fed = λ list. fed_skipped nfa now m list window certain t; searching = rw none tt }
 
+-- where nothing was read
+pub front_none : {nfa : Nfa} {old new : Streamed} {found : List Match} (piece : List ℕ)
+    → IsFed nfa old new [] [] found → IsFrontFed nfa old new piece piece found
+front_none piece h = record { front = []; cut = refl; fed = h }
+
 -- a part of a piece was read, and nothing found in it; then more was read
 pub front_joined : {nfa : Nfa} {old now new : Streamed} {piece rest others : List ℕ} {found : List Match}
     → IsFrontFed nfa old now piece rest [] → IsFrontFed nfa now new rest others found
@@ -337,39 +341,54 @@ front_joined a b = record {
   fed = joined a.fed b.fed;
 }
 
-pub advanced : {E : Type 0} {nfa : Nfa} {old now new : Streamed} {piece rest others : List ℕ}
-    {result : Result (Option Match) E} → IsFrontFed nfa old now piece rest []
-    → IsAdvance nfa now new rest others result → IsAdvance nfa old new piece others result
-advanced {E} {nfa} {old} {now} {new} {piece} {rest} {others} {result} a b = record {
-  fed = IfOk-weaker result _ _ (λ next h. front_joined a h) b.fed;
-  failed = on_err_weaker result (λ (h : IsFrontFed nfa now new rest others []). front_joined a h) b.failed;
-  searching = b.searching;
-}
-
 -- the bytes of a block are counted as kept once they are read
 pub left_kept : (s new : Streamed) (block rest piece : List ℕ) → new ≡ with_scan new.scan (with_bytes block s)
     → block ++ rest ≡ piece → left_in rest new ≤ left_in piece s
 left_kept s new block rest piece kept cut = rw (kept, ← cut) (simp length-append (omega arith))
 
--- where nothing was read
-pub front_none : {nfa : Nfa} {old new : Streamed} {found : List Match} (piece : List ℕ)
-    → IsFed nfa old new [] [] found → IsFrontFed nfa old new piece piece found
-front_none piece h = record { front = []; cut = refl; fed = h }
+-- a piece was read up to its rest, block by block, and nothing was found
+pub record HasReadBlocks (nfa : Nfa) (old now : Streamed) (piece rest : List ℕ) : Type 0 where
+  pub searching : IsSearching nfa now
+  pub fed : IsFrontFed nfa old now piece rest []
+  pub last : (rest ≡ piece) ⊎ IsBlockFed nfa old now piece rest []
 
--- a match that is found with the next block of a piece, where few bytes were kept before
-pub in_block : {nfa : Nfa} {old now new : Streamed} {piece rest others : List ℕ} (next : Option Match)
-    → IsFrontFed nfa old now piece rest [] → KeepsFew nfa now
-    → IsFrontFed nfa now new rest others (option_to_list next) → length rest ≤ length others + 4096
-    → IfSome next (λ m. (others ≡ piece) ⊎ IsFoundInBlock nfa old new piece others m)
-in_block None first few last small = tt
-in_block {nfa} {old} {now} {new} {piece} {rest} {others} (Some m) first few last small = inr record {
-  now = now;
-  block = last.front;
-  small = omega (arith, ap length last.cut, length-append last.front others);
-  first = record { front = first.front; cut = rw last.cut first.cut; fed = first.fed };
-  few = few;
-  last = last.fed;
-}
+pub blocks_none : {nfa : Nfa} {s : Streamed} (piece : List ℕ) → IsSearching nfa s → HasReadBlocks nfa s s piece piece
+blocks_none {nfa} {s} piece searching =
+    record { searching = searching; fed = front_none piece (fed_scan nfa s s.scan []); last = inl refl }
+
+module _ {nfa : Nfa} {old now new : Streamed} {piece rest : List ℕ} (read : HasReadBlocks nfa old now piece rest) where
+  -- nothing more was read
+  pub read_on : {found : List Match} → IsFed nfa now new [] [] found → IsFrontFed nfa old new piece rest found
+  read_on fed = front_joined read.fed (front_none rest fed)
+
+  -- and a match was found, with the last block if one was read
+  pub found_in_block : (m : Match) → IsFed nfa now new [] [] (m ∷ [])
+      → (rest ≡ piece) ⊎ IsFoundInBlock nfa old new piece rest m
+  found_in_block m fed = by_cases read.last inl (λ l. inr record {
+    now = l.now;
+    block = l.block;
+    small = l.small;
+    first = l.first;
+    few = l.few;
+    last = joined_none l.last fed;
+  })
+
+  -- the next block was read
+  pub next_block : {after : Streamed} {block others : List ℕ} → block ++ others ≡ rest → length block ≤ 4096
+      → IsFed nfa now new [] [] [] → KeepsFew nfa new → IsFed nfa new after block [] [] → IsSearching nfa after
+      → HasReadBlocks nfa old after piece others
+  next_block {after} {block} cut small moved few fed searching = record {
+    searching = searching;
+    fed = front_joined (read_on moved) record { front = block; cut = cut; fed = fed };
+    last = inr record {
+      now = new;
+      block = block;
+      small = small;
+      first = rw cut (read_on moved);
+      few = few;
+      last = fed;
+    };
+  }
 
 -- where nothing was read, the first state is the unanchored start, which is no match, so no match is certain
 pub unread_unsettled : {nfa : Nfa} {behind : Option ℕ} {bytes : List ℕ} {s : Scanned} → bytes ≡ []

@@ -14,11 +14,6 @@ pub record IsEnded (nfa : Nfa) (haystack : List ℕ) (start end : ℕ) (asked : 
   pub leftmost : IsLeftmostIn nfa asked (Some m)
   pub ends : m.end ≡ end
 
--- some leftmost match has this end
-abbrev pub IsEndOf : Nfa → List ℕ → ℕ → ℕ → Type 0
-IsEndOf nfa haystack start end =
-    (asked : Asked) × (m : Match) × IsEnded nfa haystack start end asked m
-
 -- each leftmost match that has this end begins here
 abbrev pub IsBeginOf : Nfa → List ℕ → ℕ → ℕ → ℕ → Type 0
 IsBeginOf nfa haystack start end begin =

@@ -1,15 +1,15 @@
 use Rattle.determinize_find.proofs.Common.{ap, arith, IfOk-weaker, ltb-false, None, rules, Some, sym, ◌∙◌, ◌≡◌}
 use Rattle.determinize_find.proofs.leftmost.SearchInTurn.{found_here, found_last, IsLatest, latest_is, more_nothing}
-use Rattle.determinize_find.proofs.plain.find_in_turn.Given.{Over}
-use Rattle.determinize_find.proofs.plain.find_in_turn.Goals.{After-latest_start-latest}
-use Rattle.determinize_find.proofs.plain.find_in_turn.Goals as goal
+use Rattle.determinize_find.proofs.plain.PlainFinder.find.Given.{Over}
+use Rattle.determinize_find.proofs.plain.PlainFinder.find.Goals.{After-latest_start-latest}
+use Rattle.determinize_find.proofs.plain.PlainFinder.find.Goals as goal
 
 -- no match begins behind this index
 latest : (g : Over) (c : After-latest_start-latest g)
-    → IsLatest (g.E.Engine.engine c.args.engine.now).nfa c.args.input.now c.latest_start-latest.result
-latest g c = latest_is _ c.args.input.now c.latest_start-latest.result c.args.nfa.now
-    (omega (arith, ltb-false _ _ (sym c.is_done.ensures ∙ c.if-is_done.false))) c.requires.nfa
-    c.latest_start-latest.ensures
+    → IsLatest c.args.self.now.nfa c.args.input.now c.latest_start-latest.result
+latest g c = latest_is _ c.args.input.now c.latest_start-latest.result c.self.inside.nfa.now
+    (omega (arith, ltb-false _ _ (sym c.is_done.ensures ∙ c.if-is_done.false)))
+    (rw (← c.self.view_is) c.self.invariant.same) c.latest_start-latest.ensures
 
 pub returns-in-Some-clause-leftmost : goal.returns-in-Some-clause-leftmost
 returns-in-Some-clause-leftmost g c =
