@@ -1,5 +1,5 @@
 -- The leftmost match of an input.
-use Rattle.std.specs.Prelude.{◌≡◌, ◌+◌, ◌-◌, ℕ, Bool, Option, None, cond, false, nat_eq, option_map, true}
+use Rattle.std.specs.Prelude.{◌≡◌, ◌+◌, ◌-◌, ◌≤◌, ℕ, Bool, Option, None, cond, false, nat_eq, option_map, true}
 use Rattle.determinize_below.specs.Semantics.{Nfa}
 use Rattle.determinize_below.specs.Search.{Asked, is_done}
 use Rattle.determinize_below.specs.declared.search.Anchored.{Anchored}
@@ -17,6 +17,10 @@ abbrev pub is_anchored : Nfa → Anchored → Bool
 is_anchored nfa No = nat_eq nfa.start_unanchored nfa.start_anchored
 is_anchored nfa Yes = true
 is_anchored nfa (Pattern pattern) = true
+
+-- the match is in the range of an input
+abbrev pub IsWithin : Asked → Match → Type 0
+IsWithin asked m = (asked.start ≤ m.start) × (m.start ≤ m.end) × (m.end ≤ asked.end)
 
 -- the last position of the range at which a match may begin
 abbrev pub latest : Nfa → Asked → ℕ

@@ -1,10 +1,10 @@
 //! The trait of a search for the leftmost match of an input.
 
-ghost use Rattle.std.specs.Prelude.{◌≡◌, ◌≤◌, true, IfOk};
+ghost use Rattle.std.specs.Prelude.{◌≡◌, true, IfOk};
 ghost use Rattle.std.specs.Option.{IfSome};
 ghost use Rattle.determinize_below.specs.Semantics.{Nfa};
 ghost use Rattle.determinize_engine.specs.Searches.{has_start};
-ghost use Rattle.determinize_find.specs.LeftmostIn.{IsLeftmostIn};
+ghost use Rattle.determinize_find.specs.LeftmostIn.{IsLeftmostIn, IsWithin};
 
 use determinize_below::{Input, Match};
 
@@ -26,7 +26,6 @@ pub trait Finder {
     fn find(&mut self, input: &Input<'_>) -> Result<Option<Match>, Self::Error>
         requires start { has_start input.now.anchored ≡ true }
         ensures leftmost { IfOk result (λ found. IsLeftmostIn (nfa self.old) input.now found) }
-        ensures within { IfOk result (λ found. IfSome found (λ m.
-            (input.now.start ≤ m.start) × (m.start ≤ m.end) × (m.end ≤ input.now.end))) }
+        ensures within { IfOk result (λ found. IfSome found (IsWithin input.now)) }
         ensures same { self.new ≡ self.old };
 }

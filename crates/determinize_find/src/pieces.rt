@@ -19,10 +19,9 @@ ghost use Rattle.determinize_find.specs.Streams.{IsFoundInBlock, IsKept, IsSearc
 ghost use Rattle.determinize_find.specs.Streams.{KeepsFew, KeptFewInBlocks, count_kept, count_read};
 ghost use Rattle.determinize_find.specs.Streams.{left_in};
 
-use crate::certain::certain_match;
-use crate::idle::is_idle;
 use crate::iter::{Searcher, is_touching};
 use crate::regex::Regex;
+use crate::{certain_match, is_idle};
 use determinize_below::{AsNfa, Input, Match};
 use determinize_lazy::{Engine, LazyDfa, Scan};
 use std::alloc::{AllocError, Allocator, Global};
@@ -169,25 +168,15 @@ impl<A: Allocator + Copy> Pieces<A> {
         regex: &mut Regex<LazyDfa<R, A>, B>,
     ) -> Result<(), AllocError>
         ensures begun { OnOk result (IsSome self.new.scan) }
-        ensures kept { IsSome self.old.scan → self.new ≡ self.old }
         ensures value { self.new ≡ with_scan self.new.scan self.old }
         ensures searching { IsSearching regex.old.nfa self.old
             → IsSearching regex.old.nfa self.new }
         ensures same { regex.new ≡ regex.old }
     {
         if self.scan.is_none() {
-            let scan = regex.scan(self.kept.as_slice(), self.start)?;
-            self.scan = Some(scan);
+            self.scan = Some(regex.scan(self.kept.as_slice(), self.start)?);
         }
         Ok(())
-    }
-
-    /// Ends the search under way, if there is one.
-    #[inline(always)]
-    fn end_scan(&mut self)
-        ensures { self.new ≡ with_scan None self.old }
-    {
-        self.scan = None;
     }
 
     /// Returns a match in the kept bytes, as a match in the text.
@@ -329,7 +318,7 @@ impl<A: Allocator + Copy> Pieces<A> {
         self.begin_scan(regex)?;
         let next = self.certain_now(regex)?;
         if next.is_some() {
-            self.end_scan();
+            self.scan = None;
             return Ok(next);
         }
         self.settle(regex)?;

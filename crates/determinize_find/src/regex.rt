@@ -9,7 +9,7 @@ ghost use Rattle.determinize_below.specs.Nfa.{IsAccepted};
 ghost use Rattle.determinize_below.specs.Search.{is_done};
 ghost use Rattle.determinize_below.specs.declared.search.MatchKind.TheVariants as kinds;
 ghost use Rattle.determinize_engine.specs.Searches.{HasMatch, has_start};
-ghost use Rattle.determinize_find.specs.LeftmostIn.{IsLeftmostIn};
+ghost use Rattle.determinize_find.specs.LeftmostIn.{IsLeftmostIn, IsWithin};
 ghost use Rattle.determinize_find.specs.Matches.{AreMatches};
 ghost use Rattle.determinize_nfa.specs.Prefix.{HasPrefix, HasPrefixApart};
 ghost use Rattle.determinize_find.specs.Endings.{IsEnding};
@@ -146,8 +146,7 @@ impl<F: Engine, B: Engine<Error = F::Error>> Regex<F, B> {
     pub fn find(&mut self, input: &Input<'_>) -> Result<Option<Match>, F::Error>
         requires start { has_start input.now.anchored ≡ true }
         ensures leftmost { IfOk result (λ found. IsLeftmostIn self.old.nfa input.now found) }
-        ensures within { IfOk result (λ found. IfSome found (λ m.
-            (input.now.start ≤ m.start) × (m.start ≤ m.end) × (m.end ≤ input.now.end))) }
+        ensures within { IfOk result (λ found. IfSome found (IsWithin input.now)) }
         ensures same { self.new ≡ self.old }
     {
         input_law(input);

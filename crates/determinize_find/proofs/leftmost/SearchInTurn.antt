@@ -3,7 +3,7 @@
 -- Used by: `plain::find_at` and `find_in_turn`, all on leftmost matches, and searches in turn of `determinize_linear`.
 -- Idea: the text from a later index is the rest of the text, where runs keep their choices (Shifts), and the first
 -- index with a match is the least one where a run accepts.
-use Rattle.determinize_find.proofs.Common.{Accepts, AcceptsFrom, ap, arith, Asked, before_at, between, by_cases}
+use Rattle.determinize_find.proofs.Common.{Accepts, AcceptsFrom, arith, Asked, before_at, between, by_cases, by_option}
 use Rattle.determinize_find.proofs.Common.{byte_before, cases_lt, cond, drop, drop-drop, drop-take, each_run_moves}
 use Rattle.determinize_find.proofs.Common.{each_run_reads_forward, false, from, HalfMatch, is_anchored, IsLeftmost}
 use Rattle.determinize_find.proofs.Common.{IsLeftmostIn, IsLeftmostMatch, IsSearchResult, latest, le-ltb, LeftmostFirst}
@@ -42,24 +42,19 @@ pub record IsInText (nfa : Nfa) (asked : Asked) (m : Match) : Type 0 where
 pub in_text : {nfa : Nfa} {asked : Asked} {m : Match} → IsLeftmostIn nfa asked (Some m) → IsInText nfa asked m
 in_text {nfa} {asked} {m} h = by_cases (cases_lt asked.end asked.start)
     (λ l. absurd (none-some m (sym (h.done (lt-ltb _ _ l)))))
-    (λ l. go l (h.found (le-ltb _ _ l)))
-  where
-    go : asked.start ≤ asked.end → ((o : Option Match) × IsLeftmost nfa (text_of false asked) (latest nfa asked) o
-        × (Some m ≡ option_map (moved asked.start) o)) → IsInText nfa asked m
-    go l (None, is, e) = cc
-    go l (Some n, (early, is), e) =
-        rw (some_injective m _ e)
-        record { order = l; match = n; early = early; leftmost = is; start = refl; end = refl }
+    (λ l. let (o, is, e) = h.found (le-ltb _ _ l) in
+    by_option o
+    (λ n. absurd (none-some m (sym (rw n at e))))
+    (λ n y. let (early, left) = rw y at is in
+    rw (some_injective m _ (rw y at e))
+    record { order = l; match = n; early = early; leftmost = left; start = refl; end = refl }))
 
 -- without a match the text has none
 pub none_in_text : {nfa : Nfa} {asked : Asked} → IsLeftmostIn nfa asked None → asked.start ≤ asked.end
     → IsLeftmost nfa (text_of false asked) (latest nfa asked) None
-none_in_text {nfa} {asked} h l = go (h.found (le-ltb _ _ l))
-  where
-    go : ((o : Option Match) × IsLeftmost nfa (text_of false asked) (latest nfa asked) o
-        × (None ≡ option_map (moved asked.start) o)) → IsLeftmost nfa (text_of false asked) (latest nfa asked) None
-    go (None, is, e) = is
-    go (Some n, is, e) = cc
+none_in_text h l =
+    let (o, is, e) = h.found (le-ltb _ _ l) in
+    by_option o (λ n. rw n at is) (λ n y. absurd (none-some _ (rw y at e)))
 
 -- the leftmost match of the text is that of the input
 pub leftmost_in : (nfa : Nfa) (asked : Asked) (o : Option Match) → asked.start ≤ asked.end
@@ -121,20 +116,10 @@ module _ (nfa : Nfa) (asked : Asked) (at : ℕ) (forward : nfa.reverse ≡ false
       let accepts = rw z at ((each_run_moves nfa (text_of false asked) base 0 nfa.start_anchored cs i h.pattern).1
       (rw text_is at run.accepts)) in
       let start : at ≡ asked.start + base = omega arith in
-      let end : h.offset ≡ asked.start + (base + i) = omega arith in (
-        Some record { pattern = h.pattern; start = base; end = base + i },
-        (
-          refl,
-          (
-            cs,
-            record {
-              accepts = accepts;
-              preferred = λ ds j y acc. run.preferred ds (j - base) y (here ds j y acc);
-            },
-          ),
-        ),
-        ap Some (λ n. record { pattern = h.pattern; start = start n; end = end n }),
-      )
+      let end : h.offset ≡ asked.start + (base + i) = omega arith in
+      let best : IsBestFrom nfa (text_of false asked) base cs (base + i) h.pattern
+      = record { accepts = accepts; preferred = λ ds j y acc. run.preferred ds (j - base) y (here ds j y acc) } in
+      (Some record { pattern = h.pattern; start = base; end = base + i }, (refl, (cs, best)), cc)
 
 -- no match begins in the range before an index
 abbrev pub NothingBefore : Nfa → Asked → ℕ → Type 0
@@ -142,13 +127,10 @@ NothingBefore nfa asked at = (k : ℕ) → asked.start + k < at → NothingFrom 
 
 pub more_nothing : (nfa now : Nfa) (asked : Asked) (at : ℕ) → now ≡ nfa → asked.start ≤ at
     → NothingBefore nfa asked at → IsBestIn now asked at None → NothingBefore nfa asked (at + 1)
-more_nothing nfa now asked at e l before best k m = by_cases (cases_lt (asked.start + k) at)
+more_nothing nfa now asked at e l before (o, best, is) k m = by_cases (cases_lt (asked.start + k) at)
     (before k)
-    (λ j. let z : at - asked.start ≡ k = omega arith in rw z at (nothing (rw e at best)))
-  where
-    nothing : IsBestIn nfa asked at None → NothingFrom nfa (text_of false asked) (at - asked.start)
-    nothing (None, is, e) = is
-    nothing (Some y, is, e) = cc
+    (λ j. let z : at - asked.start ≡ k = omega arith in
+    by_option o (λ n. rw (e, n, z) at best) (λ n y. absurd (none-some _ (rw y at is))))
 
 -- the most preferred match that begins at a position, where none begins before, is the leftmost
 pub leftmost_match : {nfa : Nfa} {text : Text} (m : Match) (cs : List ℕ)

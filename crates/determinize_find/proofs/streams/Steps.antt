@@ -265,26 +265,16 @@ finished nfa s list after ms window h e =
           (rw (append-nil, before-kept) shifted));
     }
 
--- where the search that was under way is dropped
-pub moved_none : {nfa : Nfa} {old new : Streamed} → new ≡ with_scan None old → HasMoved nfa old new
-moved_none {nfa} {old} e = rw e record { fed = fed_scan nfa old None; searching = tt }
-
 -- one move after another
 pub moved_on : {nfa : Nfa} {old now new : Streamed} → HasMoved nfa old now → HasMoved nfa now new
     → HasMoved nfa old new
 moved_on a b = record { fed = λ list. joined_none (a.fed list) (b.fed list); searching = b.searching }
 
--- where nothing changed
-pub moved_nowhere : {nfa : Nfa} {s : Streamed} → IsSearching nfa s → HasMoved nfa s s
-moved_nowhere {nfa} {s} searching = record { fed = fed_scan nfa s s.scan; searching = searching }
-
--- where a search was begun
-pub moved_begun : {nfa : Nfa} {old new : Streamed} → new ≡ with_scan new.scan old → IsSearching nfa new
-    → HasMoved nfa old new
-moved_begun {nfa} {old} {new} e searching = record {
-  fed = λ list. rw e (fed_scan nfa old new.scan list);
-  searching = searching;
-}
+-- where at most the search changed
+pub moved_begun : {nfa : Nfa} {old new : Streamed} {scan : Option Scanned} → new ≡ with_scan scan old
+    → IsSearching nfa new → HasMoved nfa old new
+moved_begun {nfa} {old} {new} {scan} e searching =
+    record { fed = λ list. rw e (fed_scan nfa old scan list); searching = searching }
 
 -- after the bytes that the search under way does not need are dropped
 module _ (nfa : Nfa) (now : Streamed) {new : Streamed} (within : now.start ≤ length now.kept)

@@ -1,12 +1,14 @@
-use Rattle.determinize_find.proofs.Common.{append-nil, HasMoved, moved, None, of_err, refl, rules, [], ◌++◌, ◌∙◌, ◌∷◌}
-use Rattle.determinize_find.proofs.Common.{◌≡◌}
-use Rattle.determinize_find.proofs.streams.Steps.{front_fed, joined_none, moved_nowhere}
+use Rattle.determinize_find.proofs.Common.{append-nil, HasMoved, IsFed, IsSearching, moved, None, of_err, refl, rules}
+use Rattle.determinize_find.proofs.Common.{[], ◌++◌, ◌∙◌, ◌∷◌, ◌≡◌}
+use Rattle.determinize_find.proofs.streams.Steps.{front_fed, joined_none, moved_begun}
+use Rattle.determinize_find.proofs.pieces.Pieces.read_block.Given.{Over}
+use Rattle.determinize_find.proofs.pieces.Pieces.read_block.Goals.{After-next_certain}
 use Rattle.determinize_find.proofs.pieces.Pieces.read_block.Goals as goal
 
 pub returns-in_err-keep-clause-read : goal.returns-in_err-keep-clause-read
 returns-in_err-keep-clause-read g c searching =
     let move : HasMoved c.args.regex.now.nfa c.args.self.now c.keep.new.self
-    = rw c.in_err-keep.ensures.failed (moved_nowhere searching) in record {
+    = rw c.in_err-keep.ensures.failed (moved_begun refl searching) in record {
       fed = search rules;
       failed = of_err _ (front_fed c.args.block.now refl (move.fed c.args.found.now.items));
       searching = move.searching;
@@ -21,23 +23,25 @@ loop-next-init g c = record {
   );
 }
 
-pub returns-in_err-next-clause-read : goal.returns-in_err-next-clause-read
-returns-in_err-next-clause-read g c searching =
+-- nothing more was read or found
+no_more : (g : Over) (c : After-next_certain g) → IsSearching c.args.regex.now.nfa c.args.self.now
+    → IsFed c.args.regex.now.nfa c.args.self.now c.next_certain.new.self c.args.block.now c.args.found.now.items
+    c.loop-next.found.items × IsSearching c.args.regex.now.nfa c.next_certain.new.self
+no_more g c searching =
     let (fed, now) = c.loop-next.invariant.read searching in
     let move = ((rw c.loop-next.invariant.same at c.next_certain.ensures.step) now).moved in
-    let failed = front_fed [] (append-nil _) (joined_none fed (move.fed c.loop-next.found.items)) in
-    record { fed = search rules; failed = of_err _ failed; searching = move.searching }
+    (joined_none fed (move.fed c.loop-next.found.items), move.searching)
+
+pub returns-in_err-next-clause-read : goal.returns-in_err-next-clause-read
+returns-in_err-next-clause-read g c searching =
+    let (fed, now) = no_more g (goal.at.returns-in_err-next-clause-read g c).After-next_certain searching in
+    record { fed = search rules; failed = of_err _ (front_fed [] (append-nil _) fed); searching = now }
 
 pub returns-in_err-push-clause-read : goal.returns-in_err-push-clause-read
 returns-in_err-push-clause-read g c searching =
-    let (fed, now) = c.loop-next.invariant.read searching in
-    let move = ((rw c.loop-next.invariant.same at c.next_certain.ensures.step) now).moved in
+    let (fed, now) = no_more g (goal.at.returns-in_err-push-clause-read g c).After-next_certain searching in
     let items : c.push.new.self.items ≡ c.loop-next.found.items = search rules in
-    record {
-      fed = search rules;
-      failed = of_err _ (front_fed [] (append-nil _) (rw items (joined_none fed (move.fed c.loop-next.found.items))));
-      searching = move.searching;
-    }
+    record { fed = search rules; failed = of_err _ (front_fed [] (append-nil _) (rw items fed)); searching = now }
 
 pub loop-next-preserved : goal.loop-next-preserved
 loop-next-preserved g c =
@@ -58,9 +62,8 @@ loop-next-preserved g c =
 
 pub returns-clause-read : goal.returns-clause-read
 returns-clause-read g c searching =
-    let (fed, now) = c.loop-next.invariant.read searching in
-    let move = ((rw c.loop-next.invariant.same at c.next_certain.ensures.step) now).moved in
-    record { fed = joined_none fed (move.fed c.loop-next.found.items); failed = tt; searching = move.searching }
+    let (fed, now) = no_more g (goal.at.returns-clause-read g c).After-next_certain searching in
+    record { fed = fed; failed = tt; searching = now }
 
 pub returns-clause-few : goal.returns-clause-few
 returns-clause-few g c searching =

@@ -1,10 +1,10 @@
 use Rattle.determinize_find.proofs.Common.{arith, by_cases, cases_lt, drop, drop_all, false≢true, IfSome_then, length}
-use Rattle.determinize_find.proofs.Common.{rules, sym, [], ◌∙◌, ◌≡◌, ◌≤◌}
-use Rattle.determinize_find.proofs.streams.Steps.{fed_later, moved_nowhere, unread_unsettled}
+use Rattle.determinize_find.proofs.Common.{refl, rules, sym, [], ◌∙◌, ◌≡◌, ◌≤◌}
+use Rattle.determinize_find.proofs.streams.Steps.{fed_later, moved_begun, unread_unsettled}
 use Rattle.determinize_find.proofs.pieces.Pieces.skip_idle.Goals as goal
 
 pub returns-then-not-is_idle-clause-moved : goal.returns-then-not-is_idle-clause-moved
-returns-then-not-is_idle-clause-moved g c searching = moved_nowhere searching
+returns-then-not-is_idle-clause-moved g c searching = moved_begun refl searching
 
 pub returns-then-not-is_idle-clause-idle : goal.returns-then-not-is_idle-clause-idle
 returns-then-not-is_idle-clause-idle g c =
