@@ -52,5 +52,5 @@ pub use Rattle.std.proofs.lemmas.List.{take-append-le, take-take, take_rest}
 pub use Rattle.std.proofs.lemmas.List.Elements.{All-append, All-drop, All-from_get_or, All-take}
 pub use Rattle.std.proofs.lemmas.Option.{IfSome_then, none-some, slice_get_within}
 pub use Rattle.std.specs.List.{slice_range}
-pub use Rattle.std.specs.Prelude.{All, slice_index_or}
+pub use Rattle.std.specs.Prelude.{All, slice_index_or, take}
 pub use Rattle.std.specs.Slice.Iter.{chunks_rest, chunks_size}

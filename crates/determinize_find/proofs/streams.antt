@@ -1,4 +1,3 @@
 pub mod Begun
-pub mod Cuts
 pub mod Rests
 pub mod Steps

@@ -134,19 +134,15 @@ pub record KeepsFew (nfa : Nfa) (s : Streamed) : Type 0 where
   pub idle : HasPrefixApart nfa → IsIdle nfa scan → count_kept s ≤ 1
 
 -- before the last bytes that were read, at most 4096, no match was certain and few bytes were kept;
--- with them these matches were found
-pub record IsBlockFed (nfa : Nfa) (old new : Streamed) (piece rest : List ℕ) (found : List Match)
+-- with them this match was found
+pub record IsFoundInBlock (nfa : Nfa) (old new : Streamed) (piece rest : List ℕ) (m : Match)
     : Type 0 where
   pub now : Streamed
   pub block : List ℕ
   pub small : length block ≤ 4096
   pub first : IsFrontFed nfa old now piece (block ++ rest) []
   pub few : KeepsFew nfa now
-  pub last : IsFed nfa now new block [] found
-
--- the same with one match
-abbrev pub IsFoundInBlock : Nfa → Streamed → Streamed → List ℕ → List ℕ → Match → Type 0
-IsFoundInBlock nfa old new piece rest m = IsBlockFed nfa old new piece rest (m ∷ [])
+  pub last : IsFed nfa now new block [] (m ∷ [])
 
 -- the end of a piece, or of a block of 4096 bytes of it
 abbrev pub IsBlockEnd : List ℕ → ℕ → Type 0

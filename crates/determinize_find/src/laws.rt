@@ -17,6 +17,7 @@ pub fn input_law(input: &Input<'_>)
 }
 
 /// The elements of a slice of bytes are less than 256.
+#[tactic(auto, using(crate::proofs::leftmost::TwoSearches::all_bytes))]
 fn bytes_law(bytes: &[u8])
     ensures { All (λ b. b < 256) bytes.now }
 {}

@@ -150,12 +150,9 @@ impl<A: Allocator + Copy> Pieces<A> {
         }
         self.kept.extend_from_slice(block)?;
         if let Some(scan) = &mut self.scan {
-            match regex.feed(scan, block) {
-                Ok(()) => {}
-                Err(error) => {
-                    self.kept.truncate(before);
-                    return Err(error);
-                }
+            if let Err(error) = regex.feed(scan, block) {
+                self.kept.truncate(before);
+                return Err(error);
             }
         }
         Ok(())

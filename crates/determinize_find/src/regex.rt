@@ -57,6 +57,7 @@ impl<F: Engine, B: Engine<Error = F::Error>> Model for Regex<F, B> {
     ghost invariant = { λ r. IsPair (F.engine r.forward) (B.engine r.backward) r.is_known_apart };
 }
 
+#[tactic(auto, using(crate::proofs::leftmost::TwoSearches::pair_kept))]
 impl<F: Engine, B: Engine<Error = F::Error>> Regex<F, B> {
     /// Returns a search by two DFAs: `forward` finds the ends of matches, and `backward` their
     /// starts. Does not allocate, and no search does if neither DFA does.
@@ -150,13 +151,12 @@ impl<F: Engine, B: Engine<Error = F::Error>> Regex<F, B> {
         ensures same { self.new ≡ self.old }
     {
         input_law(input);
-        let (haystack, first) = (input.haystack(), input.start());
         let Some(found) = self.search_half(input)? else {
             return Ok(None);
         };
         let start = match input.get_anchored() {
-            Anchored::No => self.search_start(haystack, first, found.offset)?,
-            Anchored::Yes | Anchored::Pattern(_) => first,
+            Anchored::No => self.search_start(input.haystack(), input.start(), found.offset)?,
+            Anchored::Yes | Anchored::Pattern(_) => input.start(),
         };
         Ok(Some(Match {
             pattern: found.pattern,

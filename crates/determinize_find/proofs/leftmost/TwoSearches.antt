@@ -116,6 +116,10 @@ module _ {forward backward : EngineValue} {flag : Bool} (pair : IsPair forward b
           (λ l. let e = ending_of l None (λ cs i y acc. false≢true
           (sym f ∙ (d (le-ltb _ _ l)).1 (cs, i, y, rw text_is acc))) in grind arith)
 
+-- two engines of the same values are such a pair too
+pub pair_kept : {f b g c : EngineValue} {flag : Bool} → IsPair f b flag → g ≡ f → c ≡ b → IsPair g c flag
+pair_kept pair e d = rw (e, d) pair
+
 -- what a search backward from the end of a match reads
 abbrev pub before_end : List ℕ → ℕ → ℕ → Asked
 before_end haystack start end = record { haystack = haystack; start = start; end = end; anchored = Yes }

@@ -1,37 +1,37 @@
 -- What the value of a scan says of the runs so far: whether one that began before is under way, and which match is
 -- certain.
--- Main statements: begun_first, each_busy_has_begun, each_idle_is_fresh, fresh, each_certain_is_preferred,
--- certain_is.
+-- Main statements: begun_first, each_busy_has_begun, each_idle_is_fresh, fresh, each_certain_is_preferred, certain_is.
 -- Used by: `laws::idle_law` and `certain_law`, `Pieces::is_idle` and `certain_now`.
--- Idea: the value of a scan with an NFA state is that of a walk over its bytes. The least run to its first state is
+-- Idea: texts that begin with the same bytes have the same units before the end of these, and at it the assertions that
+-- are known are true. The value of a scan with an NFA state is that of a walk over its bytes. The least run to its first state is
 -- before the one that passes over all bytes, so it left the prefix earlier, and before each other run did. At an idle
 -- place it is that one, so no other run comes there; and where one accepts before, the leftmost match ends there or
 -- later. If the first state is a `Match`, the next step lists its pattern and enters no state, so the last match of
 -- each walk is the same, and the leftmost match begins with that run. Where a match that ends before begins depends
 -- only on what is before its end.
-use Rattle.determinize_find.proofs.Common.{AcceptsFrom, add-one, All, All-append, All-drop, All-nil, ap, append-nil}
-use Rattle.determinize_find.proofs.Common.{append_assoc, arith, Assertion, Before, Before-trans, between, Bool}
-use Rattle.determinize_find.proofs.Common.{by_cases, by_option, by_test, byte_before, cases_eq, cases_lt, certain_after}
-use Rattle.determinize_find.proofs.Common.{certain_match, chain, drop, drop-append-le, each_run_reads_forward}
+use Rattle.determinize_find.proofs.Common.{AcceptsFrom, add-one, after_at, All, All-append, All-drop, All-nil, ap}
+use Rattle.determinize_find.proofs.Common.{append-nil, append_assoc, arith, Assertion, Before, Before-trans, before_at}
+use Rattle.determinize_find.proofs.Common.{between, Bool, by_cases, by_option, by_test, byte_before, cases_eq, cases_lt}
+use Rattle.determinize_find.proofs.Common.{certain_after, certain_match, chain, choice_cases, choice_later, choices}
+use Rattle.determinize_find.proofs.Common.{choices_under, cond, drop, drop-append-le, each_run_reads_forward}
 use Rattle.determinize_find.proofs.Common.{EachBusyHasBegun, EachCertainIsPreferred, EachIdleIsFresh, end_of, ended_at}
-use Rattle.determinize_find.proofs.Common.{false, from, HalfMatch, HasPrefix, HasPrefixApart, inl, inr, is_capture}
-use Rattle.determinize_find.proofs.Common.{is_match, is_reopened, IsAccepted, IsBeginOf, IsCertain, IsEnded, IsEndScan}
-use Rattle.determinize_find.proofs.Common.{IsFresh, IsLeftmostIn, IsLeftmostMatch, IsPath, IsScan, IsSettled}
+use Rattle.determinize_find.proofs.Common.{eq-eqb, false, from, HalfMatch, HasPrefix, HasPrefixApart, inl, inr}
+use Rattle.determinize_find.proofs.Common.{is_capture, is_match, is_reopened, IsAccepted, IsBeginOf, IsCertain, IsEnded}
+use Rattle.determinize_find.proofs.Common.{IsEndScan, IsFresh, IsLeftmostIn, IsLeftmostMatch, IsPath, IsScan, IsSettled}
 use Rattle.determinize_find.proofs.Common.{last_match, leads_to, LeftmostFirst, length, length-append, length-drop}
-use Rattle.determinize_find.proofs.Common.{length-map, List, map, map-append, Match, moved, Nfa, None, none-some}
-use Rattle.determinize_find.proofs.Common.{none_leaves, Option, option_map, option_or, part_read, parted, pass}
-use Rattle.determinize_find.proofs.Common.{pass_all, pass_first, pattern_in, pattern_of, patterns_of, patterns_read}
-use Rattle.determinize_find.proofs.Common.{preferred, reach, refl, same_least, Scanned, skip, skip_before, slice_get}
-use Rattle.determinize_find.proofs.Common.{slice_get_within, Some, some_injective, start_value, stays_out, step, suc}
-use Rattle.determinize_find.proofs.Common.{sym, tests_capture, Text, true, u_not_a, u_not_x, unshape, whole}
-use Rattle.determinize_find.proofs.Common.{working_list, zero, [], ℕ, ◌++◌, ◌+◌, ◌<◌, ◌∙◌, ◌∷◌, ◌≡◌, ◌≤◌, ◌⊎◌}
+use Rattle.determinize_find.proofs.Common.{length-map, List, map, map-append, Match, moved, ne_eqb, Nfa, None}
+use Rattle.determinize_find.proofs.Common.{none-some, none_leaves, Option, option_map, option_or, part_read, parted}
+use Rattle.determinize_find.proofs.Common.{pass, pass_all, pass_first, pattern_in, pattern_of, patterns_of}
+use Rattle.determinize_find.proofs.Common.{patterns_read, preferred, reach, refl, same_least, Scanned, skip}
+use Rattle.determinize_find.proofs.Common.{skip_before, slice_get, slice_get-get_or, slice_get_within, Some}
+use Rattle.determinize_find.proofs.Common.{some_injective, start_value, stays_out, step, suc, sym, tests_capture, Text}
+use Rattle.determinize_find.proofs.Common.{true, true_at, u_not_a, u_not_x, under_later, unshape, whole, working_list}
+use Rattle.determinize_find.proofs.Common.{zero, [], ℕ, ◌++◌, ◌+◌, ◌<◌, ◌==◌, ◌∙◌, ◌∷◌, ◌≡◌, ◌≤◌, ◌⊎◌}
 use Rattle.ordered_reach.specs.Runs.{IsLeastRun, ListsReached}
 use Rattle.determinize_core.proofs.walk.UnitLists.{chain_is_future}
 use Rattle.determinize_core.proofs.walk.WalkOfRuns.{each_chain_reaches}
 use Rattle.determinize_engine.proofs.Scanning.{last-scanned, settled}
 use Rattle.determinize_engine.specs.Private.Later.{last_from, later_by}
-use Rattle.determinize_find.proofs.streams.Cuts.{begun, graph, known_is, not_less, passes, same_path, slice_get-append}
-use Rattle.determinize_find.proofs.streams.Cuts.{there, true_path}
 use Rattle.std.proofs.Math.Nat.{lt_of_not-le, zero-add}
 use Rattle.determinize_find.proofs.leftmost.PreferredRun.{each_preferred_is_leftmost, not_before}
 use Rattle.determinize_core.proofs.Common.{future, MatchKind, same_decides, state_at, value_after}
@@ -40,11 +40,125 @@ use Rattle.determinize_core.proofs.closure.EmptySearch.{reach-none}
 use Rattle.determinize_core.proofs.walk.WalkLoops.{stops_at}
 use Rattle.determinize_engine.proofs.LastUnits.{last_match-within}
 use Rattle.determinize_engine.proofs.Later.{last_from-next, last_from-over}
-use Rattle.determinize_find.proofs.streams.Rests.{byte_before-append, of_rest}
+use Rattle.determinize_find.proofs.streams.Rests.{byte_before-append, of_rest, slice_get-append}
 use Rattle.determinize_core.specs.Value.{Value}
 use Rattle.determinize_engine.specs.UnitsRead.{units_read}
 use Rattle.determinize_find.specs.Idle.{IsIdle}
 use Rattle.ordered_reach.proofs.lists.Elements.{Contains_In}
+use Rattle.ordered_reach.proofs.lists.Elements.{In_cases, In_none}
+use mathlib.Core.Path.{fun_ext}
+use Rattle.determinize_below.proofs.nfas.Edges.{next_of}
+use Rattle.determinize_start.proofs.tables.TrueTables.{known_truth}
+use Rattle.determinize_below.specs.Reached.{known, known_choices}
+use Rattle.determinize_nfa.proofs.runs.SameChoices.{free_more, one_choice, same_choices}
+use Rattle.ordered_reach.proofs.graph.PathMaps.{path_agree}
+
+not_less : (a b : ℕ) → (a < b → ⊥) → b ≤ a
+not_less a b none = by_cases (cases_lt a b) (λ l. absurd (none l)) (λ l. l)
+
+-- the assertions that are known at a position, and those that are true at the others
+abbrev known_there : Nfa → Text → ℕ → ℕ → Assertion → Bool
+known_there nfa full m i = cond (i == m) (known nfa (before_at full i)) (true_at nfa full i)
+
+known_is : (nfa : Nfa) (full : Text) (m : ℕ)
+    → known_choices nfa full m ≡ choices_under nfa full (known_there nfa full m)
+known_is nfa full m = fun_ext (λ p. by_test (p.0 == m) (λ e. rw e refl) (λ e. rw e refl))
+
+module _ (nfa : Nfa) (behind : Option ℕ) (bytes : List ℕ) where
+  abbrev cut : ℕ
+  cut = length bytes
+
+  -- the bytes, with nothing ahead of them
+  abbrev begun : Text
+  begun = between behind bytes None
+
+  abbrev there : ℕ → Assertion → Bool
+  there = known_there nfa begun cut
+
+  -- the choices of runs over them
+  abbrev graph : ℕ × ℕ → List (ℕ × ℕ)
+  graph = choices_under nfa begun there
+
+  module _ (more : List ℕ) (ahead : Option ℕ) where
+    abbrev full : Text
+    full = between behind (bytes ++ more) ahead
+
+    before_same : (i : ℕ) → i ≤ cut → before_at full i ≡ before_at begun i
+    before_same zero l = refl
+    before_same (suc i) l = slice_get-append bytes more i (omega arith)
+
+    same_before : (p : ℕ × ℕ) → p.0 < cut → graph p ≡ choices nfa full p
+    same_before p l = same_choices nfa begun full there (true_at nfa full) p (sym (slice_get-append bytes more p.0 l))
+        (rw (
+          ne_eqb p.0 cut (λ e. omega arith),
+          before_same p.0 (omega arith),
+          slice_get-append bytes more p.0 l,
+          slice_get-get_or bytes p.0 0 l,
+        ))
+
+    -- a run by what is known there is a run over each text
+    true_path : (cs : List ℕ) (r : ℕ × ℕ) (s : ℕ) → IsPath graph [] r cs (cut, s)
+        → IsPath (choices nfa full) [] r cs (cut, s)
+    true_path cs r s p =
+        (path_agree graph (choices nfa full) (λ t. t.0 ≤ cut) moves cs [] r (cut, s) (omega arith) p).1
+      where
+        moves : (p t : ℕ × ℕ) (c : ℕ) → slice_get (graph p) c ≡ Some t → t.0 ≤ cut
+            → (p.0 ≤ cut) × (slice_get (choices nfa full p) c ≡ Some t)
+        moves p t c e l =
+            let low : p.0 ≤ t.0 = under_later nfa begun there p t c e in (
+              omega arith,
+              by_cases (cases_lt p.0 cut)
+                  (λ k. rw (same_before p k) at e)
+                  (λ k. let here : p.0 ≡ cut = omega arith in
+                  free_more nfa begun full there (true_at nfa full) p t c (omega arith) (λ look y.
+                  known_truth nfa (before_at full p.0) (after_at full p.0) look
+                  (rw (before_same p.0 (omega arith)) (rw (eq-eqb p.0 cut here) at y))) e),
+            )
+
+    -- some state there other than a capture, and a run to it by what is known there
+    abbrev Passes : List (ℕ × ℕ) → ℕ × ℕ → Type 0
+    Passes held r = (cs : List ℕ) × (s : ℕ) × (is_capture nfa s ≡ false) × IsPath graph held r cs (cut, s)
+
+    -- before the position, and from a capture there, a choice is one by what is known, and does not go past it
+    goes_on : (r t : ℕ × ℕ) (c : ℕ) → r.0 ≤ cut → slice_get (choices nfa full r) c ≡ Some t
+        → ((cut ≡ r.0) × (is_capture nfa r.1 ≡ false)) ⊎ ((slice_get (graph r) c ≡ Some t) × (t.0 ≤ cut))
+    goes_on r t c l e = by_cases (cases_lt r.0 cut)
+        (λ k. inr (
+          rw (same_before r k) e,
+          choice_cases nfa full r t c e (λ z f. omega arith) (λ z f. omega arith),
+        ))
+        (λ k. by_test (is_capture nfa r.1)
+        (λ y. let one : slice_get ((r.0, next_of nfa r.1) ∷ []) c ≡ Some t
+        = rw (one_choice nfa full (true_at nfa full) r y) at e in
+        let same : t.0 ≡ r.0
+        = In_cases t (r.0, next_of nfa r.1) [] (c, one) (λ e. ap (λ w. w.0) e) (In_none t) in
+        inr (rw (one_choice nfa begun there r y) one, omega arith))
+        (λ y. inl (omega arith, y)))
+
+    -- a run that ends there or later in such a state passes it
+    passes : (cs : List ℕ) (held : List (ℕ × ℕ)) (r q : ℕ × ℕ) → r.0 ≤ cut → cut ≤ q.0
+        → is_capture nfa q.1 ≡ false → IsPath (choices nfa full) held r cs q → Passes held r
+    passes [] held r q l n k p =
+        let same = ap (λ w. w.0) p.1 in let here : cut ≡ r.0 = omega arith in
+        ([], r.1, rw p.1 at k, (p.0, λ i. (here i, r.1)))
+    passes (c ∷ cs) held r q l n k p = by_cases (goes_on r p.1.0 c l p.1.1)
+        (λ (here, plain). ([], r.1, plain, (p.0, λ i. (here i, r.1))))
+        (λ (e, low). let d = passes cs (r ∷ held) p.1.0 q low n k p.1.2 in
+        (c ∷ d.0, d.1, d.2, (p.0, (p.1.0, e, d.3))))
+
+  -- a run that ends before is one over each of these texts
+  same_path : (more others : List ℕ) (ahead beyond : Option ℕ) (cs : List ℕ) (r q : ℕ × ℕ) → q.0 < cut
+      → IsPath (choices nfa (full more ahead)) [] r cs q → IsPath (choices nfa (full others beyond)) [] r cs q
+  same_path more others ahead beyond cs r q l p =
+      (path_agree (choices nfa (full more ahead)) (choices nfa (full others beyond)) (λ t. t.0 < cut) moves cs [] r q l
+      p).1
+    where
+      moves : (p t : ℕ × ℕ) (c : ℕ) → slice_get (choices nfa (full more ahead) p) c ≡ Some t → t.0 < cut
+          → (p.0 < cut) × (slice_get (choices nfa (full others beyond) p) c ≡ Some t)
+      moves p t c e l =
+          let low = choice_later nfa (full more ahead) p t c e in
+          let before : p.0 < cut = omega arith in
+          (before, rw (← same_before others beyond p before, same_before more ahead p before) e)
 
 later_than : (n : ℕ) (o : Option HalfMatch) (h : HalfMatch) → option_or (option_map (later_by n) o) None ≡ Some h
     → n ≤ h.offset
@@ -212,12 +326,9 @@ module _ {nfa : Nfa} (accepted : IsAccepted nfa) (has : HasPrefix nfa) {behind :
 
 pub each_busy_has_begun : EachBusyHasBegun
 each_busy_has_begun nfa accepted has behind bytes small s is t e other more ahead =
-    let b = begun_first accepted has small is t e other in (
-      b.start,
-      b.below,
-      b.choices,
-      true_path nfa behind bytes more ahead b.choices (b.start, nfa.start_anchored) t b.path,
-    )
+    let b = begun_first accepted has small is t e other in
+    let path = true_path nfa behind bytes more ahead b.choices (b.start, nfa.start_anchored) t b.path in
+    (b.start, b.below, b.choices, path)
 
 pub each_idle_is_fresh : EachIdleIsFresh
 each_idle_is_fresh nfa accepted apart behind bytes small s is idle more ahead k l cs j y acc =
@@ -420,26 +531,19 @@ module _ {nfa : Nfa} {xs : List ℕ} {start : ℕ} {s : Scanned} {h : HalfMatch}
     ends = ap (λ n. start + n) now.end;
   }
 
-  pub certain_is : (begin : ℕ) → IsBeginOf nfa xs start (start + h.offset) begin
+  pub certain_is : (begin : ℕ) → begin ≤ start + h.offset → start + h.offset ≤ length xs
+      → IsBeginOf nfa xs start (start + h.offset) begin
       → IsCertain nfa xs start record { pattern = h.pattern; start = begin; end = start + h.offset }
-  certain_is begin at =
+  certain_is begin order high at =
       let ends = certain_within is.scan.scan h is.certain in
       let there : BeginsThere nfa (byte_before xs start) (drop start xs) now.match.end = by_cases ends
       (λ l. begins_before nfa (byte_before xs start) (drop start xs) now.match (omega (arith, now.end)) now.left)
       (λ f. rw (now.end, f.end, is.scan.scan.read) (first_begins is.scan.accepted is.scan.prefix few is.scan.scan f)) in
-      let high : h.offset ≤ length (drop start xs)
-      = by_cases ends (λ l. omega arith) (λ f. omega (arith, f.end, is.scan.scan.read)) in
       let here : start + now.match.start ≡ begin = at (from (whole xs) start) (moved start now.match) ended in
       let one : now.match.start ≡ there.start = there.is [] now.match now.left refl in
-      let order : now.match.start ≤ now.match.end
-      = each_run_reads_forward nfa _ now.match.start nfa.start_anchored now.left.choices _ _ now.left.accepts in
+      let some : begin < length xs = omega (arith, there.below, is.within, length-drop start xs) in
       record {
-        inside = record {
-          low = omega arith;
-          order = omega (arith, order, now.end);
-          high = omega (arith, high, is.within, length-drop start xs);
-          some = omega (arith, there.below, is.within, length-drop start xs);
-        };
+        inside = record { low = omega arith; order = order; high = high; some = some };
         leftmost = λ more small.
             let m = match_with more small in
             let at = ap (λ n. start + n) (there.is more m.match m.left (m.end ∙ sym now.end) ∙ sym one) ∙ here in

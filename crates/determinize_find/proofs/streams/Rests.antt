@@ -6,13 +6,18 @@
 use Rattle.determinize_find.proofs.Common.{arith, between, by_cases, byte_before, cases_lt, drop, drop-drop}
 use Rattle.determinize_find.proofs.Common.{each_run_moves, false, from, HasPrefix, is_done, IsLeftmost, IsLeftmostIn}
 use Rattle.determinize_find.proofs.Common.{le-ltb, length, length-drop, List, Match, moved, nat_lt, Nfa, None, Option}
-use Rattle.determinize_find.proofs.Common.{option_map, refl, since, slice_get-drop, slice_get_past, Some, suc, sym}
-use Rattle.determinize_find.proofs.Common.{take_rest, Text, text_of, whole, zero, ℕ, ◌++◌, ◌+◌, ◌-◌, ◌∙◌, ◌≡◌, ◌≤◌}
-use Rattle.determinize_find.proofs.streams.Cuts.{slice_get-append}
+use Rattle.determinize_find.proofs.Common.{option_map, refl, since, slice_get, slice_get-drop, slice_get_past, Some}
+use Rattle.determinize_find.proofs.Common.{suc, sym, take_rest, Text, text_of, whole, zero, [], ℕ, ◌++◌, ◌+◌, ◌-◌, ◌<◌}
+use Rattle.determinize_find.proofs.Common.{◌∙◌, ◌∷◌, ◌≡◌, ◌≤◌}
 use Rattle.determinize_find.specs.Idle.{NothingBefore}
 use Rattle.determinize_find.proofs.leftmost.SearchInTurn.{later_run, leftmost_in, leftmost_match, text-since}
 use Rattle.determinize_find.proofs.leftmost.TwoSearches.{starts_differ}
 use Rattle.determinize_find.specs.Private.BestAt.{IsBestFrom}
+
+pub slice_get-append : (xs ys : List ℕ) (i : ℕ) → i < length xs → slice_get (xs ++ ys) i ≡ slice_get xs i
+slice_get-append [] ys i l = absurd (omega arith)
+slice_get-append (x ∷ xs) ys zero l = refl
+slice_get-append (x ∷ xs) ys (suc i) l = slice_get-append xs ys i (omega arith)
 
 -- the bytes from an index on, behind the byte before it
 abbrev pub rest : List ℕ → ℕ → Text

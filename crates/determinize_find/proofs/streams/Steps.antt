@@ -20,7 +20,6 @@ use Rattle.determinize_find.proofs.Common.{take_at, tests_capture, text_of, touc
 use Rattle.determinize_find.proofs.Common.{without_first, [], ℕ, ◌*◌, ◌++◌, ◌+◌, ◌-◌, ◌<◌, ◌∙◌, ◌∷◌, ◌≡◌, ◌≤◌, ◌⊎◌}
 use Rattle.std.proofs.Math.Seq.{take-append-add}
 use Rattle.std.specs.Prelude.{IsSome}
-use Rattle.determinize_find.specs.Streams.{IsBlockFed}
 use Rattle.determinize_find.specs.Idle.{IsIdle, NothingBefore}
 use Rattle.determinize_find.specs.Private.Windows.{IsWindow, past_match}
 use Rattle.determinize_find.proofs.matches.NextMatch.{next_further, next_plain}
@@ -336,49 +335,33 @@ pub left_kept : (s new : Streamed) (block rest piece : List ℕ) → new ≡ wit
     → block ++ rest ≡ piece → left_in rest new ≤ left_in piece s
 left_kept s new block rest piece kept cut = rw (kept, ← cut) (simp length-append (omega arith))
 
--- a piece was read up to its rest, block by block, and nothing was found
+-- a piece was read up to its rest, block by block, and nothing was found; a match may be found in the last block
 pub record HasReadBlocks (nfa : Nfa) (old now : Streamed) (piece rest : List ℕ) : Type 0 where
   pub searching : IsSearching nfa now
   pub fed : IsFrontFed nfa old now piece rest []
-  pub last : (rest ≡ piece) ⊎ IsBlockFed nfa old now piece rest []
+  pub last : {new : Streamed} {m : Match} → IsFed nfa now new [] [] (m ∷ [])
+      → (rest ≡ piece) ⊎ IsFoundInBlock nfa old new piece rest m
 
 pub blocks_none : {nfa : Nfa} {s : Streamed} (piece : List ℕ) → IsSearching nfa s → HasReadBlocks nfa s s piece piece
 blocks_none {nfa} {s} piece searching =
-    record { searching = searching; fed = front_none piece (fed_scan nfa s s.scan []); last = inl refl }
+    record { searching = searching; fed = front_none piece (fed_scan nfa s s.scan []); last = λ _. inl refl }
 
 module _ {nfa : Nfa} {old now new : Streamed} {piece rest : List ℕ} (read : HasReadBlocks nfa old now piece rest) where
   -- nothing more was read
   pub read_on : {found : List Match} → IsFed nfa now new [] [] found → IsFrontFed nfa old new piece rest found
   read_on fed = front_joined read.fed (front_none rest fed)
 
-  -- and a match was found, with the last block if one was read
-  pub found_in_block : (m : Match) → IsFed nfa now new [] [] (m ∷ [])
-      → (rest ≡ piece) ⊎ IsFoundInBlock nfa old new piece rest m
-  found_in_block m fed = by_cases read.last inl (λ l. inr record {
-    now = l.now;
-    block = l.block;
-    small = l.small;
-    first = l.first;
-    few = l.few;
-    last = joined_none l.last fed;
-  })
-
   -- the next block was read
   pub next_block : {after : Streamed} {block others : List ℕ} → block ++ others ≡ rest → length block ≤ 4096
       → IsFed nfa now new [] [] [] → KeepsFew nfa new → IsFed nfa new after block [] [] → IsSearching nfa after
       → HasReadBlocks nfa old after piece others
-  next_block {after} {block} cut small moved few fed searching = record {
-    searching = searching;
-    fed = front_joined (read_on moved) record { front = block; cut = cut; fed = fed };
-    last = inr record {
-      now = new;
-      block = block;
-      small = small;
-      first = rw cut (read_on moved);
-      few = few;
-      last = fed;
-    };
-  }
+  next_block {after} {block} cut small moved few fed searching =
+      let first = rw (← cut) at (read_on moved) in record {
+        searching = searching;
+        fed = front_joined (read_on moved) record { front = block; cut = cut; fed = fed };
+        last = λ more. inr
+            record { now = new; block = block; small = small; first = first; few = few; last = joined_none fed more };
+      }
 
 -- where nothing was read, the first state is the unanchored start, which is no match, so no match is certain
 pub unread_unsettled : {nfa : Nfa} {behind : Option ℕ} {bytes : List ℕ} {s : Scanned} → bytes ≡ []

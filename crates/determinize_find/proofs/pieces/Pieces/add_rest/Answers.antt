@@ -1,5 +1,5 @@
-use Rattle.determinize_find.proofs.Common.{append-nil, append_assoc, arith, end_before, from, map-append, moved, None}
-use Rattle.determinize_find.proofs.Common.{refl, rules, sym, take_at, whole, [], ◌++◌, ◌∙◌, ◌∷◌, ◌≡◌}
+use Rattle.determinize_find.proofs.Common.{[], append-nil, append_assoc, arith, end_before, from, map-append, moved}
+use Rattle.determinize_find.proofs.Common.{None, refl, rules, sym, take_all, take_at, whole, ◌++◌, ◌∙◌, ◌∷◌, ◌≡◌}
 use Rattle.determinize_find.proofs.matches.NextMatch.{after_all, after_one, IsOneMore}
 use Rattle.determinize_find.proofs.streams.Steps.{end_is, finished}
 use Rattle.determinize_find.proofs.pieces.Pieces.add_rest.Given.{Over}
@@ -25,6 +25,7 @@ loop-next-init g c =
     let cursor = rw (asked, c.last_match_end.ensures) at c.after-searcher.ensures in
     record {
       same = refl;
+      begins = take_all _ c.args.found.now.items (omega arith);
       found = (
         [],
         sym (append-nil c.args.found.now.items),
@@ -42,6 +43,7 @@ loop-next-preserved g c =
     = search rules in
     record {
       same = c.in_ok-next.ensures.same ∙ c.loop-next.invariant.same;
+      begins = rw (items, found, append_assoc) (take_at c.args.found.now.items _ _ refl);
       found = (
         ms ++ c.in-Some.next ∷ [],
         rw (items, found, append_assoc, map-append) refl,
@@ -57,14 +59,3 @@ returns-clause-finished g c =
     (rw (← c.self.view_is) c.self.invariant)
     (after_all _ _ c.loop-next.searcher ms after
     (rw (c.loop-next.invariant.same, is) at c.in_ok-next.ensures.next)) found
-
-pub returns-clause-begins : goal.returns-clause-begins
-returns-clause-begins g c = rw c.loop-next.invariant.found.1 (take_at c.args.found.now.items _ _ refl)
-
-pub returns-in_err-next-clause-begins : goal.returns-in_err-next-clause-begins
-returns-in_err-next-clause-begins g c = rw c.loop-next.invariant.found.1 (take_at c.args.found.now.items _ _ refl)
-
-pub returns-in_err-push-clause-begins : goal.returns-in_err-push-clause-begins
-returns-in_err-push-clause-begins g c =
-    let items : c.push.new.self.items ≡ c.loop-next.found.items = search rules in
-    rw (items, c.loop-next.invariant.found.1) (take_at c.args.found.now.items _ _ refl)

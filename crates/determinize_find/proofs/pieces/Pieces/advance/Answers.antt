@@ -1,6 +1,6 @@
 use Rattle.determinize_find.proofs.Common.{arith, IsFed, IsSearching, length, None, of_err, refl, rules, sym, []}
 use Rattle.determinize_find.proofs.Common.{◌∙◌, ◌∷◌, ◌≡◌, ◌≤◌}
-use Rattle.determinize_find.proofs.streams.Steps.{blocks_none, found_in_block, joined_none, left_kept, next_block}
+use Rattle.determinize_find.proofs.streams.Steps.{blocks_none, joined_none, left_kept, next_block}
 use Rattle.determinize_find.proofs.streams.Steps.{read_on}
 use Rattle.determinize_find.proofs.pieces.Pieces.advance.Given.{Over}
 use Rattle.determinize_find.proofs.pieces.Pieces.advance.Goals.{After-pass}
@@ -35,7 +35,7 @@ returns-in-Some-clause-read g c searching =
     }
 
 pub returns-in-Some-clause-block : goal.returns-in-Some-clause-block
-returns-in-Some-clause-block g c searching = found_in_block (c.loop-next.invariant.read searching) _
+returns-in-Some-clause-block g c searching = (c.loop-next.invariant.read searching).last
     (found g (goal.at.returns-in-Some-clause-block g c).After-pass searching)
 
 pub returns-then-is_empty-clause-read : goal.returns-then-is_empty-clause-read

@@ -26,8 +26,10 @@ certain g c small searching =
       certain = rw (← c.forward.ensures.nfa, ← c.nfa.ensures.value)
           (sym c.certain_match.ensures.value ∙ c.in-Some-certain_match.is);
     } in
+    let read = rw c.in-Some.is at c.self.invariant.read in
     let start = rw c.as_slice-kept.ensures.value at c.in_ok-begin.ensures.start in
-    rw (← c.self.view_is) (certain_is has c.in_ok-begin.begin start)
+    rw (← c.self.view_is) (certain_is has c.in_ok-begin.begin (omega (arith, c.in_ok-begin.ensures.inside))
+    (omega (arith, c.in-Some-certain_match.ensures.within, c.self.invariant.within, read)) start)
 
 pub returns-then-begin-kept-clause-unsettled : goal.returns-then-begin-kept-clause-unsettled
 returns-then-begin-kept-clause-unsettled g c searching =

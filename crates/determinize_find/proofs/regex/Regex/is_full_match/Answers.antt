@@ -20,6 +20,3 @@ returns-clause-found g c =
     let is = full_some c.self.invariant c.args.input.now c.input_law.ensures.within c.in-Some.begin
     (rw (whole, c.in-Some.is, c.self.invariant.kind_backward) at c.in_ok-begin.ensures.search) in
     rw (start, ← c.self.view_is) (Decides-like _ is.0 is.1 (Decides-eqb _ _))
-
-pub invariant_of-self : goal.invariant_of-self
-invariant_of-self g c = rw c.search_input.ensures.same c.self.invariant

@@ -8,6 +8,3 @@ returns-clause-found g c = rw (← c.self.view_is) (found_in c.self.invariant c.
 
 pub returns-clause-accepts : goal.returns-clause-accepts
 returns-clause-accepts g c more = rw (← c.self.view_is) (c.is_match.ensures.accepts more)
-
-pub invariant_of-self : goal.invariant_of-self
-invariant_of-self g c = rw c.is_match.ensures.same c.self.invariant

@@ -7,6 +7,3 @@ returns-clause-leftmost g c = rw (← c.self.view_is) (IfOk-weaker c.search_inpu
     (leftmost_end c.self.invariant c.args.input.now c.requires.start c.input_law.ensures.within
     c.input_law.ensures.bytes)
     (rw c.self.invariant.kind at c.search_input.ensures.search))
-
-pub invariant_of-self : goal.invariant_of-self
-invariant_of-self g c = rw c.search_input.ensures.same c.self.invariant

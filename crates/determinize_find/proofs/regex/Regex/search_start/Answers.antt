@@ -14,12 +14,3 @@ returns-clause-start g c asked m e =
     let own : c.anchored-before.result ≡ before_end c.args.haystack.now c.args.start c.args.end = search rules in
     begin_found (rw (← c.self.view_is) at e) c.self.invariant.reverse c.self.invariant.reads_forward c.in-Some.begin
     (rw (own, c.in-Some.is, c.self.invariant.kind_backward) at c.in_ok-begin.ensures.search)
-
-pub invariant_of-self : goal.invariant_of-self
-invariant_of-self g c = rw c.search_input.ensures.same c.self.invariant
-
-pub invariant_of-self-in_default : goal.invariant_of-self-in_default
-invariant_of-self-in_default g c = rw c.search_input.ensures.same c.self.invariant
-
-pub invariant_of-self-2 : goal.invariant_of-self-2
-invariant_of-self-2 g c = rw c.search_input.ensures.same c.self.invariant
