@@ -1,14 +1,14 @@
 -- What the value of a scan says of the runs so far: whether one that began before is under way, and which match is
 -- certain.
--- Main statements: begun_first, each_busy_has_begun, each_idle_is_fresh, fresh, each_certain_is_preferred, certain_is.
+-- Main statements: begun_first, each_busy_has_begun, each_idle_is_fresh, fresh, certain_is.
 -- Used by: `laws::idle_law` and `certain_law`, `Pieces::is_idle` and `certain_now`.
--- Idea: texts that begin with the same bytes have the same units before the end of these, and at it the assertions that
--- are known are true. The value of a scan with an NFA state is that of a walk over its bytes. The least run to its first state is
--- before the one that passes over all bytes, so it left the prefix earlier, and before each other run did. At an idle
--- place it is that one, so no other run comes there; and where one accepts before, the leftmost match ends there or
--- later. If the first state is a `Match`, the next step lists its pattern and enters no state, so the last match of
--- each walk is the same, and the leftmost match begins with that run. Where a match that ends before begins depends
--- only on what is before its end.
+-- Idea: texts that begin with the same bytes have the same units before the end of these, and at it the assertions
+-- that are known are true. The value of a scan with an NFA state is that of a walk over its bytes. The least run to
+-- its first state is before the one that passes over all bytes, so it left the prefix earlier, and before each
+-- other run did. At an idle place it is that one, so no other run comes there; and where one accepts before, the
+-- leftmost match ends there or later. If the first state is a `Match`, the next step lists its pattern and enters
+-- no state, so the last match of each walk is the same, and the leftmost match begins with that run. Where a match
+-- that ends before begins depends only on what is before its end.
 use Rattle.determinize_find.proofs.Common.{AcceptsFrom, add-one, after_at, All, All-append, All-drop, All-nil, ap}
 use Rattle.determinize_find.proofs.Common.{append-nil, append_assoc, arith, Assertion, Before, Before-trans, before_at}
 use Rattle.determinize_find.proofs.Common.{between, Bool, by_cases, by_option, by_test, byte_before, cases_eq, cases_lt}
@@ -482,13 +482,6 @@ begins_before nfa behind bytes m inside left = record {
       let high = not_later nfa behind bytes [] more m n inside left other in omega arith;
 }
 
--- a search over the bytes of a haystack from an index on, of which a match is certain
-pub record HasCertain (nfa : Nfa) (xs : List ℕ) (start : ℕ) (s : Scanned) (h : HalfMatch) : Type 0 where
-  pub within : start ≤ length xs
-  pub small : All (λ b. b < 256) xs
-  pub scan : IsEndScan nfa (byte_before xs start) (drop start xs) s
-  pub certain : certain_match nfa s ≡ Some h
-
 -- the text from an index on, with more bytes
 abbrev text_with : List ℕ → ℕ → List ℕ → Text
 text_with xs start more = between (byte_before xs start) (drop start xs ++ more) None
@@ -501,18 +494,18 @@ record IsMatchWith (nfa : Nfa) (xs : List ℕ) (start : ℕ) (more : List ℕ) (
   pattern : match.pattern ≡ h.pattern
   end : match.end ≡ h.offset
 
-module _ {nfa : Nfa} {xs : List ℕ} {start : ℕ} {s : Scanned} {h : HalfMatch} (is : HasCertain nfa xs start s h) where
-  few : All (λ b. b < 256) (drop start xs)
-  few = All-drop (λ b. b < 256) start xs is.small
-
+-- a search over the bytes of a haystack from an index on, of which a match is certain
+module _ {nfa : Nfa} {xs : List ℕ} {start : ℕ} {s : Scanned} {h : HalfMatch} (within : start ≤ length xs)
+    (bytes : All (λ b. b < 256) xs) (scan : IsEndScan nfa (byte_before xs start) (drop start xs) s)
+    (certain : certain_match nfa s ≡ Some h) where
   match_with : (more : List ℕ) → All (λ b. b < 256) more → IsMatchWith nfa xs start more h
   match_with more small =
-      let p = preferred nfa LeftmostFirst nfa.start_unanchored (text_with xs start more) (Some h) is.scan.accepted refl
-      (settled_certain is.scan.scan h is.certain more None) in
-      let (o, left, e) = each_preferred_is_leftmost nfa is.scan.prefix (text_with xs start more)
-      (All-append (λ b. b < 256) (drop start xs) more few small) (Some h) p in
-      let there = of_rest nfa is.scan.prefix (xs ++ more) start (simp length-append (omega (arith, is.within))) o
-      (rw (byte_before-append xs more start is.within, drop-append-le start xs more is.within) left) in
+      let p = preferred nfa LeftmostFirst nfa.start_unanchored (text_with xs start more) (Some h) scan.accepted refl
+      (settled_certain scan.scan h certain more None) in
+      let (o, left, e) = each_preferred_is_leftmost nfa scan.prefix (text_with xs start more)
+      (All-append (λ b. b < 256) (drop start xs) more (All-drop (λ b. b < 256) start xs bytes) small) (Some h) p in
+      let there = of_rest nfa scan.prefix (xs ++ more) start (simp length-append (omega (arith, within))) o
+      (rw (byte_before-append xs more start within, drop-append-le start xs more within) left) in
       by_option o
       (λ n. absurd (none-some h (sym (rw n at e))))
       (λ m y. let found = rw y at e in
@@ -535,13 +528,14 @@ module _ {nfa : Nfa} {xs : List ℕ} {start : ℕ} {s : Scanned} {h : HalfMatch}
       → IsBeginOf nfa xs start (start + h.offset) begin
       → IsCertain nfa xs start record { pattern = h.pattern; start = begin; end = start + h.offset }
   certain_is begin order high at =
-      let ends = certain_within is.scan.scan h is.certain in
+      let ends = certain_within scan.scan h certain in
       let there : BeginsThere nfa (byte_before xs start) (drop start xs) now.match.end = by_cases ends
       (λ l. begins_before nfa (byte_before xs start) (drop start xs) now.match (omega (arith, now.end)) now.left)
-      (λ f. rw (now.end, f.end, is.scan.scan.read) (first_begins is.scan.accepted is.scan.prefix few is.scan.scan f)) in
+      (λ f. rw (now.end, f.end, scan.scan.read) (first_begins scan.accepted scan.prefix
+      (All-drop (λ b. b < 256) start xs bytes) scan.scan f)) in
       let here : start + now.match.start ≡ begin = at (from (whole xs) start) (moved start now.match) ended in
       let one : now.match.start ≡ there.start = there.is [] now.match now.left refl in
-      let some : begin < length xs = omega (arith, there.below, is.within, length-drop start xs) in
+      let some : begin < length xs = omega (arith, there.below, within, length-drop start xs) in
       record {
         inside = record { low = omega arith; order = order; high = high; some = some };
         leftmost = λ more small.

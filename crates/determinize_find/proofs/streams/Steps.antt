@@ -146,10 +146,6 @@ fed_skipped nfa s m list window certain touching =
     (λ found f. next_further nfa _ _ (Some (moved s.dropped m)) found (certain_in is window certain more small)
     (touches_before s m ∙ touching) (rw sum at f))) list)
 
--- a match that begins later than a match before does not touch it
-not_touching : (b : Bool) (at : ℕ) (m : Match) → at < m.start → touches (cond b (Some at) None) m ≡ false
-not_touching b at m l = grind arith
-
 -- the start is at the end of the kept bytes
 pub fed_later : (nfa : Nfa) (s : Streamed) (scan : Option Scanned) (list : List Match)
     → IsWindow s.kept s.dropped s.start s.scan → IsFresh nfa s.kept s.start
@@ -173,8 +169,9 @@ fed_later nfa s scan list window fresh =
     apart : (text : List ℕ) (found : Option Match)
         → IsLeftmostIn nfa (from (whole text) (s.dropped + length s.kept)) found → is_touching (before s) found ≡ false
     apart text None f = refl
-    apart text (Some m) f = not_touching s.is_after (place s) m
-        (omega (arith, fresh.some, (lies nfa (from (whole text) (s.dropped + length s.kept)) m (omega arith) f).low))
+    apart text (Some m) f =
+        let low = (lies nfa (from (whole text) (s.dropped + length s.kept)) m (omega arith) f).low in
+        grind (arith, fresh.some, low)
 
 -- bytes before the one behind the start are dropped
 pub fed_dropped : (nfa : Nfa) (s : Streamed) (scan : Option Scanned) (count : ℕ) (list : List Match) → count ≤ s.start

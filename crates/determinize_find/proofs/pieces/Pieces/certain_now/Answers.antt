@@ -1,7 +1,7 @@
 use Rattle.determinize_find.proofs.Common.{All, arith, IsCertain, IsSearching, length, rules, sym, ◌+◌, ◌<◌, ◌∙◌}
 use Rattle.determinize_find.proofs.Common.{◌≤◌}
 use Rattle.determinize_find.proofs.leftmost.TwoSearches.{all_bytes}
-use Rattle.determinize_find.proofs.streams.Begun.{certain_is, HasCertain}
+use Rattle.determinize_find.proofs.streams.Begun.{certain_is}
 use Rattle.determinize_find.proofs.pieces.Pieces.certain_now.Given.{Over}
 use Rattle.determinize_find.proofs.pieces.Pieces.certain_now.Goals.{After-as_slice-kept, In_ok-begin}
 use Rattle.determinize_find.proofs.pieces.Pieces.certain_now.Goals as goal
@@ -18,18 +18,15 @@ certain : (g : Over) (c : In_ok-begin g) → All (λ b. b < 256) c.self.inside.k
       end = c.self.inside.start + c.in-Some-certain_match.half.offset;
     }
 certain g c small searching =
-    let has : HasCertain c.args.regex.now.nfa c.self.inside.kept.items c.self.inside.start c.in-Some.scan
-    c.in-Some-certain_match.half = record {
-      within = c.self.invariant.within;
-      small = small;
-      scan = rw (← c.self.view_is, c.in-Some.is) at searching;
-      certain = rw (← c.forward.ensures.nfa, ← c.nfa.ensures.value)
-          (sym c.certain_match.ensures.value ∙ c.in-Some-certain_match.is);
-    } in
+    let scan = rw (← c.self.view_is, c.in-Some.is) at searching in
+    let half = rw (c.nfa.ensures.value, c.forward.ensures.nfa)
+    at (sym c.certain_match.ensures.value ∙ c.in-Some-certain_match.is) in
     let read = rw c.in-Some.is at c.self.invariant.read in
     let start = rw c.as_slice-kept.ensures.value at c.in_ok-begin.ensures.start in
-    rw (← c.self.view_is) (certain_is has c.in_ok-begin.begin (omega (arith, c.in_ok-begin.ensures.inside))
-    (omega (arith, c.in-Some-certain_match.ensures.within, c.self.invariant.within, read)) start)
+    let high : c.self.inside.start + c.in-Some-certain_match.half.offset ≤ length c.self.inside.kept.items
+    = omega (arith, c.in-Some-certain_match.ensures.within, c.self.invariant.within, read) in
+    rw (← c.self.view_is) (certain_is c.self.invariant.within small scan half c.in_ok-begin.begin
+    (omega (arith, c.in_ok-begin.ensures.inside)) high start)
 
 pub returns-then-begin-kept-clause-unsettled : goal.returns-then-begin-kept-clause-unsettled
 returns-then-begin-kept-clause-unsettled g c searching =
