@@ -2,12 +2,12 @@
 pub use Rattle.determinize_core.proofs.Common.{Accepts, add-one, after_at, All-cons, All-nil, ap, append-nil}
 pub use Rattle.determinize_core.proofs.Common.{append_assoc, arith, Asked, Assertion, Before, before_at, between, Bool}
 pub use Rattle.determinize_core.proofs.Common.{by_cases, by_option, by_test, choices, cond, Contains, drop, ended_at}
-pub use Rattle.determinize_core.proofs.Common.{eq-eqb, false, false≢true, HalfMatch, IfNone, IfOk-weaker, IfSome, inl}
-pub use Rattle.determinize_core.proofs.Common.{inr, is_capture, is_done, is_match, is_reopened, IsAccepted, IsPath}
+pub use Rattle.determinize_core.proofs.Common.{eq-eqb, false, false≢true, HalfMatch, IfOk-weaker, IfSome, inl, inr}
+pub use Rattle.determinize_core.proofs.Common.{is_capture, is_done, is_match, is_reopened, IsAccepted, IsPath}
 pub use Rattle.determinize_core.proofs.Common.{last_match, LeftmostFirst, length, length-append, length-map}
 pub use Rattle.determinize_core.proofs.Common.{length-take, List, map, map-append, min, nat_lt, nat_tests, Nfa, None}
-pub use Rattle.determinize_core.proofs.Common.{Option, option_map, option_or, option_to_list, part_read, pattern_in}
-pub use Rattle.determinize_core.proofs.Common.{pattern_of, patterns_of, patterns_read, refl, Result, rules, slice_get}
+pub use Rattle.determinize_core.proofs.Common.{Option, option_map, option_or, part_read, pattern_in, pattern_of}
+pub use Rattle.determinize_core.proofs.Common.{patterns_of, patterns_read, refl, Result, rules, slice_get}
 pub use Rattle.determinize_core.proofs.Common.{slice_get-get_or, slice_get_past, Some, some_injective, start_value, suc}
 pub use Rattle.determinize_core.proofs.Common.{sym, take_all, take_at, Text, true, working_list, zero, [], ℕ, ◌*◌, ◌++◌}
 pub use Rattle.determinize_core.proofs.Common.{◌+◌, ◌-◌, ◌<◌, ◌==◌, ◌∙◌, ◌∷◌, ◌≡◌, ◌≤◌, ◌⊎◌}
@@ -30,10 +30,9 @@ pub use Rattle.determinize_find.specs.Private.Begins.{IsBeginOf, IsEnded}
 pub use Rattle.determinize_find.specs.Private.Left.{left}
 pub use Rattle.determinize_find.specs.Private.Windows.{end_before, HasMoved, IsCertain, IsFresh, with_bytes, with_scan}
 pub use Rattle.determinize_find.specs.Private.Windows.{without_first}
-pub use Rattle.determinize_find.specs.Streams.{before, IsAdvance, IsEndScan, IsFed, IsFinished, IsFoundInBlock}
-pub use Rattle.determinize_find.specs.Streams.{IsFrontFed, IsKept, IsKeptScan, IsPartFed, IsScanOf, IsSearching}
-pub use Rattle.determinize_find.specs.Streams.{IsStream, KeepsFew, KeptFewAt, KeptFewInBlocks, left_in, place, Streamed}
-pub use Rattle.determinize_find.specs.Streams.{whole}
+pub use Rattle.determinize_find.specs.Streams.{before, IsEndScan, IsFed, IsFinished, IsFoundInBlock, IsFrontFed, IsKept}
+pub use Rattle.determinize_find.specs.Streams.{IsPartFed, IsSearching, IsStream, KeepsFew, KeptFewAt, KeptFewInBlocks}
+pub use Rattle.determinize_find.specs.Streams.{left_in, place, Streamed, whole}
 pub use Rattle.determinize_lazy.proofs.steps.Rule.{of_err}
 pub use Rattle.determinize_nfa.proofs.prefixes.AfterPrefix.{none_leaves, parted, pass_all, shape, stays_out, u_not_a}
 pub use Rattle.determinize_nfa.proofs.prefixes.AfterPrefix.{u_not_x, unshape}

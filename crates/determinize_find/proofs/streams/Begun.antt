@@ -44,8 +44,7 @@ use Rattle.determinize_find.proofs.streams.Rests.{byte_before-append, of_rest, s
 use Rattle.determinize_core.specs.Value.{Value}
 use Rattle.determinize_engine.specs.UnitsRead.{units_read}
 use Rattle.determinize_find.specs.Idle.{IsIdle}
-use Rattle.ordered_reach.proofs.lists.Elements.{Contains_In}
-use Rattle.ordered_reach.proofs.lists.Elements.{In_cases, In_none}
+use Rattle.ordered_reach.proofs.lists.Elements.{Contains_In, In_cases, In_none}
 use mathlib.Core.Path.{fun_ext}
 use Rattle.determinize_below.proofs.nfas.Edges.{next_of}
 use Rattle.determinize_start.proofs.tables.TrueTables.{known_truth}

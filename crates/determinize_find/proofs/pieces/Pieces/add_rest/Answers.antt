@@ -1,5 +1,5 @@
-use Rattle.determinize_find.proofs.Common.{[], append-nil, append_assoc, arith, end_before, from, map-append, moved}
-use Rattle.determinize_find.proofs.Common.{None, refl, rules, sym, take_all, take_at, whole, ◌++◌, ◌∙◌, ◌∷◌, ◌≡◌}
+use Rattle.determinize_find.proofs.Common.{append-nil, append_assoc, arith, end_before, from, map-append, moved, None}
+use Rattle.determinize_find.proofs.Common.{refl, rules, sym, take_all, take_at, whole, [], ◌++◌, ◌∙◌, ◌∷◌, ◌≡◌}
 use Rattle.determinize_find.proofs.matches.NextMatch.{after_all, after_one, IsOneMore}
 use Rattle.determinize_find.proofs.streams.Steps.{end_is, finished}
 use Rattle.determinize_find.proofs.pieces.Pieces.add_rest.Given.{Over}

@@ -1,23 +1,19 @@
-use Rattle.determinize_find.proofs.Common.{All, arith, IsCertain, IsSearching, length, rules, sym, ◌+◌, ◌<◌, ◌∙◌}
-use Rattle.determinize_find.proofs.Common.{◌≤◌}
+use Rattle.determinize_find.proofs.Common.{arith, IsCertain, IsSearching, length, rules, sym, ◌+◌, ◌∙◌, ◌≤◌}
 use Rattle.determinize_find.proofs.leftmost.TwoSearches.{all_bytes}
 use Rattle.determinize_find.proofs.streams.Begun.{certain_is}
 use Rattle.determinize_find.proofs.pieces.Pieces.certain_now.Given.{Over}
-use Rattle.determinize_find.proofs.pieces.Pieces.certain_now.Goals.{After-as_slice-kept, In_ok-begin}
+use Rattle.determinize_find.proofs.pieces.Pieces.certain_now.Goals.{In_ok-begin}
 use Rattle.determinize_find.proofs.pieces.Pieces.certain_now.Goals as goal
 
-small : (g : Over) (c : After-as_slice-kept g) → All (λ b. b < 256) c.self.inside.kept.items
-small g c = rw c.as_slice-kept.ensures.value at (all_bytes c.as_slice-kept.result.now (search rules))
-
 -- the match of which the scan gives the end, and which begins there
-certain : (g : Over) (c : In_ok-begin g) → All (λ b. b < 256) c.self.inside.kept.items
-    → IsSearching c.args.regex.now.nfa c.args.self.now
+certain : (g : Over) (c : In_ok-begin g) → IsSearching c.args.regex.now.nfa c.args.self.now
     → IsCertain c.args.regex.now.nfa c.args.self.now.kept c.args.self.now.start record {
       pattern = c.in-Some-certain_match.half.pattern;
       start = c.in_ok-begin.begin;
       end = c.self.inside.start + c.in-Some-certain_match.half.offset;
     }
-certain g c small searching =
+certain g c searching =
+    let small = rw c.as_slice-kept.ensures.value at (all_bytes c.as_slice-kept.result.now (search rules)) in
     let scan = rw (← c.self.view_is, c.in-Some.is) at searching in
     let half = rw (c.nfa.ensures.value, c.forward.ensures.nfa)
     at (sym c.certain_match.ensures.value ∙ c.in-Some-certain_match.is) in
@@ -30,11 +26,9 @@ certain g c small searching =
 
 pub returns-then-begin-kept-clause-unsettled : goal.returns-then-begin-kept-clause-unsettled
 returns-then-begin-kept-clause-unsettled g c searching =
-    let at = goal.at.returns-then-begin-kept-clause-unsettled g c in
-    let inside = (certain g at.In_ok-begin (small g at.After-as_slice-kept) searching).inside in
-    let past : length c.args.self.now.kept ≤ c.in_ok-begin.begin = search rules in absurd (omega (arith, inside.some))
+    let at = (goal.at.returns-then-begin-kept-clause-unsettled g c).In_ok-begin in
+    let past : length c.args.self.now.kept ≤ c.in_ok-begin.begin = search rules in
+    absurd (omega (arith, (certain g at searching).inside.some))
 
 pub returns-clause-certain : goal.returns-clause-certain
-returns-clause-certain g c searching =
-    let at = goal.at.returns-clause-certain g c in
-    certain g at.In_ok-begin (small g at.After-as_slice-kept) searching
+returns-clause-certain g c searching = certain g (goal.at.returns-clause-certain g c).In_ok-begin searching
