@@ -1,6 +1,6 @@
 pub mod Boundaries
+pub mod Common
 pub mod FoundOfPatterns
-pub mod LeftmostExists
 pub mod ListsOfPatterns
 pub mod SetsOfPatterns
 pub mod Spelling

@@ -2,17 +2,13 @@
 -- Main statements: spells_one_more, rejects_at.
 -- Used by: `parse_all`.
 -- Idea: the texts so far, and the next one, are those up to the place after it.
-use Rattle.std.proofs.Common.{◌≡◌, ◌+◌, ◌++◌, ◌∙◌, ◌∷◌, ◌<◌, ℕ, List, [], length, map, sym, take, true}
-use Rattle.std.proofs.Math.ListN.{get_or}
-use Rattle.std.proofs.lemmas.Bool.{true≢false}
-use Rattle.std.proofs.lemmas.List.{map-append, take-map, take_more}
-use Rattle.std.proofs.lemmas.Option.{slice_get-get_or, slice_get-map}
-use Rattle.determinize_pattern.specs.Meaning.{Re}
-use Rattle.determinize_pattern.specs.Patterns.{meaning}
+use Rattle.determinize_regex.proofs.Common.{AreSpelled, get_or, IsRejected, length, List, map, map-append, meaning, Re}
+use Rattle.determinize_regex.proofs.Common.{slice_get-get_or, slice_get-map, sym, take, take-map, take_more, true}
+use Rattle.determinize_regex.proofs.Common.{true≢false, [], ℕ, ◌++◌, ◌+◌, ◌<◌, ◌∙◌, ◌∷◌, ◌≡◌}
 use Rattle.determinize_pattern.specs.declared.pattern.Pattern.{Pattern}
-use Rattle.determinize_regex.specs.Spelled.{AreSpelled, IsRejected, one_more}
+use Rattle.determinize_regex.specs.Spelled.{one_more}
 use Rattle.determinize_regex.specs.declared.error.Error.TheVariants.{Parse}
-use Rattle.determinize_syntax.specs.Spells.{SpellsUnder, is_limit}
+use Rattle.determinize_syntax.specs.Spells.{is_limit, SpellsUnder}
 use Rattle.determinize_syntax.specs.declared.error.ParseError.{ParseError}
 use Rattle.determinize_syntax.specs.declared.flags.Flags.{Flags}
 
@@ -22,12 +18,8 @@ module _ {T : Type 0} (bytes : T → List ℕ) (flags : Flags) where
       → AreSpelled flags (map meaning patterns) (map bytes (take i texts))
       → SpellsUnder flags (meaning pattern) (bytes (get_or texts i d))
       → AreSpelled flags (map meaning all) (map bytes (take (i + 1) texts))
-  spells_one_more patterns all pattern texts i d inside is so_far next = rw (
-    is,
-    map-append meaning patterns (pattern ∷ []),
-    take_more texts i d inside,
-    map-append bytes (take i texts) (get_or texts i d ∷ []),
-  )
+  spells_one_more patterns all pattern texts i d inside is so_far next =
+      rw (is, map-append meaning patterns (pattern ∷ []), take_more texts i d inside, map-append bytes (take i texts) _)
       (one_more _ _ _ _ so_far next)
 
   -- the error of the first text that is rejected

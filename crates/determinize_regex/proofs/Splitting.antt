@@ -1,21 +1,13 @@
 -- A text is cut at one match after another, and other bytes are put in their places.
--- Main statements: kept_apart, one_part, last_part, called_more, one_more_match, one_of_each,
+-- Main statements: kept_apart, one_part, last_part, one_more_match, one_of_each,
 -- last_of_each, replaced_by, each_replaced_is_joined.
 -- Used by: `whole_matches_in`, `split_at`, `replace_each`, `replace_all`, and `laws::parts_law`.
 -- Idea: what is made of the matches so far, and then of the rest from their end on, is what is made of all.
-use Rattle.std.specs.Borrow.{Bor}
-use Rattle.std.specs.List.{FoldsTo, flat_map, join_by}
-use Rattle.std.specs.Prelude.{filter, slice_range}
-use Rattle.std.proofs.Common.{◌≡◌, ◌<◌, ◌≤◌, ◌++◌, ◌∙◌, ◌∷◌, ℕ, Bool, List, Option, Some, [], ap, append-nil, append_assoc, arith, drop}
-use Rattle.std.proofs.Common.{◌+◌, get_or, length, map, refl, sym, take}
-use Rattle.std.proofs.lemmas.Bool.{cond_both}
-use Rattle.std.proofs.lemmas.Fn.{FoldsTo-push}
-use Rattle.std.proofs.lemmas.List.{map-append, take_more}
-use Rattle.determinize_below.proofs.Moved.{one_more}
-use Rattle.determinize_below.specs.declared.search.Match.{Match}
-use Rattle.determinize_find.specs.Matches.{AreApart}
-use Rattle.determinize_regex.specs.Laws.{EachReplacedIsJoined}
-use Rattle.determinize_regex.specs.Parts.{IsReplacedBy, parts, replaced, replaced_each}
+use Rattle.determinize_regex.proofs.Common.{ap, append-nil, append_assoc, AreApart, arith, Bool, Bor, cond_both, drop}
+use Rattle.determinize_regex.proofs.Common.{EachReplacedIsJoined, filter, flat_map, FoldsTo, get_or, IsReplacedBy}
+use Rattle.determinize_regex.proofs.Common.{length, List, map, map-append, Match, one_more, Option, parts, refl}
+use Rattle.determinize_regex.proofs.Common.{replaced, replaced_each, slice_range, Some, sym, take, take_more, [], ℕ}
+use Rattle.determinize_regex.proofs.Common.{◌++◌, ◌+◌, ◌<◌, ◌∙◌, ◌∷◌, ◌≡◌, ◌≤◌}
 
 -- the matches that are left lie in the text from an index on
 pub record AreLeft (text_size at : ℕ) (found : List Match) : Type 0 where
@@ -76,21 +68,12 @@ module _ {X : Type 0} (bytes : X → List ℕ) (text : List ℕ) where
       let so_far : map bytes cut ++ (drop at text ∷ []) ≡ all = rw none at h in
       rw (is, map-append bytes cut (p ∷ []), part) so_far
 
--- one more call of a function, for the match that it was shown
-pub called_more : {F : Type 0} (Step : F → Bor Match → Bor (List ℕ) → F → Type 0) (first : F)
-    (each : List (Match × Bor (List ℕ))) (last : F) (shown : Bor Match) (by : Bor (List ℕ)) (next : F)
-    → FoldsTo (λ p x q. (s : Bor Match) × (s.now ≡ x.0) × Step p s x.1 q) first each last → Step last shown by next
-    → FoldsTo (λ p x q. (s : Bor Match) × (s.now ≡ x.0) × Step p s x.1 q) first (each ++ (shown.now, by) ∷ []) next
-called_more Step first each last shown by next calls call =
-    FoldsTo-push (λ p x q. (s : Bor Match) × (s.now ≡ x.0) × Step p s x.1 q) first each last (shown.now, by) next calls
-    (shown, refl, call)
-
 -- the matches so far, and the next one
 pub one_more_match : (each : List (Match × Bor (List ℕ))) (x : Match × Bor (List ℕ)) (found : List Match) (i : ℕ)
     → i < length found → x.0 ≡ get_or found i x.0 → map (λ x. x.0) each ≡ take i found
     → map (λ x. x.0) (each ++ x ∷ []) ≡ take (i + 1) found
-one_more_match each x found i l e so_far = map-append (λ x. x.0) each (x ∷ []) ∙ ap (λ l. l ++ x.0 ∷ []) so_far
-    ∙ ap (λ m. take i found ++ m ∷ []) e ∙ sym (take_more found i x.0 l)
+one_more_match each x found i l e so_far =
+    rw (map-append (λ x. x.0) each (x ∷ []), so_far, take_more found i x.0 l, ← e) refl
 
 module _ (text : List ℕ) where
   -- the bytes so far, before the rest of the text with some more replaced matches, are the text with all of them
@@ -127,16 +110,12 @@ module _ {F : Type 0} (Call : F → Match × Bor (List ℕ) → F → Type 0) (f
   replaced_by found new h =
       h.is ∙ each_is h.each first h.last 0 refl h.calls ∙ ap (replaced by text 0) h.matches
 
-module _ (by text : List ℕ) where
-  joined_rest : (at : ℕ) (found : List Match)
-      → flat_map (λ (part : List ℕ). by ++ part) (parts text at found) ≡ by ++ replaced by text at found
-  joined_rest at [] = append-nil (by ++ drop at text)
-  joined_rest at (m ∷ ms) = rw (joined_rest m.end ms) (simp append_assoc)
-
-  joined : (found : List Match) → replaced by text 0 found ≡ join_by (λ (part : List ℕ). part) by (parts text 0 found)
-  joined [] = sym (append-nil (drop 0 text))
-  joined (m ∷ ms) =
-      rw (joined_rest m.end ms) (append_assoc (slice_range text 0 m.start) by (replaced by text m.end ms))
+joined_rest : (by text : List ℕ) (at : ℕ) (found : List Match)
+    → flat_map (λ (part : List ℕ). by ++ part) (parts text at found) ≡ by ++ replaced by text at found
+joined_rest by text at [] = append-nil (by ++ drop at text)
+joined_rest by text at (m ∷ ms) = rw (joined_rest by text m.end ms) (simp append_assoc)
 
 pub each_replaced_is_joined : EachReplacedIsJoined
-each_replaced_is_joined by text found = joined by text found
+each_replaced_is_joined by text [] = sym (append-nil (drop 0 text))
+each_replaced_is_joined by text (m ∷ ms) = rw (joined_rest by text m.end ms)
+    (append_assoc (slice_range text 0 m.start) by (replaced by text m.end ms))

@@ -1,35 +1,23 @@
 -- A search in pieces over an NFA of patterns, in words of the patterns.
--- Main statements: stream_of, fed_of, part_fed_of, front_fed_of, finished_of, keeps_of, found_in.
+-- Main statements: stream_of, fed_of, front_fed_of, finished_of, keeps_of, found_in.
 -- Used by: the calls of `Stream`.
 -- Idea: the matches of the runs are those of the patterns, so what keeps the list of the one keeps that of the other.
-use Rattle.std.specs.Prelude.{◌↔◌, Option}
-use Rattle.std.proofs.Common.{◌≡◌, ◌≤◌, ◌++◌, ◌∷◌, ℕ, [], Bool, List, None, Some, arith, cond, false, length, sym, take, true}
-use Rattle.determinize_below.specs.Nfa.{IsAccepted}
-use Rattle.determinize_below.specs.Search.{Asked}
-use Rattle.determinize_below.specs.Semantics.{Nfa}
-use Rattle.determinize_below.specs.declared.search.Match.{Match}
+use Rattle.determinize_regex.proofs.Common.{AreMatches, AreMatchesOf, arith, Asked, before, by_test, from, IsAccepted}
+use Rattle.determinize_regex.proofs.Common.{IsFed, IsFinished, IsFoundInBlock, IsFrontFed, IsRegex, IsStream, KeepsFew}
+use Rattle.determinize_regex.proofs.Common.{List, Match, meanings, Nfa, None, Option, place, RegexValue, Some, Streamed}
+use Rattle.determinize_regex.proofs.Common.{value_of, whole, ℕ, ◌++◌, ◌↔◌, ◌≡◌}
 use Rattle.determinize_find.proofs.matches.InputMatches.{each_input_has_matches}
-use Rattle.determinize_find.specs.Matches.{AreMatches, from}
-use Rattle.determinize_find.specs.Streams.{IsFed, IsFinished, IsFoundInBlock, IsFrontFed, IsPartFed, IsStream, KeepsFew}
-use Rattle.determinize_find.specs.Streams.{Streamed, before, place, whole}
 use Rattle.determinize_pattern.specs.declared.pattern.Pattern.{Pattern}
+use Rattle.determinize_regex.specs.Streams.{IsFedOf, IsFinishedOf, IsFoundInBlockOf, IsFrontFedOf, IsStreamOf, KeepsFewOf, StreamValue}
 use Rattle.determinize_regex.proofs.FoundOfPatterns.{each_matches_are_of}
-use Rattle.determinize_regex.specs.PatternMatches.{AreMatchesOf}
-use Rattle.determinize_regex.specs.Private.Searched.{value_of}
-use Rattle.determinize_regex.specs.Regexes.{IsRegex, RegexValue, meanings}
-use Rattle.determinize_regex.specs.Streams.{BeginAll, IsFedOf, IsFinishedOf, IsFoundInBlockOf, IsFrontFedOf}
-use Rattle.determinize_regex.specs.Streams.{IsPartFedOf, IsStreamOf, KeepsFewOf, StreamValue}
-use Rattle.ordered_reach.proofs.Cases.{some_injective}
 
 -- a match that ended where the search begins ended at the place
 before_is : (s : Streamed) (last : ℕ) → before s ≡ Some last → last ≡ place s
-before_is s last e = go s.is_after e
-  where
-    go : (b : Bool) → cond b (Some (place s)) None ≡ Some last → last ≡ place s
-    go true e = sym (some_injective (place s) last e)
-    go false e = absurd (let z : None ≡ Some last = e in cc)
+before_is s last e = by_test s.is_after
+    (λ y. let same : Some (place s) ≡ Some last = rw y at e in cc)
+    (λ n. let none : None ≡ Some last = rw n at e in cc)
 
-module _ (patterns : List Pattern) (nfa : Nfa) (limit : ℕ) (is : IsRegex (value_of patterns nfa limit))
+module _ {patterns : List Pattern} {nfa : Nfa} {limit : ℕ} (is : IsRegex (value_of patterns nfa limit))
     (accepted : IsAccepted nfa) where
   abbrev regex : RegexValue
   regex = value_of patterns nfa limit
@@ -42,22 +30,15 @@ module _ (patterns : List Pattern) (nfa : Nfa) (limit : ℕ) (is : IsRegex (valu
       → AreMatches nfa asked last ms ↔ AreMatchesOf nfa.terminator (meanings regex) asked last ms
   matches_are = each_matches_are_of (meanings regex) nfa is.means is.prefix
 
-  begin_all : (s : Streamed) (text : List ℕ) (given : List Match) → IsStream nfa text given s
-      → BeginAll regex text given
-  begin_all s text given h more small =
-      let inside : length (text ++ more) ≤ length (text ++ more) = omega arith in
-      let rest = each_input_has_matches nfa accepted (from (whole (text ++ more)) (place s)) (before s) inside
-      (before_is s) in (
-        rest.0,
-        (matches_are (whole (text ++ more)) None (given ++ rest.0)).0 (h.matches more small rest.0 rest.1),
-      )
-
   pub stream_of : (s : Streamed) (text : List ℕ) (given : List Match) → IsStream nfa text given s
       → IsStreamOf (value s) text given
   stream_of s text given h = record {
     read = h.read;
     kept = h.kept;
-    first = begin_all s text given h;
+    first = λ more small.
+        let rest = each_input_has_matches nfa accepted (from (whole (text ++ more)) (place s)) (before s) (omega arith)
+        (before_is s) in
+        (rest.0, (matches_are (whole (text ++ more)) None (given ++ rest.0)).0 (h.matches more small rest.0 rest.1));
     others = λ more small ms m. (matches_are (whole (text ++ more)) None (given ++ ms)).0
         (h.matches more small ms ((matches_are (from (whole (text ++ more)) (place s)) (before s) ms).1 m));
   }
@@ -71,46 +52,40 @@ module _ (patterns : List Pattern) (nfa : Nfa) (limit : ℕ) (is : IsRegex (valu
         (h.others more small ms ((matches_are (from (whole (text ++ more)) (place s)) (before s) ms).0 m));
   }
 
-  pub fed_of : (old new : Streamed) (more : List ℕ) (list after : List Match) → IsFed nfa old new more list after
+  pub fed_of : {old new : Streamed} {more : List ℕ} {list after : List Match} → IsFed nfa old new more list after
       → IsFedOf (value old) (value new) more list after
-  fed_of old new more list after h = record {
+  fed_of h = record {
     found = h.found;
     added = h.added;
     read = h.read;
     keeps = h.keeps;
-    stream = λ text given is_old.
-        stream_of new (text ++ more) (given ++ h.found) (h.stream text given (stream_by_runs old text given is_old));
+    stream = λ text given is_old. stream_of _ _ _ (h.stream text given (stream_by_runs _ text given is_old));
   }
 
-  pub part_fed_of : (old new : Streamed) (piece : List ℕ) (list after : List Match)
-      → IsPartFed nfa old new piece list after → IsPartFedOf (value old) (value new) piece list after
-  part_fed_of old new piece list after h = (h.0, h.1, fed_of old new (take h.0 piece) list after h.2)
-
-  pub front_fed_of : (old new : Streamed) (piece rest : List ℕ) (found : List Match)
+  pub front_fed_of : {old new : Streamed} {piece rest : List ℕ} {found : List Match}
       → IsFrontFed nfa old new piece rest found → IsFrontFedOf (value old) (value new) piece rest found
-  front_fed_of old new piece rest found h =
-      record { front = h.front; cut = h.cut; fed = fed_of old new h.front [] found h.fed }
+  front_fed_of h = record { front = h.front; cut = h.cut; fed = fed_of h.fed }
 
-  pub finished_of : (s : Streamed) (list after : List Match) → IsFinished nfa s list after
+  pub finished_of : {s : Streamed} {list after : List Match} → IsFinished nfa s list after
       → IsFinishedOf (value s) list after
-  finished_of s list after h = record {
+  finished_of h = record {
     found = h.found;
     added = h.added;
     kept = h.kept;
-    all = λ text given is_old. (matches_are (whole text) None (given ++ h.found)).0
-        (h.all text given (stream_by_runs s text given is_old));
+    all = λ text given is_old.
+        (matches_are (whole text) None (given ++ h.found)).0 (h.all text given (stream_by_runs _ text given is_old));
   }
 
-  pub keeps_of : (s : Streamed) → KeepsFew nfa s → KeepsFewOf (value s)
-  keeps_of s few = record { means = is.means; apart = is.apart; few = few }
+  pub keeps_of : {s : Streamed} → KeepsFew nfa s → KeepsFewOf (value s)
+  keeps_of few = record { means = is.means; apart = is.apart; few = few }
 
-  pub found_in : (old new : Streamed) (piece rest : List ℕ) (m : Match) → IsFoundInBlock nfa old new piece rest m
+  pub found_in : {old new : Streamed} {piece rest : List ℕ} {m : Match} → IsFoundInBlock nfa old new piece rest m
       → IsFoundInBlockOf (value old) (value new) piece rest m
-  found_in old new piece rest m h = record {
+  found_in h = record {
     now = value h.now;
     block = h.block;
     small = h.small;
-    first = front_fed_of old h.now piece (h.block ++ rest) [] h.first;
-    few = keeps_of h.now h.few;
-    last = fed_of h.now new h.block [] (m ∷ []) h.last;
+    first = front_fed_of h.first;
+    few = keeps_of h.few;
+    last = fed_of h.last;
   }

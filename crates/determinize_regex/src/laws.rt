@@ -21,12 +21,14 @@ pub fn patterns_at_law()
 {}
 
 /// States that `is_boundary` says whether a `str` of these bytes may be cut at the index.
+#[tactic(auto, using(crate::proofs::Boundaries::decides_boundary))]
 pub fn boundary_law()
     ensures { EachBoundaryIsDecided }
 {}
 
 /// States that a text with other bytes in place of its matches is its parts, joined by these bytes,
 /// and what both are of `a,b,` and its commas.
+#[tactic(auto, using(crate::proofs::Splitting::each_replaced_is_joined))]
 pub fn parts_law()
     ensures joined { EachReplacedIsJoined }
     ensures parts { WorkedParts }

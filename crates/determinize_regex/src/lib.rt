@@ -16,7 +16,6 @@
 pub mod error;
 pub mod laws;
 pub mod regex;
-mod search;
 mod set;
 mod split;
 pub mod stream;

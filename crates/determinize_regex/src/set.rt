@@ -1,10 +1,13 @@
 //! Which of several patterns match.
 
 ghost use Rattle.std.specs.Prelude.{◌≡◌, ◌≤◌, ℕ, IfErr, IfOk, map, min, true};
+ghost use Rattle.std.specs.Coded.{codes};
 ghost use Rattle.determinize_engine.specs.Searches.{has_start};
 ghost use Rattle.determinize_lazy.specs.MostBytes.{most_bytes};
+ghost use Rattle.determinize_pattern.specs.contracts.pattern.Pattern as e;
 ghost use Rattle.determinize_regex.specs.RegexBytes.{HasBytes};
-ghost use Rattle.determinize_regex.specs.Regexes.{HasOptions, IsNfaIn, meanings};
+ghost use Rattle.determinize_regex.specs.Private.Searched.{IsSet, value_of};
+ghost use Rattle.determinize_regex.specs.Regexes.{HasOptions, IsNfaIn, meanings, RegexValue};
 ghost use Rattle.determinize_regex.specs.Sets.{AreAtEnd, AreMatching};
 ghost use Rattle.determinize_regex.specs.Spelled.{AreSpelled, IsRejected};
 
@@ -43,11 +46,6 @@ impl<P: AsSlice<Pattern> + Drop, R: AsNfa, A: Allocator + Copy> Drop for RegexSe
 }
 
 impl<P: AsSlice<Pattern> + Drop, R: AsNfa, A: Allocator + Copy> Model for RegexSet<P, R, A> {
-    ghost use Rattle.std.specs.Coded.{codes};
-    ghost use Rattle.determinize_pattern.specs.contracts.pattern.Pattern as e;
-    ghost use Rattle.determinize_regex.specs.Private.Searched.{IsSet, value_of};
-    ghost use Rattle.determinize_regex.specs.Regexes.{RegexValue};
-
     ghost Value = { RegexValue };
 
     ghost coded = { Prim.hlevel (codes, e.the_row.coded) };
@@ -66,12 +64,11 @@ impl RegexSet {
             (λ e. IsRejected config.flags (map (λ t. t.now) patterns.now) e) }
         ensures options { IfOk result (λ set. HasOptions config set) }
     {
-        let limit = config.cache_limit;
         let parsed = parse_all(alloc, patterns, config.flags)?;
         let nfa = compile(alloc, &parsed, config.compile)?;
         Ok(RegexSet {
             patterns: parsed,
-            lazy: LazyDfa::new_by_class(alloc, nfa, MatchKind::All, limit),
+            lazy: LazyDfa::new_by_class(alloc, nfa, MatchKind::All, config.cache_limit),
         })
     }
 }

@@ -1,7 +1,6 @@
 //! Texts without the matches of patterns: the parts between them, or other bytes in their place.
 
-ghost use Rattle.std.specs.Prelude.{◌≡◌, IfOk, List, None, length, map};
-ghost use Rattle.determinize_below.specs.declared.search.Match.{Match as Found};
+ghost use Rattle.std.specs.Prelude.{◌≡◌, IfOk, None, length, map};
 ghost use Rattle.determinize_find.specs.Matches.{AreApart};
 ghost use Rattle.determinize_regex.specs.Parts.{AreParts, AreWholeIn, IsReplaced, IsReplacedBy, parts};
 ghost use Rattle.determinize_regex.specs.Regexes.{AreAllIn};
@@ -57,7 +56,7 @@ impl<P: AsSlice<Pattern> + Drop, R: AsNfa, A: Allocator + Copy> Regex<P, R, A> {
         replacement: F,
     ) -> Result<Vec<u8, C>, AllocError>
         requires { F.IsAlwaysCallable replacement }
-        ensures replaced { IfOk result (λ new. (found : List Found)
+        ensures replaced { IfOk result (λ new. (found : _)
             × AreAllIn self.old haystack.now found × IsReplacedBy
             (λ p x q. (shown : _) × (shown.now ≡ x.0) × F.step p shown x.1 q) replacement
             found haystack.now new.items) }
@@ -78,7 +77,8 @@ impl<P: AsSlice<Pattern> + Drop, R: AsNfa, A: Allocator + Copy> Regex<P, R, A> {
             haystack.now (map (λ part. part.now) cut.items)) }
         ensures same { self.new ≡ self.old }
     {
-        let found = self.whole_matches_in(alloc, haystack)?;
+        let mut found = self.matches_in(alloc, haystack)?;
+        retain_whole(haystack, &mut found);
         split_at(alloc, haystack, &found)
     }
 
@@ -94,7 +94,8 @@ impl<P: AsSlice<Pattern> + Drop, R: AsNfa, A: Allocator + Copy> Regex<P, R, A> {
             haystack.now replacement.now new.items) }
         ensures same { self.new ≡ self.old }
     {
-        let found = self.whole_matches_in(alloc, haystack)?;
+        let mut found = self.matches_in(alloc, haystack)?;
+        retain_whole(haystack, &mut found);
         replace_each(alloc, haystack, &found, |_| replacement)
     }
 
@@ -109,21 +110,6 @@ impl<P: AsSlice<Pattern> + Drop, R: AsNfa, A: Allocator + Copy> Regex<P, R, A> {
         ensures same { self.new ≡ self.old }
     {
         self.search.find_all(alloc, &Input::new(text))
-    }
-
-    /// Returns all matches of a text but the empty ones inside an encoded character.
-    fn whole_matches_in<C: Allocator>(
-        &mut self,
-        alloc: C,
-        text: &[u8],
-    ) -> Result<Vec<Match, C>, AllocError>
-        ensures all { IfOk result (λ found. AreWholeIn self.old text.now found.items) }
-        ensures apart { IfOk result (λ found. AreApart 0 None (length text.now) found.items) }
-        ensures same { self.new ≡ self.old }
-    {
-        let mut found = self.matches_in(alloc, text)?;
-        retain_whole(text, &mut found);
-        Ok(found)
     }
 }
 

@@ -1,10 +1,11 @@
 //! All matches of patterns in a text that comes in pieces.
 
-ghost use Rattle.std.specs.Prelude.{◌≡◌, ◌<◌, ◌⊎◌, ◌↔◌, ℕ, [], IfOk, IsSome, List, OnErr, OnOk, drop, option_to_list};
-ghost use Rattle.std.specs.List.{slice_range};
-ghost use Rattle.std.specs.Option.{IfNone, IfSome};
+ghost use Rattle.std.specs.Prelude.{◌≡◌, ◌<◌, ◌⊎◌, ◌↔◌, ℕ, [], IfNone, IfOk, IfSome, IsSome, List, OnErr, OnOk, drop, option_to_list, slice_range};
+ghost use Rattle.std.specs.Coded.{codes};
 ghost use Rattle.determinize_find.specs.Streams.{IsKept, count_kept, count_read, left_in};
-ghost use Rattle.determinize_regex.specs.Streams.{IsFedOf, IsFinishedOf, IsFoundInBlockOf, IsFrontFedOf, IsPartFedOf, KeepsFewOf, KeptFewOf};
+ghost use Rattle.determinize_pattern.specs.contracts.pattern.Pattern as e;
+ghost use Rattle.determinize_regex.specs.Private.Searched.{IsStreaming, value_of};
+ghost use Rattle.determinize_regex.specs.Streams.{IsFedOf, IsFinishedOf, IsFoundInBlockOf, IsFrontFedOf, IsPartFedOf, KeepsFewOf, KeptFewOf, StreamValue};
 
 use determinize_below::{Match, NFA};
 use determinize_find::{Pieces, Regex as Search};
@@ -29,11 +30,6 @@ pub struct Stream<'r, A: Allocator + Copy = Global> {
 }
 
 impl<'r, A: Allocator + Copy> Model for Stream<'r, A> {
-    ghost use Rattle.std.specs.Coded.{codes};
-    ghost use Rattle.determinize_pattern.specs.contracts.pattern.Pattern as e;
-    ghost use Rattle.determinize_regex.specs.Private.Searched.{IsStreaming, value_of};
-    ghost use Rattle.determinize_regex.specs.Streams.{StreamValue};
-
     ghost Value = { StreamValue };
 
     ghost coded = { Prim.hlevel (codes, e.the_row.coded) };

@@ -1,6 +1,6 @@
-use Rattle.std.proofs.Common.{rules}
-use Rattle.determinize_regex.specs.Spelled as spelled
+use Rattle.determinize_regex.proofs.Common.{rules}
 use Rattle.determinize_regex.proofs.Spelling.{rejects_at, spells_one_more}
+use Rattle.determinize_regex.specs.Spelled as spelled
 use Rattle.determinize_regex.proofs.regex.parse_all.Goals as goal
 
 pub loop-i-init : goal.loop-i-init

@@ -1,6 +1,4 @@
-use Rattle.std.proofs.Common.{map, take}
-use Rattle.determinize_pattern.specs.Patterns.{meaning}
-use Rattle.determinize_regex.specs.Spelled.{AreSpelled}
+use Rattle.determinize_regex.proofs.Common.{AreSpelled, map, meaning, take}
 use Rattle.determinize_regex.proofs.regex.parse_all.Given as goal
 
 abbrev pub invariant-loop-i : goal.invariant-loop-i

@@ -1,7 +1,6 @@
-use Rattle.std.proofs.Common.{None, [], ◌++◌, ◌∙◌, ◌∷◌, arith, of_calls, refl}
-use Rattle.std.proofs.lemmas.List.{take_all, take_rest}
-use Rattle.determinize_below.proofs.Moved.{next_of}
-use Rattle.determinize_regex.proofs.Splitting.{called_more, last_of_each, next_left, one_more_match, one_of_each}
+use Rattle.determinize_regex.proofs.Common.{arith, FoldsTo-push, next_of, None, of_calls, refl, take_all, take_rest, []}
+use Rattle.determinize_regex.proofs.Common.{◌++◌, ◌∙◌, ◌∷◌}
+use Rattle.determinize_regex.proofs.Splitting.{last_of_each, next_left, one_more_match, one_of_each}
 use Rattle.determinize_regex.proofs.split.replace_each.Goals as goal
 
 pub loop-next-init : goal.loop-next-init
@@ -23,8 +22,8 @@ loop-next-preserved g c =
         each ++ (c.next-item.result, c.call.result) ∷ [],
         one_more_match each (c.next-item.result, c.call.result) c.args.found.now c.loop-next.next-index
             c.loop-next-test.true c.next-item.is matches,
-        called_more (goal.F-step g) c.args.replacement each c.loop-next.call _ c.call.result c.call.new.self calls
-            c.call.ensures,
+        FoldsTo-push _ c.args.replacement each c.loop-next.call (c.next-item.result, c.call.result) c.call.new.self
+            calls (_, refl, c.call.ensures),
         one_of_each c.args.text.now c.loop-next.new.items c.extend_from_slice.new.self.items
             c.extend_from_slice-in-loop-next.new.self.items c.loop-next.at each (c.next-item.result, c.call.result)
             c.in_ok-extend_from_slice.ensures.items c.in_ok-extend_from_slice-2.ensures.items so_far,

@@ -1,7 +1,4 @@
-use Rattle.std.proofs.Common.{◌≡◌, ℕ, List, drop, length, map, take}
-use Rattle.std.specs.Borrow.{Bor}
-use Rattle.std.specs.List.{FoldsTo}
-use Rattle.determinize_below.specs.declared.search.Match.{Match}
+use Rattle.determinize_regex.proofs.Common.{Bor, drop, FoldsTo, length, List, map, Match, take, ℕ, ◌≡◌}
 use Rattle.determinize_regex.proofs.Splitting.{AreLeft, IsNewOfEach}
 use Rattle.determinize_regex.proofs.split.replace_each.Given as goal
 

@@ -1,7 +1,4 @@
-use Rattle.std.proofs.Common.{None, arith, refl}
-use Rattle.std.proofs.lemmas.List.{drop_all, take_rest}
-use Rattle.determinize_below.proofs.Moved.{next_of}
-use Rattle.determinize_regex.specs.Parts.{parts}
+use Rattle.determinize_regex.proofs.Common.{arith, drop_all, next_of, None, parts, refl, take_rest}
 use Rattle.determinize_regex.proofs.Splitting.{last_part, next_left, one_part}
 use Rattle.determinize_regex.proofs.split.split_at.Goals as goal
 

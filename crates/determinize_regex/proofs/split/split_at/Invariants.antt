@@ -1,5 +1,4 @@
-use Rattle.std.proofs.Common.{drop, length}
-use Rattle.determinize_regex.specs.Parts.{parts}
+use Rattle.determinize_regex.proofs.Common.{drop, length, parts}
 use Rattle.determinize_regex.proofs.Splitting.{AreLeft, IsCut}
 use Rattle.determinize_regex.proofs.split.split_at.Given as goal
 

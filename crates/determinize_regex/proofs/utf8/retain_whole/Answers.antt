@@ -1,5 +1,4 @@
-use Rattle.std.proofs.Common.{rules}
-use Rattle.std.proofs.lemmas.Fn.{filter_same}
+use Rattle.determinize_regex.proofs.Common.{filter_same, rules}
 use Rattle.determinize_regex.proofs.utf8.retain_whole.Goals as goal
 
 pub returns : goal.returns

@@ -1,4 +1,4 @@
-use Rattle.std.proofs.lemmas.Result.{IfOk-weaker}
+use Rattle.determinize_regex.proofs.Common.{IfOk-weaker}
 use Rattle.determinize_regex.proofs.FoundOfPatterns.{each_leftmost_in_is_of}
 use Rattle.determinize_regex.proofs.regex.Regex.find.Goals as goal
 

@@ -1,10 +1,6 @@
-use Rattle.std.proofs.lemmas.Result.{IfOk-weaker}
-use Rattle.determinize_regex.proofs.FoundOfPatterns.{each_matches_are_of}
+use Rattle.determinize_regex.proofs.FoundOfPatterns.{all_by}
 use Rattle.determinize_regex.proofs.regex.Regex.find_all_counted.Goals as goal
 
 pub returns-clause-all : goal.returns-clause-all
-returns-clause-all g c =
-    let is = c.self.invariant.regex in
-    rw (← c.self.view_is) (IfOk-weaker c.find_all_counted.result _ _
-    (λ found. (each_matches_are_of _ _ is.means is.prefix c.args.input.now _ found.items).0)
-    (rw c.nfa.ensures.value at c.find_all_counted.ensures.all))
+returns-clause-all g c = all_by c.self.view_is c.self.invariant.regex c.args.input.now c.find_all_counted.result
+    (λ found. found.items) (rw c.nfa.ensures.value at c.find_all_counted.ensures.all)

@@ -1,12 +1,8 @@
-use Rattle.std.proofs.lemmas.Result.{IfOk-weaker}
-use Rattle.determinize_regex.proofs.FoundOfPatterns.{each_matches_are_of}
+use Rattle.determinize_regex.proofs.FoundOfPatterns.{all_by}
 use Rattle.determinize_regex.proofs.regex.Regex.find_all_linear.Goals as goal
 
 pub returns : goal.returns
-returns g c =
-    let is = c.self.invariant.regex in
-    record {
-      all = rw (← c.self.view_is) (IfOk-weaker c.find_all.result _ _
-          (λ found. (each_matches_are_of _ _ is.means is.prefix c.args.input.now _ found.items).0)
-          (rw c.nfa.ensures.value at c.find_all.ensures));
-    }
+returns g c = record {
+  all = all_by c.self.view_is c.self.invariant.regex c.args.input.now c.find_all.result (λ found. found.items)
+      (rw c.nfa.ensures.value at c.find_all.ensures);
+}

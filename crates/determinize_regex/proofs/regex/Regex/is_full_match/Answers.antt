@@ -1,4 +1,4 @@
-use Rattle.std.proofs.lemmas.Result.{IfOk-weaker}
+use Rattle.determinize_regex.proofs.Common.{IfOk-weaker}
 use Rattle.determinize_regex.proofs.FoundOfPatterns.{full_by}
 use Rattle.determinize_regex.proofs.regex.Regex.is_full_match.Goals as goal
 

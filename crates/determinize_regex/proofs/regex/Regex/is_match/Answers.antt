@@ -1,4 +1,4 @@
-use Rattle.std.proofs.lemmas.Result.{IfOk-weaker}
+use Rattle.determinize_regex.proofs.Common.{IfOk-weaker}
 use Rattle.determinize_regex.proofs.FoundOfPatterns.{matched_by}
 use Rattle.determinize_regex.proofs.regex.Regex.is_match.Goals as goal
 

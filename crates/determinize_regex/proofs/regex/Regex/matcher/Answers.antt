@@ -1,4 +1,4 @@
-use Rattle.std.proofs.Common.{refl}
+use Rattle.determinize_regex.proofs.Common.{refl}
 use Rattle.determinize_regex.proofs.FoundOfPatterns.{with_limit}
 use Rattle.determinize_regex.proofs.regex.Regex.matcher.Goals as goal
 

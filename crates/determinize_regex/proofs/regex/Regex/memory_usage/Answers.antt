@@ -1,5 +1,4 @@
-use Rattle.std.proofs.Common.{arith, length, ◌*◌, ◌+◌, ◌≤◌, ◌∙◌, refl}
-use Rattle.std.proofs.Math.Nat.{mul-le-mul_right}
+use Rattle.determinize_regex.proofs.Common.{arith, length, mul-le-mul_right, refl, ◌*◌, ◌+◌, ◌∙◌, ◌≤◌}
 use Rattle.determinize_find.specs.Regexes.{RegexValue as Searched}
 use Rattle.determinize_lazy.specs.MostBytes.{most_bytes}
 use Rattle.determinize_nfa.specs.Reversal.{most_states}
@@ -26,10 +25,12 @@ returns-clause-cached g c = rw (← c.self.view_is) record {
 pub returns-clause-most : goal.returns-clause-most
 returns-clause-most g c =
     let s : Searched = c.self.inside.search in
+    let f = c.forward.ensures in
+    let b = c.backward.ensures in
     let most : c.cached_memory_usage.result
     ≤ most_bytes s.limit s.nfa + s.limit * (1138 + 10 * length s.backward.states)
-    = rw (c.self.invariant.limits, c.self.invariant.pattern) at (rw (c.forward.ensures.limit, c.forward.ensures.nfa)
-    at (rw (c.backward.ensures.limit, c.backward.ensures.nfa) at c.cached_memory_usage.ensures.most)) in
+    = rw (b.limit, b.nfa, f.limit, f.nfa, c.self.invariant.limits, c.self.invariant.pattern)
+    at c.cached_memory_usage.ensures.most in
     let less : (1138 + 10 * length s.backward.states) * s.limit ≤ (1138 + 10 * most_states s.nfa) * s.limit =
     mul-le-mul_right s.limit (omega (arith, c.self.invariant.size)) in
     rw (← c.self.view_is)

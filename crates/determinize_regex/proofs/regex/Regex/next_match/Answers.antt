@@ -1,4 +1,4 @@
-use Rattle.std.proofs.lemmas.Result.{IfOk-weaker}
+use Rattle.determinize_regex.proofs.Common.{IfOk-weaker}
 use Rattle.determinize_regex.proofs.FoundOfPatterns.{each_leftmost_in_is_of, next_by}
 use Rattle.determinize_regex.proofs.regex.Regex.next_match.Goals as goal
 

@@ -1,5 +1,4 @@
-use Rattle.std.proofs.Common.{rules}
-use Rattle.std.proofs.lemmas.Result.{IfOk-weaker}
+use Rattle.determinize_regex.proofs.Common.{IfOk-weaker, rules}
 use Rattle.determinize_regex.proofs.Splitting.{replaced_by}
 use Rattle.determinize_regex.proofs.regex.Regex.replace_all.Goals as goal
 

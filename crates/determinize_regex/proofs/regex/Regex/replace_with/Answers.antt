@@ -1,4 +1,4 @@
-use Rattle.std.proofs.lemmas.Result.{IfOk-weaker}
+use Rattle.determinize_regex.proofs.Common.{IfOk-weaker}
 use Rattle.determinize_regex.proofs.regex.Regex.replace_with.Goals as goal
 
 pub returns-clause-replaced : goal.returns-clause-replaced

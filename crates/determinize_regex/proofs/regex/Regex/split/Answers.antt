@@ -1,4 +1,4 @@
-use Rattle.std.proofs.lemmas.Result.{IfOk-weaker}
+use Rattle.determinize_regex.proofs.Common.{IfOk-weaker}
 use Rattle.determinize_regex.proofs.regex.Regex.split.Goals as goal
 
 pub returns-clause-parts : goal.returns-clause-parts

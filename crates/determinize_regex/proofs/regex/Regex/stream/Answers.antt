@@ -1,4 +1,4 @@
-use Rattle.std.proofs.Common.{[]}
+use Rattle.determinize_regex.proofs.Common.{[]}
 use Rattle.determinize_regex.proofs.FoundOfPatterns.{with_limit}
 use Rattle.determinize_regex.proofs.StreamsOfPatterns.{stream_of}
 use Rattle.determinize_regex.proofs.regex.Regex.stream.Goals as goal
@@ -12,6 +12,5 @@ invariant_of-result g c = rw (c.borrowed.ensures.value, c.as_slice.ensures.value
 
 pub returns-clause-stream : goal.returns-clause-stream
 returns-clause-stream g c = rw (c.borrowed.ensures.value, c.as_slice.ensures.value)
-    (stream_of c.self.inside.patterns.items c.self.inside.search.nfa c.args.limit
-    (with_limit c.self.invariant.regex c.args.limit) c.borrowed.ensures.accepted c.new.result [] []
+    (stream_of (with_limit c.self.invariant.regex c.args.limit) c.borrowed.ensures.accepted c.new.result [] []
     (c.new.ensures.stream c.self.inside.search.nfa))

@@ -1,4 +1,4 @@
-use Rattle.std.proofs.Common.{refl}
+use Rattle.determinize_regex.proofs.Common.{refl}
 use Rattle.determinize_regex.proofs.set.RegexSet.memory_usage.Goals as goal
 
 pub returns-clause-cached : goal.returns-clause-cached

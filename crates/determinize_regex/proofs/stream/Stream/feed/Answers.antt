@@ -1,5 +1,5 @@
-use Rattle.std.proofs.lemmas.Result.{on_err_weaker, on_ok_weaker}
-use Rattle.determinize_regex.proofs.StreamsOfPatterns.{fed_of, part_fed_of}
+use Rattle.determinize_regex.proofs.Common.{on_err_weaker, on_ok_weaker, refl}
+use Rattle.determinize_regex.proofs.StreamsOfPatterns.{fed_of}
 use Rattle.determinize_regex.proofs.stream.Stream.feed.Goals as goal
 
 pub invariant_of-self : goal.invariant_of-self
@@ -9,17 +9,15 @@ invariant_of-self g c = rw c.feed.ensures.same record {
   under_way = (c.feed.ensures.read c.self.invariant.under_way).searching;
 }
 
-pub returns-clause-fed : goal.returns-clause-fed
-returns-clause-fed g c = rw (← c.self.view_is, c.feed.ensures.same) (on_ok_weaker c.feed.result
-    (fed_of _ _ _ c.self.invariant.regex c.self.invariant.accepted _ _ _ _ _)
-    (c.feed.ensures.read c.self.invariant.under_way).fed)
-
-pub returns-clause-failed : goal.returns-clause-failed
-returns-clause-failed g c = rw (← c.self.view_is, c.feed.ensures.same) (on_err_weaker c.feed.result
-    (part_fed_of _ _ _ c.self.invariant.regex c.self.invariant.accepted _ _ _ _ _)
-    (c.feed.ensures.read c.self.invariant.under_way).failed)
-
-pub returns-clause-few : goal.returns-clause-few
-returns-clause-few g c = rw (← c.self.view_is, c.feed.ensures.same) (on_ok_weaker c.feed.result
-    (λ few. record { means = c.self.invariant.regex.means; apart = c.self.invariant.regex.apart; few = few })
-    (c.feed.ensures.few c.self.invariant.under_way))
+pub returns : goal.returns
+returns g c =
+    let is = c.self.invariant.regex in
+    let accepted = c.self.invariant.accepted in
+    let read = c.feed.ensures.read c.self.invariant.under_way in
+    rw (← c.self.view_is, c.feed.ensures.same) record {
+      fed = on_ok_weaker c.feed.result (fed_of is accepted) read.fed;
+      failed = on_err_weaker c.feed.result (λ part. (part.0, part.1, fed_of is accepted part.2)) read.failed;
+      few = on_ok_weaker c.feed.result (λ few. record { means = is.means; apart = is.apart; few = few })
+          (c.feed.ensures.few c.self.invariant.under_way);
+      same = refl;
+    }

@@ -1,7 +1,7 @@
-use Rattle.std.proofs.lemmas.Result.{on_ok_weaker}
+use Rattle.determinize_regex.proofs.Common.{on_ok_weaker}
 use Rattle.determinize_regex.proofs.StreamsOfPatterns.{finished_of}
 use Rattle.determinize_regex.proofs.stream.Stream.finish.Goals as goal
 
 pub returns-clause-finished : goal.returns-clause-finished
 returns-clause-finished g c = rw (← c.self.view_is) (on_ok_weaker c.finish.result
-    (finished_of _ _ _ c.self.invariant.regex c.self.invariant.accepted _ _ _) c.finish.ensures.finished)
+    (finished_of c.self.invariant.regex c.self.invariant.accepted) c.finish.ensures.finished)
