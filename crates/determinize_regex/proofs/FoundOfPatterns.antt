@@ -45,14 +45,8 @@ pub each_leftmost_in_is_of : EachLeftmostInIsOf
 each_leftmost_in_is_of res nfa is has asked found =
     let last = latest_is nfa has asked.anchored (asked.end - asked.start) in
     let is_of = leftmost_is_of nfa res is (text_of false asked) in (
-      λ h. record {
-        done = h.done;
-        found = λ more. let m = h.found more in (m.0, (is_of _ m.0).0 (rw last at m.1), m.2);
-      },
-      λ h. record {
-        done = h.done;
-        found = λ more. let m = h.found more in (m.0, (is_of _ m.0).1 (rw last m.1), m.2);
-      },
+      λ h. record { done = h.done; found = λ d. let m = h.found d in (m.0, (is_of _ m.0).0 (rw last at m.1), m.2) },
+      λ h. record { done = h.done; found = λ d. let m = h.found d in (m.0, (is_of _ m.0).1 (rw last m.1), m.2) },
     )
 
 pub each_matches_are_of : EachMatchesAreOf

@@ -42,11 +42,9 @@ module _ (patterns : List Declared) (nfa : Nfa) (limit : ℕ) (is : IsRegex (val
 
   of_mode : (anchored : Anchored) → has_start anchored ≡ true
       → AreOfPatterns (meanings regex) nfa text (start_for nfa anchored) (latest_in anchored size)
-  of_mode No given =
-      let any : AreOfPatterns (meanings regex) nfa text nfa.start_unanchored (length text.bytes)
-      = from_any (meanings regex) nfa is.means text is.prefix (All-take (λ (b : ℕ). b < 256) size
-      (drop asked.start asked.haystack) (All-drop (λ (b : ℕ). b < 256) asked.start asked.haystack small)) in
-      rw size_is at any
+  of_mode No given = rw size_is at (from_any (meanings regex) nfa is.means text is.prefix
+      (All-take (λ (b : ℕ). b < 256) size (drop asked.start asked.haystack)
+      (All-drop (λ (b : ℕ). b < 256) asked.start asked.haystack small)))
   of_mode Yes given = from_anchored (meanings regex) nfa is.means text
   of_mode (Pattern p) given = absurd (let wrong : false ≡ true = given in cc)
 

@@ -15,23 +15,12 @@ pub record AreLeft (text_size at : ℕ) (found : List Match) : Type 0 where
   pub before : Option ℕ
   pub apart : AreApart at before text_size found
 
--- the next of them begins there or later, and the others are left behind it
-pub record IsNextLeft (text_size at : ℕ) (m : Match) (ms : List Match) : Type 0 where
-  pub low : at ≤ m.start
-  pub order : m.start ≤ m.end
-  pub high : m.end ≤ text_size
-  pub left : AreLeft text_size m.end ms
-
+-- and those behind the next of them
 pub next_left : (text_size at : ℕ) (m : Match) (ms found : List Match) → found ≡ m ∷ ms → AreLeft text_size at found
-    → IsNextLeft text_size at m ms
+    → AreLeft text_size m.end ms
 next_left text_size at m ms found is h =
     let a : AreApart at h.before text_size (m ∷ ms) = rw is at h.apart in
-    record {
-      low = a.0;
-      order = a.1;
-      high = a.2;
-      left = record { inside = a.2; before = Some m.end; apart = a.4 };
-    }
+    record { inside = a.2; before = Some m.end; apart = a.4 }
 
 -- matches that begin later may follow an earlier one
 later_apart : (start at size : ℕ) (before : Option ℕ) (ms : List Match) → start ≤ at

@@ -17,7 +17,7 @@ loop-next-preserved g c =
     let (each, matches, calls, so_far) = c.loop-next.invariant.so_far in
     record {
       callable = search of_calls;
-      left = (next_left _ _ _ _ _ next c.loop-next.invariant.left).left;
+      left = next_left _ _ _ _ _ next c.loop-next.invariant.left;
       so_far = (
         each ++ (c.next-item.result, c.call.result) ∷ [],
         one_more_match each (c.next-item.result, c.call.result) c.args.found.now c.loop-next.next-index

@@ -12,7 +12,7 @@ pub loop-next-preserved : goal.loop-next-preserved
 loop-next-preserved g c =
     let next = next_of c.args.found.now c.loop-next.next-index c.next-item.result c.loop-next-test.true c.next-item.is
     in record {
-      left = (next_left _ _ _ _ _ next c.loop-next.invariant.left).left;
+      left = next_left _ _ _ _ _ next c.loop-next.invariant.left;
       so_far = one_part (λ part. part.now) c.args.text.now c.loop-next.cut.items c.push.new.self.items _ _ _
           c.next-item.result _ _ next refl c.in_ok-push.ensures.items c.loop-next.invariant.so_far;
     }

@@ -6,21 +6,19 @@ use Rattle.determinize_regex.specs.RegexBytes.{regex_bytes}
 use Rattle.determinize_regex.proofs.regex.Regex.memory_usage.Goals as goal
 
 pub returns-clause-cached : goal.returns-clause-cached
-returns-clause-cached g c = rw (← c.self.view_is) record {
-  forward = _;
-  backward = _;
-  reverse = c.self.inside.search.backward;
-  is_reverse = rw c.backward.ensures.nfa at c.backward.ensures.reverse;
-  of_forward =
-      record { cache = c.forward.result.now; over = c.forward.ensures.nfa; most = c.forward.ensures.limit; is = refl };
-  of_backward = record {
-    cache = c.backward.result.now;
-    over = c.backward.ensures.nfa;
-    most = c.backward.ensures.limit ∙ c.self.invariant.limits;
-    is = refl;
-  };
-  sum = c.cached_memory_usage.ensures.value;
-}
+returns-clause-cached g c =
+    let f = c.forward.ensures in
+    let b = c.backward.ensures in
+    rw (← c.self.view_is) record {
+      forward = _;
+      backward = _;
+      reverse = c.self.inside.search.backward;
+      is_reverse = rw b.nfa at b.reverse;
+      of_forward = record { cache = c.forward.result.now; over = f.nfa; most = f.limit; is = refl };
+      of_backward =
+          record { cache = c.backward.result.now; over = b.nfa; most = b.limit ∙ c.self.invariant.limits; is = refl };
+      sum = c.cached_memory_usage.ensures.value;
+    }
 
 pub returns-clause-most : goal.returns-clause-most
 returns-clause-most g c =

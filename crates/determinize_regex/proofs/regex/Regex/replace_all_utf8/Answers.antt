@@ -13,14 +13,12 @@ replace_each-requires g c k = (
 )
 
 pub returns-clause-replaced : goal.returns-clause-replaced
-returns-clause-replaced g c = IfOk-weaker c.replace_each.result _ _
+returns-clause-replaced g c =
+    let all = c.in_ok-found in
+    IfOk-weaker c.replace_each.result _ _
     (λ new made. record {
       matches = c.retain_whole.new.found.items;
-      these = record {
-        matches = c.in_ok-found.found.items;
-        all = c.in_ok-found.ensures.all;
-        kept = c.retain_whole.ensures;
-      };
+      these = record { matches = all.found.items; all = all.ensures.all; kept = c.retain_whole.ensures };
       is = replaced_by _ _ _ _ (λ x next call. search rules) _ _ made;
     })
     (rw c.deref.ensures.value at c.replace_each.ensures)
