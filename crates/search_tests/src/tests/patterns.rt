@@ -31,7 +31,23 @@ fn expect_words<R: Abort + AllocGlobal>(rt: &R, regex: &mut Regex) {
     holds(rt, regex.memory_usage() > 0);
 }
 
-/// Finds the same matches before and after the caches are cleared and freed.
+/// Compares the memory of both caches with that of each: `is_match` fills the one of the DFA that
+/// reads forward, `is_full_match` the one of the DFA that reads backward.
+fn expect_both_caches<R: Abort>(rt: &R, regex: &mut Regex) {
+    let input = Input::new(TEXT);
+    regex.clear();
+    same(rt, regex.is_match(&input), Ok(true));
+    let forward = regex.memory_usage();
+    regex.clear();
+    same(rt, regex.is_full_match(&input), Ok(false));
+    let backward = regex.memory_usage();
+    holds(rt, forward > 0 && backward > 0);
+    same(rt, regex.is_match(&input), Ok(true));
+    same(rt, regex.memory_usage(), forward.saturating_add(backward));
+}
+
+/// Finds the same matches before and after the caches are cleared and freed, and compares the
+/// memory of the caches.
 #[test]
 fn numbers_and_names(rt: HostRuntime) {
     let mut regex = words::words(rt.alloc()).expect(&rt, "patterns");
@@ -42,6 +58,7 @@ fn numbers_and_names(rt: HostRuntime) {
     regex.reset();
     same(&rt, regex.memory_usage(), 0);
     expect_words(&rt, &mut regex);
+    expect_both_caches(&rt, &mut regex);
 }
 
 /// The same matches by a second search, in a linear number of steps, and one after another.
