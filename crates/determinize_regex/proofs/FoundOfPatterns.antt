@@ -63,7 +63,7 @@ pub all_by : {X E : Type 0} {patterns : List Declared} {nfa : Nfa} {limit : ℕ}
 all_by same is asked result items all = rw (← same) (IfOk-weaker result _ _
     (λ x. (each_matches_are_of _ _ is.means is.prefix asked None (items x)).0) all)
 
--- the leftmost match of patterns exists, or they have none: the positions are tried in turn
+-- each input has a leftmost match of the patterns, or `None`: the positions are tried in turn
 module _ (t : ℕ) (res : List Re) (text : Text) where
   -- if no match begins at an earlier position
   leftmost_at : (n : ℕ) → ((k : ℕ) → k < n → all_ends t text 0 res k ≡ []) → (ends : List (ℕ × ℕ))

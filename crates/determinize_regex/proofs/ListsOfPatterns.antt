@@ -16,14 +16,14 @@ use Rattle.determinize_regex.specs.PatternsAt.{ArePatternsAt, IsBetterAt}
 use Rattle.ordered_reach.proofs.lists.Lexicographic.{Before-asym, Before-rest, Before-trans, same_least}
 use Rattle.ordered_reach.proofs.lists.Pairs.{pairs_at, pairs_from}
 
--- what runs from a start accept, and what a walk from it lists, is what matches that begin at `latest` or before say
+-- which runs from a start accept, and what a walk from it lists, by the matches that begin at `latest` or before
 pub record AreOfPatterns (res : List Re) (nfa : Nfa) (text : Text) (start latest : ℕ) : Type 0 where
   pub accepted : (i x : ℕ) → ((cs : List ℕ) × Accepts nfa text start cs i x)
       ↔ ((k : ℕ) × (k ≤ latest) × Contains (all_ends nfa.terminator text 0 res k) (x, i))
   pub listed : (i : ℕ) (xs : List ℕ) → ListsAccepted nfa text start i xs
       → ArePatternsAt nfa.terminator res text latest i xs
 
--- a run from a start is one from the anchored start at a position, where `lay` puts choices in front of that
+-- a run from a start is, after the choices that `lay` puts in front, one from the anchored start at a position
 record Begun (nfa : Nfa) (text : Text) (lay : ℕ → List ℕ → List ℕ) (latest : ℕ) (cs : List ℕ) (i x : ℕ) : Type 0 where
   at : ℕ
   then : List ℕ

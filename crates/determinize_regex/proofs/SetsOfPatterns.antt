@@ -25,6 +25,7 @@ written new flags count same all =
     rw (drop_all (length new) flags (omega (arith, same)), append-nil new)
     (take_all count new (omega (arith, same, all)))
 
+-- an input for the DFA of a regex, whose NFA has the direction `way`
 module _ (patterns : List Declared) (nfa : Nfa) (limit : ℕ) (is : IsRegex (value_of patterns nfa limit))
     (asked : Asked) (inside : asked.end ≤ length asked.haystack) (small : All (λ b. b < 256) asked.haystack)
     (start : has_start asked.anchored ≡ true) {way : Bool} (forward : way ≡ false) where
@@ -40,6 +41,7 @@ module _ (patterns : List Declared) (nfa : Nfa) (limit : ℕ) (is : IsRegex (val
   size_is : length text.bytes ≡ size
   size_is = length-range asked inside
 
+  -- the matches that count, by the anchored mode
   of_mode : (anchored : Anchored) → has_start anchored ≡ true
       → AreOfPatterns (meanings regex) nfa text (start_for nfa anchored) (latest_in anchored size)
   of_mode No given = rw size_is at (from_any (meanings regex) nfa is.means text is.prefix
@@ -48,7 +50,6 @@ module _ (patterns : List Declared) (nfa : Nfa) (limit : ℕ) (is : IsRegex (val
   of_mode Yes given = from_anchored (meanings regex) nfa is.means text
   of_mode (Pattern p) given = absurd (let wrong : false ≡ true = given in cc)
 
-  -- `way` is the direction of the NFA
   pub at_end_in : (xs : List ℕ) → (is_done asked ≡ true → xs ≡ [])
       → (is_done asked ≡ false → ListsAtEnd nfa kinds.All (start_for nfa asked.anchored) (text_of way asked) xs)
       → AreAtEnd regex asked xs
@@ -59,7 +60,7 @@ module _ (patterns : List Declared) (nfa : Nfa) (limit : ℕ) (is : IsRegex (val
         (of_mode asked.anchored start).listed size xs (rw size_is at (listed.all refl));
   }
 
-  -- flags of which none was set
+  -- the flags that a search sets, where none was set before
   pub matching_in : (old new : List Bool) (count : ℕ) → old ≡ replicate (length patterns) false
       → count ≡ length old → (is_done asked ≡ true → new ≡ old)
       → (is_done asked ≡ false → AreMarked old (λ x. (cs : List ℕ) × (i : ℕ)
