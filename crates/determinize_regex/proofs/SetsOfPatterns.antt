@@ -60,7 +60,7 @@ module _ (patterns : List Declared) (nfa : Nfa) (limit : ℕ) (is : IsRegex (val
         (of_mode asked.anchored start).listed size xs (rw size_is at (listed.all refl));
   }
 
-  -- the flags that a search sets, where none was set before
+  -- the flags that a search sets, if it begins with no flag set
   pub matching_in : (old new : List Bool) (count : ℕ) → old ≡ replicate (length patterns) false
       → count ≡ length old → (is_done asked ≡ true → new ≡ old)
       → (is_done asked ≡ false → AreMarked old (λ x. (cs : List ℕ) × (i : ℕ)
