@@ -47,7 +47,7 @@ pub fn read(rt: &HostRuntime, args: Args) -> Result<Options, Error> {
     let mut command = Command {
         rt,
         args,
-        options: Options::new(rt.alloc()),
+        options: Options::new(rt.alloc())?,
         has_patterns: false,
     };
     command.take_all()?;
@@ -110,7 +110,7 @@ impl Command<'_> {
             (Takes::Value, None) => self.take_next(flag, name),
             (_, Some(value)) => self.set_value(flag, value),
             (_, None) => {
-                self.options.settings.set(flag);
+                self.options.set(flag);
                 Ok(())
             }
         }
@@ -134,7 +134,7 @@ impl Command<'_> {
             if flag.takes() == Takes::Value {
                 return self.take_letter_value(flag, letters, after);
             }
-            self.options.settings.set(flag);
+            self.options.set(flag);
             rest = after;
         }
         Ok(())
@@ -170,9 +170,34 @@ impl Command<'_> {
         match flag {
             Flag::Regexp => self.add_patterns(value),
             Flag::File => self.add_pattern_file(value),
+            Flag::Exclude | Flag::ExcludeDir | Flag::Include => self.add_glob(flag, value),
+            Flag::Label => self.set_label(value),
+            Flag::GroupSeparator => {
+                self.options.separator = Some(value.to_vec(self.rt.alloc())?);
+                Ok(())
+            }
             _ if self.options.settings.set_value(flag, value) => Ok(()),
             _ => Err(Error::InvalidValue(value.to_vec(self.rt.alloc())?)),
         }
+    }
+
+    /// Adds a glob of files or of directories.
+    fn add_glob(&mut self, flag: Flag, text: &[u8]) -> Result<(), Error> {
+        let text = text.to_vec(self.rt.alloc())?;
+        match flag {
+            Flag::ExcludeDir => self.options.globs.push_dir(text)?,
+            _ => self.options.globs.push_file(text, flag == Flag::Include)?,
+        }
+        Ok(())
+    }
+
+    /// Sets the name of standard input, which must be UTF-8.
+    fn set_label(&mut self, name: &[u8]) -> Result<(), Error> {
+        match String::from_utf8(name.to_vec(self.rt.alloc())?) {
+            Ok(name) => self.options.label = Some(name),
+            Err(error) => return Err(Error::InvalidValue(error.into_bytes())),
+        }
+        Ok(())
     }
 
     /// Adds the patterns of a text, one a line.
@@ -217,6 +242,16 @@ fn read_file(rt: &HostRuntime, name: &[u8]) -> io::Result<Vec<u8>> {
     }
 }
 
+impl Options {
+    /// Sets an option that has no value, or is given none.
+    fn set(&mut self, flag: Flag) {
+        match flag {
+            Flag::NoGroupSeparator => self.separator = None,
+            _ => self.settings.set(flag),
+        }
+    }
+}
+
 impl Settings {
     /// Sets an option that has no value, or is given none.
     fn set(&mut self, flag: Flag) {
@@ -227,11 +262,16 @@ impl Settings {
             Flag::FixedStrings => self.is_fixed = true,
             Flag::ExtendedRegexp => self.is_fixed = false,
             Flag::IgnoreCase => self.ignores_case = true,
+            Flag::Characters => self.reads_characters = true,
             Flag::WordRegexp => self.whole = self.whole.max(Whole::Word),
             Flag::LineRegexp => self.whole = Whole::Line,
             Flag::InvertMatch => self.inverts = true,
             Flag::NullData => self.terminator = 0,
             Flag::Recursive => self.is_recursive = true,
+            Flag::DereferenceRecursive => {
+                self.is_recursive = true;
+                self.follows_links = true;
+            }
             Flag::NoMessages => self.is_silent = true,
             Flag::Help => self.action = Action::PrintUsage,
             Flag::Version => self.action = Action::PrintVersion,
@@ -245,6 +285,9 @@ impl Settings {
             Flag::ByteOffset => self.offsets = true,
             Flag::LineNumber => self.numbers = true,
             Flag::PatternNumber => self.pattern_numbers = true,
+            Flag::Null => self.has_nulls = true,
+            Flag::InitialTab => self.has_tabs = true,
+            Flag::LineBuffered => self.is_line_buffered = true,
             Flag::WithFilename => self.names = Names::Always,
             Flag::NoFilename => self.names = Names::Never,
             Flag::OnlyMatching => self.shows = self.shows.max(Shows::Matches),

@@ -1,6 +1,7 @@
 //! The files that are searched.
 
 use crate::error::{OutputError, SearchError};
+use crate::globs::Origin;
 use crate::lines::{Found, Lines};
 use crate::options::{Names, Options, Settings, Shows};
 use crate::quoted::{Quoted, Reason};
@@ -30,6 +31,23 @@ struct FileId {
     inode: u64,
 }
 
+/// The entries of a directory that are not searched yet, and of those below it.
+#[derive(Drop)]
+struct Tree {
+    /// The entries, the next one last.
+    pending: Vec<Entry>,
+    /// The directory that was listed last, behind those around it.
+    around: Vec<FileId>,
+}
+
+/// An entry of a directory.
+#[derive(Drop)]
+struct Entry {
+    path: String,
+    /// The number of directories around it.
+    depth: usize,
+}
+
 /// What a search of files has come to.
 #[derive(Clone, Copy, Default)]
 struct Outcome {
@@ -48,11 +66,15 @@ impl FileId {
 
     /// Returns the file that something is known of, unless it is a device, a pipe or a directory.
     fn of(metadata: &fs::Metadata) -> Option<FileId> {
-        let id = FileId {
+        metadata.is_file().then_some(FileId::new(metadata))
+    }
+
+    /// Returns the file or the directory that something is known of.
+    fn new(metadata: &fs::Metadata) -> FileId {
+        FileId {
             device: metadata.dev(),
             inode: metadata.ino(),
-        };
-        metadata.is_file().then_some(id)
+        }
     }
 }
 
@@ -124,6 +146,7 @@ impl<'a, W: Write + Drop> Files<'a, W> {
             return self.search_input();
         }
         match str::from_utf8(name) {
+            Ok(path) if self.skips_operand(path) => Ok(()),
             Ok(path) if self.options.settings.is_recursive && self.is_dir(path) => {
                 self.search_tree(path)
             }
@@ -149,16 +172,38 @@ impl<'a, W: Write + Drop> Files<'a, W> {
         }
     }
 
+    /// Returns whether an operand is skipped by its name.
+    fn skips_operand(&self, path: &str) -> bool {
+        let globs = &self.options.globs;
+        !globs.is_empty()
+            && match fs::metadata(self.rt, path) {
+                Ok(metadata) => globs.skips(path.as_bytes(), Origin::Operand, metadata.is_dir()),
+                Err(_) => false,
+            }
+    }
+
     /// Searches standard input.
     fn search_input(&mut self) -> Result<(), OutputError> {
         let is_named = self.is_named(false);
-        let name = is_named.then_some(INPUT);
-        let found = if self.is_output(FileId::of_name(self.rt, "/dev/stdin")) {
-            Err(SearchError::IsOutput)
-        } else {
-            self.lines.search(name, self.rt.reader())
+        let label = match &self.options.label {
+            Some(label) => label.as_str(),
+            None => INPUT,
         };
-        self.record(INPUT, is_named, found)
+        let found = self.read_input(is_named.then_some(label));
+        self.record(label, is_named, found)
+    }
+
+    /// Reads standard input, and prints what the options select.
+    fn read_input(&mut self, name: Option<&str>) -> Result<Found, SearchError> {
+        let (mut file, mut size) = (None, None);
+        if let Ok(metadata) = fs::metadata(self.rt, "/dev/stdin") {
+            file = FileId::of(&metadata);
+            size = metadata.is_file().then_some(metadata.len());
+        }
+        if self.is_output(file) {
+            return Err(SearchError::IsOutput);
+        }
+        self.lines.search(name, size, self.rt.reader())
     }
 
     /// Searches a file.
@@ -182,7 +227,8 @@ impl<'a, W: Write + Drop> Files<'a, W> {
         if self.is_output(FileId::of(&metadata)) {
             return Err(SearchError::IsOutput);
         }
-        self.lines.search(name, file)
+        let size = metadata.is_file().then_some(metadata.len());
+        self.lines.search(name, size, file)
     }
 
     /// Returns whether a file is the one that standard output is written to.
@@ -218,17 +264,21 @@ impl<'a, W: Write + Drop> Files<'a, W> {
         }
     }
 
-    /// Searches all files below a directory, in the order of their names. A link is not followed.
+    /// Searches all files below a directory, in the order of their names.
     fn search_tree(&mut self, root: &str) -> Result<(), OutputError> {
-        let mut pending = Vec::new(self.rt.alloc());
-        if let Err(error) = self.list(root, &mut pending) {
-            self.report_error(root, &error)?;
+        let mut tree = Tree {
+            pending: Vec::new(self.rt.alloc()),
+            around: Vec::new(self.rt.alloc()),
+        };
+        match fs::metadata(self.rt, root) {
+            Ok(metadata) => self.search_dir(root, 0, FileId::new(&metadata), &mut tree)?,
+            Err(error) => self.report_error(root, &error)?,
         }
         for _ in 0..u64::MAX {
-            let Some(path) = pending.pop() else {
+            let Some(entry) = tree.pending.pop() else {
                 break;
             };
-            self.search_entry(path.as_str(), &mut pending)?;
+            self.search_entry(&entry, &mut tree)?;
             if self.is_decided() {
                 break;
             }
@@ -237,21 +287,66 @@ impl<'a, W: Write + Drop> Files<'a, W> {
     }
 
     /// Searches an entry of a directory if it is a file, and adds its entries if it is a directory.
-    fn search_entry(&mut self, path: &str, pending: &mut Vec<String>) -> Result<(), OutputError> {
-        match fs::symlink_metadata(self.rt, path) {
+    /// A link is followed if the settings say so.
+    fn search_entry(&mut self, entry: &Entry, tree: &mut Tree) -> Result<(), OutputError> {
+        let path = entry.path.as_str();
+        let metadata = if self.options.settings.follows_links {
+            fs::metadata(self.rt, path)
+        } else {
+            fs::symlink_metadata(self.rt, path)
+        };
+        let is_dir = match &metadata {
+            Ok(metadata) => metadata.is_dir(),
+            Err(_) => false,
+        };
+        if self.skips_entry(path, is_dir) {
+            return Ok(());
+        }
+        match metadata {
+            Ok(metadata) if is_dir => {
+                self.search_dir(path, entry.depth, FileId::new(&metadata), tree)
+            }
             Ok(metadata) if metadata.is_file() => self.search_file(path, self.is_named(true)),
-            Ok(metadata) if metadata.is_dir() => match self.list(path, pending) {
-                Ok(()) => Ok(()),
-                Err(error) => self.report_error(path, &error),
-            },
             Ok(_) => Ok(()),
             Err(error) => self.report_error(path, &error),
         }
     }
 
-    /// Adds the paths of the entries of a directory, the last name first. One whose name is not
-    /// UTF-8 is left out, and is an error.
-    fn list(&self, path: &str, pending: &mut Vec<String>) -> io::Result<()> {
+    /// Returns whether an entry of a directory is skipped by its name.
+    fn skips_entry(&self, path: &str, is_dir: bool) -> bool {
+        let globs = &self.options.globs;
+        if globs.is_empty() {
+            return false;
+        }
+        let name = match path.rsplit_once('/') {
+            Some((_, name)) => name,
+            None => path,
+        };
+        globs.skips(name.as_bytes(), Origin::Entry, is_dir)
+    }
+
+    /// Adds the entries of a directory, unless a link leads from it to itself.
+    fn search_dir(
+        &mut self,
+        path: &str,
+        depth: usize,
+        id: FileId,
+        tree: &mut Tree,
+    ) -> Result<(), OutputError> {
+        tree.around.truncate(depth);
+        if tree.around.contains(&id) {
+            return self.warn(path, "warning: recursive directory loop");
+        }
+        match self.list(path, id, tree) {
+            Ok(()) => Ok(()),
+            Err(error) => self.report_error(path, &error),
+        }
+    }
+
+    /// Adds the entries of a directory, the last name first. One whose name is not UTF-8 is left
+    /// out, and is an error.
+    fn list(&self, path: &str, id: FileId, tree: &mut Tree) -> io::Result<()> {
+        tree.around.push(id)?;
         let mut paths = Vec::new(self.rt.alloc());
         let mut result = Ok(());
         for entry in fs::read_dir(self.rt, path)? {
@@ -261,8 +356,12 @@ impl<'a, W: Write + Drop> Files<'a, W> {
             }
         }
         paths.sort()?;
-        paths.as_mut_slice().reverse();
-        pending.append(&mut paths)?;
+        let depth = tree.around.len();
+        for _ in 0..paths.len() {
+            if let Some(path) = paths.pop() {
+                tree.pending.push(Entry { path, depth })?;
+            }
+        }
         result
     }
 
@@ -276,6 +375,14 @@ impl<'a, W: Write + Drop> Files<'a, W> {
         let (name, reason) = (Quoted(name.as_bytes()), Reason(error));
         let _ = writeln!(self.rt.stderr(), "finder: {name}: {reason}");
         Ok(())
+    }
+
+    /// Writes what is unusual about a file, unless there are no messages.
+    fn warn(&mut self, name: &str, message: &str) -> Result<(), OutputError> {
+        if self.options.settings.is_silent {
+            return Ok(());
+        }
+        self.note(name.as_bytes(), message)
     }
 
     /// Reports what is wrong with a file.

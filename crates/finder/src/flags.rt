@@ -5,26 +5,38 @@
 pub enum Flag {
     AfterContext,
     BeforeContext,
+    Binary,
     BinaryAsText,
     BinaryFiles,
     BinarySkipped,
     ByteOffset,
+    Characters,
     Color,
     Context,
     Count,
+    DereferenceRecursive,
+    Exclude,
+    ExcludeDir,
     ExtendedRegexp,
     File,
     FilesWithMatches,
     FilesWithoutMatch,
     FixedStrings,
+    GroupSeparator,
     Help,
     IgnoreCase,
+    Include,
+    InitialTab,
     InvertMatch,
+    Label,
+    LineBuffered,
     LineNumber,
     LineRegexp,
     MaxCount,
     NoFilename,
+    NoGroupSeparator,
     NoMessages,
+    Null,
     NullData,
     OnlyMatching,
     PatternNumber,
@@ -58,7 +70,7 @@ pub enum Named {
 const NONE: u8 = b'-';
 
 /// Each option with its letter and its name.
-const NAMES: [(u8, &str, Flag); 33] = [
+const NAMES: [(u8, &str, Flag); 45] = [
     (b'A', "after-context", Flag::AfterContext),
     (b'B', "before-context", Flag::BeforeContext),
     (b'C', "context", Flag::Context),
@@ -67,7 +79,11 @@ const NAMES: [(u8, &str, Flag); 33] = [
     (b'H', "with-filename", Flag::WithFilename),
     (b'I', "", Flag::BinarySkipped),
     (b'L', "files-without-match", Flag::FilesWithoutMatch),
+    (b'R', "dereference-recursive", Flag::DereferenceRecursive),
+    (b'T', "initial-tab", Flag::InitialTab),
+    (b'U', "binary", Flag::Binary),
     (b'V', "version", Flag::Version),
+    (b'Z', "null", Flag::Null),
     (b'a', "text", Flag::BinaryAsText),
     (b'b', "byte-offset", Flag::ByteOffset),
     (b'c', "count", Flag::Count),
@@ -87,9 +103,17 @@ const NAMES: [(u8, &str, Flag); 33] = [
     (b'x', "line-regexp", Flag::LineRegexp),
     (b'z', "null-data", Flag::NullData),
     (NONE, "binary-files", Flag::BinaryFiles),
+    (NONE, "characters", Flag::Characters),
     (NONE, "color", Flag::Color),
     (NONE, "colour", Flag::Color),
+    (NONE, "exclude", Flag::Exclude),
+    (NONE, "exclude-dir", Flag::ExcludeDir),
+    (NONE, "group-separator", Flag::GroupSeparator),
     (NONE, "help", Flag::Help),
+    (NONE, "include", Flag::Include),
+    (NONE, "label", Flag::Label),
+    (NONE, "line-buffered", Flag::LineBuffered),
+    (NONE, "no-group-separator", Flag::NoGroupSeparator),
     (NONE, "pattern-number", Flag::PatternNumber),
     (NONE, "silent", Flag::Quiet),
 ];
@@ -127,7 +151,12 @@ impl Flag {
             | Flag::BeforeContext
             | Flag::BinaryFiles
             | Flag::Context
+            | Flag::Exclude
+            | Flag::ExcludeDir
             | Flag::File
+            | Flag::GroupSeparator
+            | Flag::Include
+            | Flag::Label
             | Flag::MaxCount
             | Flag::Regexp => Takes::Value,
             Flag::Color => Takes::Optional,

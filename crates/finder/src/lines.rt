@@ -1,15 +1,15 @@
 //! A search in one text after the other, line by line.
 
+use crate::blocks::{Blocks, set_of};
 use crate::error::{OutputError, SearchError};
-use crate::options::{Binary, Settings, Shows};
-use crate::printer::{Head, Printer, Sign};
+use crate::literals::Literals;
+use crate::options::{Binary, Options, Settings, Shows};
+use crate::printer::{Head, Printer, Sign, digits};
+use byte_set::ByteSet;
 use determinize_regex::{Input, Match, Regex};
 use std::alloc::{AllocError, Global};
 use std::collections::VecDeque;
-use std::io::{self, BufRead, BufReader, Read, Write};
-
-/// The bytes that are read at once, and of which a zero byte says that a text is binary.
-const BLOCK: usize = 1 << 16;
+use std::io::{Read, Write};
 
 /// The length from which on a line is long. `find_all` takes a time that may grow with the square
 /// of the length; `find_all_linear` does not, but takes longer for most patterns.
@@ -24,8 +24,16 @@ const TOO_LONG: usize = 1 << 20;
 pub struct Lines<'a, W: Write + Drop> {
     alloc: Global,
     settings: &'a Settings,
+    /// What is printed between groups of lines.
+    separator: Option<&'a [u8]>,
     regex: Regex,
+    /// What only lines with a match have, if only these are sought.
+    literals: Option<Literals>,
     pub printer: Printer<W>,
+    /// The byte that ends a line.
+    ends: ByteSet,
+    /// The zero byte.
+    zero: ByteSet,
     /// Whether a group of lines was printed, of any text.
     has_group: bool,
 }
@@ -44,6 +52,8 @@ pub struct Found {
 struct Text<'t> {
     /// The name to print before its lines.
     name: Option<&'t str>,
+    /// The least width of numbers.
+    width: usize,
     place: Place,
     /// The number of selected lines.
     selected: u64,
@@ -72,6 +82,14 @@ struct Place {
     bytes: u64,
 }
 
+impl Place {
+    /// Passes lines of so many bytes.
+    fn pass(&mut self, lines: u64, bytes: usize) {
+        self.lines = self.lines.saturating_add(lines);
+        self.bytes = self.bytes.saturating_add(bytes as u64);
+    }
+}
+
 /// Whether to read the next line.
 #[derive(Clone, Copy, PartialEq, Eq)]
 enum Next {
@@ -83,38 +101,49 @@ impl<'a, W: Write + Drop> Lines<'a, W> {
     /// Returns a search that has read nothing yet.
     pub fn new(
         alloc: Global,
-        settings: &'a Settings,
+        options: &'a Options,
         regex: Regex,
+        literals: Option<Literals>,
         printer: Printer<W>,
     ) -> Lines<'a, W> {
+        let settings = &options.settings;
         Lines {
             alloc,
             settings,
+            separator: match &options.separator {
+                Some(text) => Some(text.as_slice()),
+                None => None,
+            },
             regex,
+            literals,
             printer,
+            ends: set_of(settings.terminator),
+            zero: set_of(0),
             has_group: false,
         }
     }
 
     /// Reads a text, and prints what the settings select, behind the name if there is one. Stops
-    /// once all that is printed is known.
+    /// once all that is printed is known. The size is that of the text, if it is known.
     ///
     /// What was printed is written before a read that may wait for input.
     pub fn search<R: Read + Drop>(
         &mut self,
         name: Option<&str>,
+        size: Option<u64>,
         input: R,
     ) -> Result<Found, SearchError> {
-        let mut reader = BufReader::with_capacity(self.alloc, BLOCK, input)?;
-        self.printer.flush()?;
-        let has_zero = reader.fill_buf()?.contains(&0);
         let settings = self.settings;
-        let is_binary = has_zero && settings.terminator == b'\n' && settings.binary != Binary::Text;
+        let mut blocks = Blocks::new(self.alloc, input, settings.terminator)?;
+        self.printer.flush()?;
+        let has_lines = blocks.advance()?;
+        let is_binary = self.may_be_binary() && self.has_zero(blocks.first_bytes());
         if is_binary && settings.binary == Binary::Skipped {
             return Ok(Found::default());
         }
         let mut text = Text {
             name,
+            width: self.width(size),
             place: Place::default(),
             selected: 0,
             is_binary,
@@ -122,7 +151,9 @@ impl<'a, W: Write + Drop> Lines<'a, W> {
             after: 0,
             printed: None,
         };
-        self.read_lines(&mut text, &mut reader)?;
+        if has_lines {
+            self.read_lines(&mut text, &mut blocks)?;
+        }
         Ok(Found {
             selected: text.selected,
             is_left_out: text.is_binary && text.selected > 0 && settings.prints_lines(),
@@ -145,43 +176,112 @@ impl<'a, W: Write + Drop> Lines<'a, W> {
         }
     }
 
-    /// Reads the lines of a text.
+    /// Takes the lines of a text, of which the first block is read.
     fn read_lines<R: Read + Drop>(
         &mut self,
         text: &mut Text<'_>,
-        reader: &mut BufReader<R>,
+        blocks: &mut Blocks<R>,
     ) -> Result<(), SearchError> {
-        let mut line = Vec::new(self.alloc);
         for _ in 0..u64::MAX {
-            if self.read_line(reader, &mut line)? == 0 {
-                break;
-            }
-            let next = match line.as_slice() {
-                [rest @ .., last] if *last == self.settings.terminator => self.take(text, rest)?,
-                all => self.take(text, all)?,
+            let next = match self.literals {
+                Some(_) => self.take_found(text, blocks.lines())?,
+                None => self.take_all(text, blocks.lines())?,
             };
             if next == Next::Stop {
                 break;
             }
-            text.place.lines = text.place.lines.saturating_add(1);
-            text.place.bytes = text.place.bytes.saturating_add(line.len() as u64);
+            self.printer.flush()?;
+            if !blocks.advance()? {
+                break;
+            }
         }
         Ok(())
     }
 
-    /// Reads the next line with the byte that ends it, and returns its length, or 0 after the last
-    /// one. Writes what was printed, unless the whole line was read before.
-    fn read_line<R: Read + Drop>(
-        &mut self,
-        reader: &mut BufReader<R>,
-        line: &mut Vec<u8>,
-    ) -> Result<usize, SearchError> {
-        let terminator = self.settings.terminator;
-        if !reader.buffer().contains(&terminator) {
-            self.printer.flush()?;
+    /// Takes the lines of a block.
+    fn take_all(&mut self, text: &mut Text<'_>, block: &[u8]) -> Result<Next, SearchError> {
+        let mut rest = block;
+        for _ in 0..block.len() {
+            if rest.is_empty() {
+                break;
+            }
+            let (line, after) = self.split_line(rest);
+            if self.take(text, line)? == Next::Stop {
+                return Ok(Next::Stop);
+            }
+            text.place.pass(1, rest.len().saturating_sub(after.len()));
+            rest = after;
         }
-        line.clear();
-        Ok(reader.read_until(terminator, line)?)
+        Ok(Next::Read)
+    }
+
+    /// Takes the lines of a block in which a literal stands. The others have no match.
+    fn take_found(&mut self, text: &mut Text<'_>, block: &[u8]) -> Result<Next, SearchError> {
+        let mut rest = block;
+        for _ in 0..block.len() {
+            let Some(at) = self.find_literal(rest) else {
+                break;
+            };
+            let (passed, found) = self.split_before(rest, at);
+            self.pass_lines(&mut text.place, passed);
+            let (line, after) = self.split_line(found);
+            if self.take_one_found(text, line)? == Next::Stop {
+                return Ok(Next::Stop);
+            }
+            text.place.pass(1, found.len().saturating_sub(after.len()));
+            rest = after;
+        }
+        self.pass_lines(&mut text.place, rest);
+        Ok(Next::Read)
+    }
+
+    /// Returns an index in the first line in which a literal stands.
+    fn find_literal(&self, lines: &[u8]) -> Option<usize> {
+        match &self.literals {
+            Some(literals) => literals.find(lines),
+            None => None,
+        }
+    }
+
+    /// Takes a line in which a literal stands. In a binary text its parts may have no match.
+    fn take_one_found(&mut self, text: &mut Text<'_>, line: &[u8]) -> Result<Next, SearchError> {
+        match &self.literals {
+            Some(literals) if literals.are_matches() && !text.is_binary => {
+                self.take_selected(text, line)
+            }
+            _ => self.take(text, line),
+        }
+    }
+
+    /// Passes lines without a match. They are counted if numbers are printed.
+    fn pass_lines(&self, place: &mut Place, lines: &[u8]) {
+        let mut count = 0_u64;
+        let mut rest = lines;
+        for _ in 0..lines.len() {
+            if rest.is_empty() || !self.settings.numbers {
+                break;
+            }
+            (_, rest) = self.split_line(rest);
+            count = count.saturating_add(1);
+        }
+        place.pass(count, lines.len());
+    }
+
+    /// Returns the lines before the one with the byte at an index, and the others.
+    fn split_before<'t>(&self, lines: &'t [u8], index: usize) -> (&'t [u8], &'t [u8]) {
+        let before = lines.get(..index).unwrap_or(&[]);
+        match self.ends.rfind(before, 0, before.len()) {
+            Some(end) => lines.split_at_checked(end + 1).unwrap_or((&[], lines)),
+            None => (&[], lines),
+        }
+    }
+
+    /// Returns the first line of a text, without the byte that ends it, and what is behind that.
+    fn split_line<'t>(&self, text: &'t [u8]) -> (&'t [u8], &'t [u8]) {
+        match self.ends.find(text, 0, text.len()) {
+            Some(end) => (&text[..end], &text[end + 1..]),
+            None => (text, &[]),
+        }
     }
 
     /// Takes a line. In a binary text a zero byte ends a line too.
@@ -199,9 +299,16 @@ impl<'a, W: Write + Drop> Lines<'a, W> {
 
     /// Counts and prints a line if it is selected, and prints it if it is near one that is.
     fn take_line(&mut self, text: &mut Text<'_>, line: &[u8]) -> Result<Next, SearchError> {
-        let is_full = text.selected >= self.settings.max_count;
-        if is_full || !self.selects(line)? {
-            return self.pass(text, line, is_full);
+        if text.selected >= self.settings.max_count || !self.selects(line)? {
+            return self.pass(text, line);
+        }
+        self.take_selected(text, line)
+    }
+
+    /// Counts and prints a line that is selected, unless enough were.
+    fn take_selected(&mut self, text: &mut Text<'_>, line: &[u8]) -> Result<Next, SearchError> {
+        if text.selected >= self.settings.max_count {
+            return self.pass(text, line);
         }
         text.selected = text.selected.saturating_add(1);
         if self.settings.prints_lines() {
@@ -227,29 +334,32 @@ impl<'a, W: Write + Drop> Lines<'a, W> {
 
     /// Returns whether the lines of a text are printed. One with a zero byte makes it binary.
     fn may_print(&self, text: &mut Text<'_>, line: &[u8]) -> bool {
-        if self.settings.terminator == b'\n'
-            && self.settings.binary != Binary::Text
-            && line.contains(&0)
-        {
+        if self.may_be_binary() && self.has_zero(line) {
             text.is_binary = true;
         }
         !text.is_binary
     }
 
+    /// Returns whether a zero byte makes a text binary.
+    fn may_be_binary(&self) -> bool {
+        self.settings.terminator == b'\n' && self.settings.binary != Binary::Text
+    }
+
+    /// Returns whether there is a zero byte among these.
+    fn has_zero(&self, bytes: &[u8]) -> bool {
+        self.zero.find(bytes, 0, bytes.len()).is_some()
+    }
+
     /// Passes a line that is not selected: prints it if it follows a selected one, and keeps it if
     /// it may be printed before one.
-    fn pass(
-        &mut self,
-        text: &mut Text<'_>,
-        line: &[u8],
-        is_full: bool,
-    ) -> Result<Next, SearchError> {
+    fn pass(&mut self, text: &mut Text<'_>, line: &[u8]) -> Result<Next, SearchError> {
+        let is_full = text.selected >= self.settings.max_count;
         let is_kept = self.settings.prints_lines() && self.settings.before() > 0;
         if (text.after > 0 || is_kept) && !self.may_print(text, line) {
             text.after = 0;
         } else if text.after > 0 {
             text.after = text.after.saturating_sub(1);
-            self.print(text.name, text.place, line, false)?;
+            self.print(self.head(text, text.place, Sign::Hyphen), line)?;
             text.printed = Some(text.place.lines.saturating_add(1));
         } else if is_kept {
             self.keep(text, line)?;
@@ -278,36 +388,29 @@ impl<'a, W: Write + Drop> Lines<'a, W> {
             .before
             .front()
             .map_or(text.place.lines, |line| line.place.lines);
-        if self.settings.separates() && self.has_group && text.printed != Some(first) {
-            self.printer.separator()?;
+        if let Some(separator) = self.separator
+            && self.settings.separates()
+            && self.has_group
+            && text.printed != Some(first)
+        {
+            self.printer.separator(separator)?;
         }
         self.has_group = true;
         for _ in 0..text.before.len() {
             if let Some(before) = text.before.pop_front() {
-                self.print(text.name, before.place, before.bytes.as_slice(), false)?;
+                let head = self.head(text, before.place, Sign::Hyphen);
+                self.print(head, before.bytes.as_slice())?;
             }
         }
-        self.print(text.name, text.place, line, true)?;
+        self.print(self.head(text, text.place, Sign::Colon), line)?;
         text.printed = Some(text.place.lines.saturating_add(1));
         text.after = self.settings.after();
         Ok(())
     }
 
     /// Prints a line, or its matches, by the settings.
-    fn print(
-        &mut self,
-        name: Option<&str>,
-        place: Place,
-        line: &[u8],
-        is_selected: bool,
-    ) -> Result<(), SearchError> {
-        let has_matches = is_selected != self.settings.inverts;
-        let sign = if is_selected {
-            Sign::Colon
-        } else {
-            Sign::Hyphen
-        };
-        let head = self.head(name, place, sign);
+    fn print(&mut self, head: Head<'_>, line: &[u8]) -> Result<(), SearchError> {
+        let has_matches = (head.sign == Sign::Colon) != self.settings.inverts;
         match self.settings.shows {
             Shows::Matches if has_matches => self.print_matches(head, line),
             Shows::Matches => Ok(()),
@@ -317,15 +420,27 @@ impl<'a, W: Write + Drop> Lines<'a, W> {
     }
 
     /// Returns what is printed before a line.
-    fn head<'t>(&self, name: Option<&'t str>, place: Place, sign: Sign) -> Head<'t> {
+    fn head<'t>(&self, text: &Text<'t>, place: Place, sign: Sign) -> Head<'t> {
         let settings = self.settings;
         Head {
-            name,
+            name: text.name,
             number: settings.numbers.then_some(place.lines.saturating_add(1)),
             offset: settings.offsets.then_some(place.bytes),
             pattern: None,
             sign,
+            width: text.width,
         }
+    }
+
+    /// Returns the least width of numbers in a text, so that those of all lines have the same: of
+    /// all that are possible, if the size is not known.
+    fn width(&self, size: Option<u64>) -> usize {
+        if !self.settings.has_tabs {
+            return 0;
+        }
+        let greatest = size.unwrap_or(i64::MAX.cast_unsigned());
+        let is_counted = self.settings.numbers && size.is_some();
+        digits(greatest.saturating_add(if is_counted { 1 } else { 0 }))
     }
 
     /// Prints each match of a line as a line, unless it is empty.
@@ -361,7 +476,7 @@ impl<'a, W: Write + Drop> Lines<'a, W> {
 
     /// Prints a line with its matches marked.
     fn print_marked(&mut self, head: &Head<'_>, line: &[u8]) -> Result<(), SearchError> {
-        self.printer.head(head)?;
+        self.printer.head(head, line.is_empty())?;
         let mut done = 0;
         for found in &self.matches(line)? {
             if found.is_empty() {

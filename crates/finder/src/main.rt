@@ -2,11 +2,14 @@
 #![tactic(auto)]
 
 mod args;
+mod blocks;
 mod command;
 mod error;
 mod files;
 mod flags;
+mod globs;
 mod lines;
+mod literals;
 mod options;
 mod patterns;
 mod printer;
@@ -16,8 +19,9 @@ mod usage;
 use crate::error::{Error, OutputError};
 use crate::files::Files;
 use crate::lines::Lines;
+use crate::literals::Literals;
 use crate::options::{Action, Colors, Options, Shows};
-use crate::printer::Printer;
+use crate::printer::{Printer, Style};
 use crate::usage::{USAGE, VERSION};
 use determinize_regex::Regex;
 use std::env;
@@ -48,11 +52,22 @@ fn has_colors(rt: &HostRuntime, colors: Colors) -> bool {
 }
 
 /// Searches for the patterns, and returns the exit status.
-fn search(rt: &HostRuntime, options: &Options, regex: Regex) -> Result<ExitCode, OutputError> {
+fn search(
+    rt: &HostRuntime,
+    options: &Options,
+    regex: Regex,
+    literals: Option<Literals>,
+) -> Result<ExitCode, OutputError> {
     let settings = &options.settings;
-    let colors = has_colors(rt, settings.colors);
-    let printer = Printer::new(rt.alloc(), io::writer(rt), colors, settings.terminator)?;
-    let lines = Lines::new(rt.alloc(), settings, regex, printer);
+    let style = Style {
+        has_colors: has_colors(rt, settings.colors),
+        terminator: settings.terminator,
+        has_nulls: settings.has_nulls,
+        has_tabs: settings.has_tabs,
+        is_line_buffered: settings.is_line_buffered,
+    };
+    let printer = Printer::new(rt.alloc(), io::writer(rt), style)?;
+    let lines = Lines::new(rt.alloc(), options, regex, literals, printer);
     Files::new(rt, options, lines).search_all()
 }
 
@@ -77,7 +92,8 @@ fn run(rt: &HostRuntime) -> Result<ExitCode, Error> {
     if settings.max_count == 0 && settings.shows != Shows::OtherNames {
         return Ok(ExitCode::FAILURE);
     }
-    Ok(search(rt, &options, regex)?)
+    let literals = Literals::of(rt.alloc(), regex.patterns(), settings)?;
+    Ok(search(rt, &options, regex, literals)?)
 }
 
 /// Writes an error that ends the program, unless a pipe was closed, and returns the exit status.

@@ -1,6 +1,7 @@
 //! The patterns, the files and the settings that the arguments give.
 
-use std::alloc::Global;
+use crate::globs::Globs;
+use std::alloc::{AllocError, Global};
 
 /// The patterns, the files and the settings.
 #[derive(Drop)]
@@ -9,6 +10,12 @@ pub struct Options {
     pub patterns: Vec<Vec<u8>>,
     /// The names of the files; `-` is standard input.
     pub files: Vec<Vec<u8>>,
+    /// Which files and directories are searched, by their names.
+    pub globs: Globs,
+    /// The name of standard input, if it is another than the usual one.
+    pub label: Option<String>,
+    /// What is printed between groups of lines, if anything is.
+    pub separator: Option<Vec<u8>>,
     pub settings: Settings,
 }
 
@@ -20,6 +27,8 @@ pub struct Settings {
     pub is_fixed: bool,
     /// Whether the ASCII letters of the patterns match in both cases.
     pub ignores_case: bool,
+    /// Whether the patterns read characters in UTF-8, and not bytes.
+    pub reads_characters: bool,
     /// What a match must be.
     pub whole: Whole,
     /// Whether lines without a match are selected, and not those with one.
@@ -31,6 +40,8 @@ pub struct Settings {
     pub binary: Binary,
     /// Whether the files below directories are searched.
     pub is_recursive: bool,
+    /// Whether this includes files and directories that links lead to.
+    pub follows_links: bool,
     /// Whether there are no messages about files that cannot be read.
     pub is_silent: bool,
     pub shows: Shows,
@@ -41,6 +52,12 @@ pub struct Settings {
     /// Whether the number of the pattern of each match is printed.
     pub pattern_numbers: bool,
     pub names: Names,
+    /// Whether a zero byte follows names of files.
+    pub has_nulls: bool,
+    /// Whether a tab is before each line, and numbers are as wide as the greatest one.
+    pub has_tabs: bool,
+    /// Whether each line is written as soon as it is printed.
+    pub is_line_buffered: bool,
     pub colors: Colors,
     /// How many lines are printed before each selected line, and after it.
     pub before: Option<u64>,
@@ -117,12 +134,15 @@ pub enum Colors {
 
 impl Options {
     /// Returns the options of a program without arguments.
-    pub fn new(alloc: Global) -> Options {
-        Options {
+    pub fn new(alloc: Global) -> Result<Options, AllocError> {
+        Ok(Options {
             patterns: Vec::new(alloc),
             files: Vec::new(alloc),
+            globs: Globs::new(alloc),
+            label: None,
+            separator: Some(b"--".to_vec(alloc)?),
             settings: Settings::new(),
-        }
+        })
     }
 }
 
@@ -133,18 +153,23 @@ impl Settings {
             action: Action::Search,
             is_fixed: false,
             ignores_case: false,
+            reads_characters: false,
             whole: Whole::Part,
             inverts: false,
             max_count: u64::MAX,
             terminator: b'\n',
             binary: Binary::Noted,
             is_recursive: false,
+            follows_links: false,
             is_silent: false,
             shows: Shows::Lines,
             numbers: false,
             offsets: false,
             pattern_numbers: false,
             names: Names::IfSeveral,
+            has_nulls: false,
+            has_tabs: false,
+            is_line_buffered: false,
             colors: Colors::Never,
             before: None,
             after: None,

@@ -21,7 +21,12 @@ pub fn compile(alloc: Global, patterns: &[Vec<u8>], settings: &Settings) -> Resu
     match settings.whole {
         Whole::Part => Ok(regex),
         Whole::Word => {
-            let words = surrounded(alloc, &texts, "\\b{start-half}(?:", ")\\b{end-half}")?;
+            let words = surrounded(
+                alloc,
+                &texts,
+                "(?-u:\\b{start-half})(?:",
+                ")(?-u:\\b{end-half})",
+            )?;
             regex_of(alloc, &words, settings)
         }
         Whole::Line => {
@@ -85,6 +90,8 @@ fn surrounded(
 fn regex_of(alloc: Global, texts: &Vec<String>, settings: &Settings) -> Result<Regex, Error> {
     let mut config = RegexConfig::new();
     config.flags.case_insensitive = settings.ignores_case;
+    // The text of a fixed string may have bytes that are no characters.
+    config.flags.unicode = settings.reads_characters && !settings.is_fixed;
     config.flags.dot_matches_new_line = settings.terminator != b'\n';
     let mut borrowed = Vec::new(alloc);
     for text in texts {

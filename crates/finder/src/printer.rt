@@ -8,10 +8,22 @@ use std::io::{self, BufWriter, Write};
 #[derive(Drop)]
 pub struct Printer<W: Write + Drop> {
     out: BufWriter<W>,
+    style: Style,
+}
+
+/// How lines and what is before them are printed.
+#[derive(Clone, Copy)]
+pub struct Style {
     /// Whether names, numbers and matches are marked by colors.
-    has_colors: bool,
+    pub has_colors: bool,
     /// The byte that ends a line.
-    terminator: u8,
+    pub terminator: u8,
+    /// Whether a zero byte follows names of files.
+    pub has_nulls: bool,
+    /// Whether a tab is between a line and what is before it.
+    pub has_tabs: bool,
+    /// Whether each line is written as soon as it is printed.
+    pub is_line_buffered: bool,
 }
 
 /// What is printed before a line or a match, each part with a sign behind it.
@@ -27,6 +39,8 @@ pub struct Head<'a> {
     pub pattern: Option<usize>,
     /// The sign: a colon, or a hyphen where no line is selected.
     pub sign: Sign,
+    /// The least width of the number and of the offset.
+    pub width: usize,
 }
 
 /// The sign behind what is printed before a line.
@@ -57,25 +71,23 @@ impl Color {
     }
 }
 
+impl Head<'_> {
+    /// Returns whether anything is before the line.
+    fn has_some(&self) -> bool {
+        self.name.is_some() || self.number.is_some() || self.offset.is_some()
+    }
+}
+
 impl<W: Write + Drop> Printer<W> {
     /// Returns a printer that has printed nothing.
-    pub fn new(
-        alloc: Global,
-        out: W,
-        has_colors: bool,
-        terminator: u8,
-    ) -> Result<Printer<W>, OutputError> {
+    pub fn new(alloc: Global, out: W, style: Style) -> Result<Printer<W>, OutputError> {
         let out = BufWriter::with_capacity(alloc, 1 << 16, out)?;
-        Ok(Printer {
-            out,
-            has_colors,
-            terminator,
-        })
+        Ok(Printer { out, style })
     }
 
     /// Returns whether matches are marked.
     pub fn has_colors(&self) -> bool {
-        self.has_colors
+        self.style.has_colors
     }
 
     /// Writes all that was printed.
@@ -85,14 +97,14 @@ impl<W: Write + Drop> Printer<W> {
 
     /// Prints a line, or a part of one as a line.
     pub fn line(&mut self, head: &Head<'_>, line: &[u8]) -> Result<(), OutputError> {
-        self.head(head)?;
+        self.head(head, line.is_empty())?;
         self.out.write_all(line)?;
         self.end_line()
     }
 
     /// Prints a match as a line.
     pub fn matched_line(&mut self, head: &Head<'_>, line: &[u8]) -> Result<(), OutputError> {
-        self.head(head)?;
+        self.head(head, line.is_empty())?;
         self.matched(line)?;
         self.end_line()
     }
@@ -109,54 +121,77 @@ impl<W: Write + Drop> Printer<W> {
 
     /// Ends a line.
     pub fn end_line(&mut self) -> Result<(), OutputError> {
-        Ok(self.out.write_all(&[self.terminator])?)
+        self.end_with(self.style.terminator)
+    }
+
+    /// Prints the byte that ends what is printed, and writes all if that is the style.
+    fn end_with(&mut self, byte: u8) -> Result<(), OutputError> {
+        self.out.write_all(&[byte])?;
+        if self.style.is_line_buffered {
+            self.out.flush()?;
+        }
+        Ok(())
     }
 
     /// Prints the line between groups of lines.
-    pub fn separator(&mut self) -> Result<(), OutputError> {
-        self.colored(Color::Sign, b"--")?;
-        Ok(self.out.write_all(b"\n")?)
+    pub fn separator(&mut self, text: &[u8]) -> Result<(), OutputError> {
+        self.colored(Color::Sign, text)?;
+        self.end_with(b'\n')
     }
 
     /// Prints the name of a file as a line.
     pub fn name(&mut self, name: &str) -> Result<(), OutputError> {
         self.colored(Color::Name, name.as_bytes())?;
-        Ok(self.out.write_all(b"\n")?)
+        self.end_with(if self.style.has_nulls { 0 } else { b'\n' })
     }
 
     /// Prints a number of lines, behind the name of the file if there is one.
     pub fn count(&mut self, name: Option<&str>, count: u64) -> Result<(), OutputError> {
         if let Some(name) = name {
-            self.colored(Color::Name, name.as_bytes())?;
-            self.colored(Color::Sign, b":")?;
+            self.name_before(name, Sign::Colon)?;
         }
-        Ok(writeln!(self.out, "{count}")?)
+        write!(self.out, "{count}")?;
+        self.end_with(b'\n')
     }
 
     /// Prints what is before a line.
-    pub fn head(&mut self, head: &Head<'_>) -> Result<(), OutputError> {
+    pub fn head(&mut self, head: &Head<'_>, is_empty: bool) -> Result<(), OutputError> {
         if let Some(name) = head.name {
-            self.colored(Color::Name, name.as_bytes())?;
-            self.sign(head.sign)?;
+            self.name_before(name, head.sign)?;
         }
-        self.number(head.number, head.sign)?;
-        self.number(head.offset, head.sign)?;
-        let pattern = match head.pattern {
-            Some(pattern) => Some(pattern as u64),
-            None => None,
-        };
-        Ok(self.number(pattern, head.sign)?)
+        self.number(head.number, head)?;
+        self.number(head.offset, head)?;
+        if let Some(pattern) = head.pattern {
+            self.number(Some(pattern as u64), head)?;
+        }
+        if self.style.has_tabs && !is_empty && head.has_some() {
+            self.out.write_all(b"\t")?;
+        }
+        Ok(())
+    }
+
+    /// Prints the name of a file, and what is between it and other things.
+    fn name_before(&mut self, name: &str, sign: Sign) -> io::Result<()> {
+        self.colored(Color::Name, name.as_bytes())?;
+        if self.style.has_nulls {
+            self.out.write_all(&[0])
+        } else {
+            self.sign(sign)
+        }
     }
 
     /// Prints a number and the sign behind it, if there is one.
-    fn number(&mut self, number: Option<u64>, sign: Sign) -> io::Result<()> {
+    fn number(&mut self, number: Option<u64>, head: &Head<'_>) -> io::Result<()> {
         let Some(number) = number else {
             return Ok(());
         };
         self.begin(Color::Number)?;
+        for _ in digits(number)..head.width {
+            self.out.write_all(b" ")?;
+        }
         write!(self.out, "{number}")?;
         self.end()?;
-        self.sign(sign)
+        self.sign(head.sign)
     }
 
     /// Prints the sign behind what is printed before a line.
@@ -176,7 +211,7 @@ impl<W: Write + Drop> Printer<W> {
 
     /// Begins a color.
     fn begin(&mut self, color: Color) -> io::Result<()> {
-        if self.has_colors {
+        if self.style.has_colors {
             let code = color.code();
             write!(self.out, "\x1b[{code}m\x1b[K")?;
         }
@@ -185,9 +220,23 @@ impl<W: Write + Drop> Printer<W> {
 
     /// Ends a color.
     fn end(&mut self) -> io::Result<()> {
-        if self.has_colors {
+        if self.style.has_colors {
             self.out.write_all(b"\x1b[m\x1b[K")?;
         }
         Ok(())
     }
+}
+
+/// Returns the number of digits of a number.
+pub fn digits(number: u64) -> usize {
+    let mut digits = 1_usize;
+    let mut rest = number / 10;
+    for _ in 0..u64::BITS {
+        if rest == 0 {
+            break;
+        }
+        digits = digits.saturating_add(1);
+        rest /= 10;
+    }
+    digits
 }

@@ -1,0 +1,99 @@
+//! Texts that are read in blocks of whole lines.
+
+ghost use Rattle.std.specs.Prelude.{◌≤◌, vec_len};
+
+use byte_set::ByteSet;
+use std::alloc::{AllocError, Global};
+use std::io::{self, ErrorKind, Read};
+
+/// The bytes that are read at once, and of which a zero byte says that a text is binary.
+const BLOCK: usize = 1 << 16;
+
+/// A text that is read in blocks of whole lines.
+#[derive(Drop)]
+pub struct Blocks<R: Read + Drop> {
+    input: R,
+    /// The byte that ends a line.
+    ends: ByteSet,
+    /// The block, then what was read of the next line, then room.
+    bytes: Vec<u8>,
+    /// The length of the block.
+    whole: usize,
+    /// The length of all that was read and is still here.
+    filled: usize,
+    /// Whether the text was read to its end.
+    has_ended: bool,
+    ghost ordered: { whole ≤ filled },
+    ghost inside: { filled ≤ vec_len bytes },
+}
+
+impl<R: Read + Drop> Blocks<R> {
+    /// Returns a text of which nothing is read yet, and the block is empty.
+    pub fn new(alloc: Global, input: R, terminator: u8) -> Result<Blocks<R>, AllocError> {
+        let mut bytes = Vec::new(alloc);
+        bytes.resize(BLOCK, 0)?;
+        Ok(Blocks {
+            input,
+            ends: set_of(terminator),
+            bytes,
+            whole: 0,
+            filled: 0,
+            has_ended: false,
+        })
+    }
+
+    /// Returns the block: whole lines, each with the byte that ends it unless the text ends there.
+    pub fn lines(&self) -> &[u8] {
+        &self.bytes[..self.whole]
+    }
+
+    /// Returns the first bytes of what was read and is still here.
+    pub fn first_bytes(&self) -> &[u8] {
+        &self.bytes[..self.filled.min(BLOCK)]
+    }
+
+    /// Passes the block, and reads until another line is whole or the text ends. Returns whether
+    /// there is a line.
+    pub fn advance(&mut self) -> io::Result<bool> {
+        self.bytes.copy_within(self.whole..self.filled, 0);
+        self.filled -= self.whole;
+        self.whole = 0;
+        for _ in 0..u64::MAX {
+            if self.has_ended {
+                break;
+            }
+            let count = self.read()?;
+            let known = self.filled.saturating_sub(count);
+            if let Some(last) = self.ends.rfind(&self.bytes, known, self.filled) {
+                self.whole = last + 1;
+                return Ok(true);
+            }
+        }
+        self.whole = self.filled;
+        Ok(self.filled > 0)
+    }
+
+    /// Reads bytes of the next line, and maybe of others, and returns their number.
+    fn read(&mut self) -> io::Result<usize> {
+        if self.filled == self.bytes.len() {
+            let longer = self.filled.saturating_mul(2).max(BLOCK);
+            self.bytes.resize(longer, 0)?;
+        }
+        match self.input.read(&mut self.bytes[self.filled..]) {
+            Ok(count) => {
+                self.has_ended = count == 0;
+                self.filled += count;
+                Ok(count)
+            }
+            Err(error) if error.kind() == ErrorKind::Interrupted => Ok(0),
+            Err(error) => Err(error),
+        }
+    }
+}
+
+/// Returns the set of one byte.
+pub fn set_of(byte: u8) -> ByteSet {
+    let mut members = [false; 256];
+    members[usize::from(byte)] = true;
+    ByteSet::new(&members)
+}

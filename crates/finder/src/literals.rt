@@ -1,0 +1,272 @@
+//! Texts that stand in the matches of patterns, by the form of the patterns.
+
+use crate::options::Settings;
+use byte_set::ByteSet;
+use determinize_regex::Pattern;
+use std::alloc::{AllocError, Global};
+use std::mem;
+
+/// Bytes of prose and of sources, the most frequent first. All others are rarer.
+const FREQUENT: &[u8] = b" etnsroia\n_lcdupmf().,h*-g0\xD0\xD1\xE2ybSETkOARNILC1xvw/:PDM#=F;\"2";
+
+/// How many of these stand in most lines.
+const IN_MOST_LINES: usize = 12;
+
+/// The most texts that are sought at once.
+const MOST: usize = 4;
+
+/// Texts of which one stands in each match.
+#[derive(Drop)]
+pub struct Literals {
+    literals: Vec<Literal>,
+    /// The rarest byte of each.
+    rarest: ByteSet,
+    /// Whether each of the texts is a match, wherever it stands.
+    are_matches: bool,
+}
+
+/// A text that stands in each match of a branch.
+#[derive(Drop)]
+struct Literal {
+    bytes: Vec<u8>,
+    /// Its rarest byte, and where that is.
+    rarest: u8,
+    offset: usize,
+    /// Whether it is a match, wherever it stands.
+    is_match: bool,
+}
+
+/// A walk through a branch, from left to right.
+#[derive(Drop)]
+struct Walk {
+    /// Bytes in a row that stand in each match, the last one where the walk is.
+    run: Vec<u8>,
+    /// The longest row that has ended.
+    longest: Vec<u8>,
+    /// Whether the row is a match of what was walked through, wherever it stands.
+    is_match: bool,
+}
+
+impl Literals {
+    /// Returns texts of which one stands in each match of the patterns, if their form shows such
+    /// texts, which are few and rare, and if lines in which none stands need not be printed. None
+    /// of the texts has the byte that ends a line, so each stands in one line.
+    pub fn of(
+        alloc: Global,
+        patterns: &[Pattern],
+        settings: &Settings,
+    ) -> Result<Option<Literals>, AllocError> {
+        if settings.inverts || settings.separates() {
+            return Ok(None);
+        }
+        let mut literals = Vec::new(alloc);
+        push_all(alloc, patterns, &mut literals)?;
+        if !are_sought(&literals, settings.terminator) {
+            return Ok(None);
+        }
+        Ok(Some(Literals {
+            rarest: rarest_of(&literals),
+            are_matches: are_matches(&literals),
+            literals,
+        }))
+    }
+
+    /// Returns whether each line in which one of the texts stands has a match.
+    pub fn are_matches(&self) -> bool {
+        self.are_matches
+    }
+
+    /// Returns the index of a byte of the first of the texts in a block, if there is one.
+    pub fn find(&self, block: &[u8]) -> Option<usize> {
+        let mut from = 0;
+        for _ in 0..block.len() {
+            if from >= block.len() {
+                break;
+            }
+            let at = self.rarest.find(block, from, block.len())?;
+            if self.stands(block, at) {
+                return Some(at);
+            }
+            from = at + 1;
+        }
+        None
+    }
+
+    /// Returns whether one of the texts stands where its rarest byte is at an index.
+    fn stands(&self, block: &[u8], at: usize) -> bool {
+        for literal in &self.literals {
+            if literal.stands(block, at) {
+                return true;
+            }
+        }
+        false
+    }
+}
+
+impl Literal {
+    /// Returns the text of these bytes.
+    fn new(bytes: Vec<u8>, is_match: bool) -> Literal {
+        let (mut rarest, mut offset, mut highest) = (b' ', 0, 0);
+        for (index, byte) in bytes.iter().enumerate() {
+            let rank = rank(*byte);
+            if rank > highest {
+                (rarest, offset, highest) = (*byte, index, rank);
+            }
+        }
+        Literal {
+            bytes,
+            rarest,
+            offset,
+            is_match,
+        }
+    }
+
+    /// Returns whether a search for the text passes most lines: whether it has several bytes, or a
+    /// rare one.
+    fn is_rare(&self) -> bool {
+        self.bytes.len() > 1 || rank(self.rarest) >= IN_MOST_LINES
+    }
+
+    /// Returns whether the text stands where its rarest byte is at an index.
+    fn stands(&self, block: &[u8], at: usize) -> bool {
+        let Some(start) = at.checked_sub(self.offset) else {
+            return false;
+        };
+        let text = block.get(start..).unwrap_or(&[]);
+        text.starts_with(&self.bytes)
+    }
+}
+
+impl Walk {
+    /// Returns the longest row that has ended.
+    fn into_longest(self) -> Vec<u8> {
+        self.longest
+    }
+
+    /// Walks through a part of the branch.
+    #[cycle(walk)]
+    fn pass(&mut self, pattern: &Pattern) -> Result<(), AllocError> {
+        match pattern {
+            // What is before it and what is behind it are in a row.
+            Pattern::Empty => {}
+            // The same, but there may be no match where the row stands.
+            Pattern::Look(_) => self.is_match = false,
+            Pattern::Literal(bytes) => self.run.extend_from_slice(bytes)?,
+            // One byte is known only if the class has one.
+            Pattern::Class(class) => match class.single() {
+                Some(byte) => self.run.push(byte)?,
+                None => self.end(),
+            },
+            Pattern::Capture(sub) => self.pass(sub)?,
+            // Each part has a match, directly behind that of the part before.
+            Pattern::Concat(subs) => self.pass_all(subs)?,
+            // The first round has a match, directly behind what is before. Others may follow it.
+            Pattern::Repetition { min, sub, .. } if *min > 0 => {
+                self.pass(sub)?;
+                self.end();
+            }
+            // There may be no round, and any of the branches may have the match.
+            Pattern::Repetition { .. } | Pattern::Alternation(_) => self.end(),
+        }
+        Ok(())
+    }
+
+    /// Walks through parts that follow one another.
+    #[cycle(walk)]
+    fn pass_all(&mut self, patterns: &[Pattern]) -> Result<(), AllocError> {
+        for i in 0..patterns.len() {
+            self.pass(&patterns[i])?;
+        }
+        Ok(())
+    }
+
+    /// Ends the row: nothing is known of the byte behind it.
+    fn end(&mut self) {
+        self.is_match = false;
+        if self.run.len() > self.longest.len() {
+            mem::swap(&mut self.run, &mut self.longest);
+        }
+        self.run.clear();
+    }
+}
+
+/// Adds for each branch of a pattern a text that stands in each of its matches: the longest one, or
+/// none of any length.
+#[cycle(branches)]
+fn push_texts(
+    alloc: Global,
+    pattern: &Pattern,
+    literals: &mut Vec<Literal>,
+) -> Result<(), AllocError> {
+    match pattern {
+        // A match of it is one of a branch.
+        Pattern::Alternation(subs) => push_all(alloc, subs, literals),
+        Pattern::Capture(sub) => push_texts(alloc, sub, literals),
+        _ => Ok(literals.push(text_of(alloc, pattern)?)?),
+    }
+}
+
+/// Adds the texts of each of the patterns.
+#[cycle(branches)]
+fn push_all(
+    alloc: Global,
+    patterns: &[Pattern],
+    literals: &mut Vec<Literal>,
+) -> Result<(), AllocError> {
+    for i in 0..patterns.len() {
+        push_texts(alloc, &patterns[i], literals)?;
+    }
+    Ok(())
+}
+
+/// Returns whether texts are few, rare, and without the byte that ends a line.
+fn are_sought(literals: &[Literal], terminator: u8) -> bool {
+    for literal in literals {
+        if !literal.is_rare() || literal.bytes.contains(&terminator) {
+            return false;
+        }
+    }
+    !literals.is_empty() && literals.len() <= MOST
+}
+
+/// Returns the set of the rarest byte of each text.
+fn rarest_of(literals: &[Literal]) -> ByteSet {
+    let mut members = [false; 256];
+    for literal in literals {
+        members[usize::from(literal.rarest)] = true;
+    }
+    ByteSet::new(&members)
+}
+
+/// Returns whether each text is a match, wherever it stands.
+fn are_matches(literals: &[Literal]) -> bool {
+    for literal in literals {
+        if !literal.is_match {
+            return false;
+        }
+    }
+    true
+}
+
+/// Returns the longest text that stands in each match of a branch, as far as its form shows.
+fn text_of(alloc: Global, pattern: &Pattern) -> Result<Literal, AllocError> {
+    let mut walk = Walk {
+        run: Vec::new(alloc),
+        longest: Vec::new(alloc),
+        is_match: true,
+    };
+    walk.pass(pattern)?;
+    let is_match = walk.is_match;
+    walk.end();
+    Ok(Literal::new(walk.into_longest(), is_match))
+}
+
+/// Returns how rare a byte is: at most the number of the frequent ones.
+fn rank(byte: u8) -> usize {
+    for (index, frequent) in FREQUENT.iter().enumerate() {
+        if *frequent == byte {
+            return index;
+        }
+    }
+    FREQUENT.len()
+}
