@@ -325,7 +325,7 @@ impl<'a, W: Write + Drop> Files<'a, W> {
         globs.skips(name.as_bytes(), Origin::Entry, is_dir)
     }
 
-    /// Adds the entries of a directory, unless a link leads from it to itself.
+    /// Adds the entries of a directory, unless it is in itself by a link.
     fn search_dir(
         &mut self,
         path: &str,

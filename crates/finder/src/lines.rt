@@ -83,7 +83,7 @@ struct Place {
 }
 
 impl Place {
-    /// Passes lines of so many bytes.
+    /// Passes a number of lines, and of bytes in them.
     fn pass(&mut self, lines: u64, bytes: usize) {
         self.lines = self.lines.saturating_add(lines);
         self.bytes = self.bytes.saturating_add(bytes as u64);
@@ -215,7 +215,7 @@ impl<'a, W: Write + Drop> Lines<'a, W> {
         Ok(Next::Read)
     }
 
-    /// Takes the lines of a block in which a literal stands. The others have no match.
+    /// Takes the lines of a block that contain a literal. The others have no match.
     fn take_found(&mut self, text: &mut Text<'_>, block: &[u8]) -> Result<Next, SearchError> {
         let mut rest = block;
         for _ in 0..block.len() {
@@ -235,7 +235,7 @@ impl<'a, W: Write + Drop> Lines<'a, W> {
         Ok(Next::Read)
     }
 
-    /// Returns an index in the first line in which a literal stands.
+    /// Returns an index in the first line that contains a literal.
     fn find_literal(&self, lines: &[u8]) -> Option<usize> {
         match &self.literals {
             Some(literals) => literals.find(lines),
@@ -243,7 +243,7 @@ impl<'a, W: Write + Drop> Lines<'a, W> {
         }
     }
 
-    /// Takes a line in which a literal stands. In a binary text its parts may have no match.
+    /// Takes a line that contains a literal. In a binary text its parts may have no match.
     fn take_one_found(&mut self, text: &mut Text<'_>, line: &[u8]) -> Result<Next, SearchError> {
         match &self.literals {
             Some(literals) if literals.are_matches() && !text.is_binary => {

@@ -1,4 +1,4 @@
-//! Texts that stand in the matches of patterns, by the form of the patterns.
+//! Texts that the matches of patterns contain, by the form of the patterns.
 
 use crate::options::Settings;
 use byte_set::ByteSet;
@@ -9,48 +9,48 @@ use std::mem;
 /// Bytes of prose and of sources, the most frequent first. All others are rarer.
 const FREQUENT: &[u8] = b" etnsroia\n_lcdupmf().,h*-g0\xD0\xD1\xE2ybSETkOARNILC1xvw/:PDM#=F;\"2";
 
-/// How many of these stand in most lines.
+/// How many of these are in most lines.
 const IN_MOST_LINES: usize = 12;
 
 /// The most texts that are sought at once.
 const MOST: usize = 4;
 
-/// Texts of which one stands in each match.
+/// Texts of which each match contains one.
 #[derive(Drop)]
 pub struct Literals {
     literals: Vec<Literal>,
     /// The rarest byte of each.
     rarest: ByteSet,
-    /// Whether each of the texts is a match, wherever it stands.
+    /// Whether each of the texts is a match, wherever it occurs.
     are_matches: bool,
 }
 
-/// A text that stands in each match of a branch.
+/// A text that each match of a branch contains.
 #[derive(Drop)]
 struct Literal {
     bytes: Vec<u8>,
     /// Its rarest byte, and where that is.
     rarest: u8,
     offset: usize,
-    /// Whether it is a match, wherever it stands.
+    /// Whether it is a match, wherever it occurs.
     is_match: bool,
 }
 
 /// A walk through a branch, from left to right.
 #[derive(Drop)]
 struct Walk {
-    /// Bytes in a row that stand in each match, the last one where the walk is.
+    /// Bytes that each match contains in a row, the last one where the walk is.
     run: Vec<u8>,
     /// The longest row that has ended.
     longest: Vec<u8>,
-    /// Whether the row is a match of what was walked through, wherever it stands.
+    /// Whether the row is a match of what was walked through, wherever it occurs.
     is_match: bool,
 }
 
 impl Literals {
-    /// Returns texts of which one stands in each match of the patterns, if their form shows such
-    /// texts, which are few and rare, and if lines in which none stands need not be printed. None
-    /// of the texts has the byte that ends a line, so each stands in one line.
+    /// Returns texts of which each match of the patterns contains one, if their form shows such
+    /// texts, which are few and rare, and if lines that contain none need not be printed. None of
+    /// the texts has the byte that ends a line, so each is within one line.
     pub fn of(
         alloc: Global,
         patterns: &[Pattern],
@@ -71,7 +71,7 @@ impl Literals {
         }))
     }
 
-    /// Returns whether each line in which one of the texts stands has a match.
+    /// Returns whether each line that contains one of the texts has a match.
     pub fn are_matches(&self) -> bool {
         self.are_matches
     }
@@ -84,7 +84,7 @@ impl Literals {
                 break;
             }
             let at = self.rarest.find(block, from, block.len())?;
-            if self.stands(block, at) {
+            if self.is_at(block, at) {
                 return Some(at);
             }
             from = at + 1;
@@ -92,10 +92,10 @@ impl Literals {
         None
     }
 
-    /// Returns whether one of the texts stands where its rarest byte is at an index.
-    fn stands(&self, block: &[u8], at: usize) -> bool {
+    /// Returns whether one of the texts is in a block, its rarest byte at an index.
+    fn is_at(&self, block: &[u8], at: usize) -> bool {
         for literal in &self.literals {
-            if literal.stands(block, at) {
+            if literal.is_at(block, at) {
                 return true;
             }
         }
@@ -127,8 +127,8 @@ impl Literal {
         self.bytes.len() > 1 || rank(self.rarest) >= IN_MOST_LINES
     }
 
-    /// Returns whether the text stands where its rarest byte is at an index.
-    fn stands(&self, block: &[u8], at: usize) -> bool {
+    /// Returns whether the text is in a block, its rarest byte at an index.
+    fn is_at(&self, block: &[u8], at: usize) -> bool {
         let Some(start) = at.checked_sub(self.offset) else {
             return false;
         };
@@ -149,7 +149,7 @@ impl Walk {
         match pattern {
             // What is before it and what is behind it are in a row.
             Pattern::Empty => {}
-            // The same, but there may be no match where the row stands.
+            // The same, but there may be no match where the row occurs.
             Pattern::Look(_) => self.is_match = false,
             Pattern::Literal(bytes) => self.run.extend_from_slice(bytes)?,
             // One byte is known only if the class has one.
@@ -190,8 +190,8 @@ impl Walk {
     }
 }
 
-/// Adds for each branch of a pattern a text that stands in each of its matches: the longest one, or
-/// none of any length.
+/// Adds for each branch of a pattern the longest text that each of its matches contains, as far as
+/// its form shows. It may be empty.
 #[cycle(branches)]
 fn push_texts(
     alloc: Global,
@@ -238,7 +238,7 @@ fn rarest_of(literals: &[Literal]) -> ByteSet {
     ByteSet::new(&members)
 }
 
-/// Returns whether each text is a match, wherever it stands.
+/// Returns whether each text is a match, wherever it occurs.
 fn are_matches(literals: &[Literal]) -> bool {
     for literal in literals {
         if !literal.is_match {
@@ -248,7 +248,7 @@ fn are_matches(literals: &[Literal]) -> bool {
     true
 }
 
-/// Returns the longest text that stands in each match of a branch, as far as its form shows.
+/// Returns the longest text that each match of a branch contains, as far as its form shows.
 fn text_of(alloc: Global, pattern: &Pattern) -> Result<Literal, AllocError> {
     let mut walk = Walk {
         run: Vec::new(alloc),

@@ -40,7 +40,7 @@ pub struct Settings {
     pub binary: Binary,
     /// Whether the files below directories are searched.
     pub is_recursive: bool,
-    /// Whether this includes files and directories that links lead to.
+    /// Whether links that are met there are followed.
     pub follows_links: bool,
     /// Whether there are no messages about files that cannot be read.
     pub is_silent: bool,
