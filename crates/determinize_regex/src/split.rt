@@ -1,6 +1,7 @@
 //! Texts without the matches of patterns: the parts between them, or other bytes in their place.
 
-ghost use Rattle.std.specs.Prelude.{◌≡◌, IfOk, None, length, map};
+ghost use Rattle.std.specs.Prelude.{◌≡◌, IfOk, List, None, length, map};
+ghost use Rattle.determinize_below.specs.declared.search.Match.{Match as Found};
 ghost use Rattle.determinize_find.specs.Matches.{AreApart};
 ghost use Rattle.determinize_regex.specs.Parts.{AreParts, AreWholeIn, IsReplaced, IsReplacedBy, parts};
 ghost use Rattle.determinize_regex.specs.Regexes.{AreAllIn};
@@ -56,7 +57,7 @@ impl<P: AsSlice<Pattern> + Drop, R: AsNfa, A: Allocator + Copy> Regex<P, R, A> {
         replacement: F,
     ) -> Result<Vec<u8, C>, AllocError>
         requires { F.IsAlwaysCallable replacement }
-        ensures replaced { IfOk result (λ new. (found : _)
+        ensures replaced { IfOk result (λ new. (found : List Found)
             × AreAllIn self.old haystack.now found × IsReplacedBy
             (λ p x q. (shown : _) × (shown.now ≡ x.0) × F.step p shown x.1 q) replacement
             found haystack.now new.items) }
