@@ -261,7 +261,7 @@ impl<A: Allocator + Copy> Pieces<A> {
 
     /// Returns the leftmost match of the kept bytes from the start on, by indices into these bytes,
     /// if the search under way makes it certain: then nothing that follows can change it. Such a
-    /// match begins before the last of these bytes ends.
+    /// match begins before the end of these bytes.
     #[inline(always)]
     fn certain_now<R: AsNfa, B: Engine<Error = AllocError>>(
         &self,

@@ -1,6 +1,6 @@
 -- The leftmost match of an input as one of its text, and by anchored searches from one index after another.
 -- Main statements: later_run, in_text, leftmost_in, text-since, best_in, more_nothing, found_here, found_last.
--- Used by: `plain::find_at` and `find_in_turn`, all on leftmost matches, and searches in turn of `determinize_linear`.
+-- Used by: `find_at` and `find` of `Plain`, all on leftmost matches, and searches in turn of `determinize_linear`.
 -- Idea: the text from a later index is the rest of the text, where runs keep their choices (Shifts), and the first
 -- index with a match is the least one where a run accepts.
 use Rattle.determinize_find.proofs.Common.{Accepts, AcceptsFrom, arith, Asked, before_at, between, by_cases, by_option}

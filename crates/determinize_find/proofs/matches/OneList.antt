@@ -83,11 +83,6 @@ lies nfa asked m within h =
     let high = run_within nfa (text_of false asked) _ _ _ _ (omega arith) accepts in
     record { low = omega arith; order = omega arith; high = omega arith }
 
--- a match behind the one before that does not touch it ends later
-not_touching : (start : ℕ) (before : Option ℕ) (m : Match) → ((last : ℕ) → before ≡ Some last → last ≡ start)
-    → start ≤ m.start → m.start ≤ m.end → touches before m ≡ false → (last : ℕ) → before ≡ Some last → last < m.end
-not_touching start before m starts low order apart last is = grind (arith, nat_tests, starts last is)
-
 -- where the next match lies, and that it ends later than the one before
 pub next_lies : (nfa : Nfa) (asked : Asked) (before : Option ℕ) (m : Match) → asked.end ≤ length asked.haystack
     → ((last : ℕ) → before ≡ Some last → last ≡ asked.start) → IsNext nfa asked before (Some m)
@@ -99,7 +94,7 @@ next_lies nfa asked before m l starts (Some n, x, taken) = by_test (touches befo
       λ last k. omega (arith, starts last k, y.low, y.order),
     ))
     (λ e. let y = lies nfa asked n l x in
-    rw (some_injective m n (taken.1 e)) (y, not_touching asked.start before n starts y.low y.order e))
+    rw (some_injective m n (taken.1 e)) (y, λ last k. grind (arith, nat_tests, starts last k, y.low, y.order)))
 
 pub apart : (nfa : Nfa) (asked : Asked) (before : Option ℕ) (ms : List Match) → asked.end ≤ length asked.haystack
     → ((last : ℕ) → before ≡ Some last → last ≡ asked.start)

@@ -420,13 +420,6 @@ module _ {nfa : Nfa} {start : ℕ} {behind : Option ℕ} {bytes : List ℕ} {s :
       (λ first more ahead. let end : s.read ≡ m.offset = sym first.end in
       sym (scanned_whole is more ahead ∙ ends_first first more ahead ∙ ap (λ n. Some (half m.pattern n)) end))
 
-  -- it ends before the last byte, or it is that of the first state
-  pub certain_within : (m.offset < length bytes) ⊎ IsFirst nfa s m
-  certain_within = by_cases (certain_cases nfa s m e)
-      (λ c. inl (rw (← is.last, c.1, length-map) at
-      (last_match-within nfa LeftmostFirst (start_value nfa start behind) (map Some bytes))))
-      inr
-
 pub each_certain_is_preferred : EachCertainIsPreferred
 each_certain_is_preferred nfa accepted start behind bytes s is m e more ahead =
     preferred nfa LeftmostFirst start (between behind (bytes ++ more) ahead) (Some m) accepted refl
@@ -527,7 +520,10 @@ module _ {nfa : Nfa} {xs : List ℕ} {start : ℕ} {s : Scanned} {h : HalfMatch}
       → IsBeginOf nfa xs start (start + h.offset) begin
       → IsCertain nfa xs start record { pattern = h.pattern; start = begin; end = start + h.offset }
   certain_is begin order high at =
-      let ends = certain_within scan.scan h certain in
+      let ends : (h.offset < length (drop start xs)) ⊎ IsFirst nfa s h = by_cases (certain_cases nfa s h certain)
+      (λ c. inl (rw (← scan.scan.last, c.1, length-map) at (last_match-within nfa LeftmostFirst
+      (start_value nfa nfa.start_unanchored (byte_before xs start)) (map Some (drop start xs)))))
+      inr in
       let there : BeginsThere nfa (byte_before xs start) (drop start xs) now.match.end = by_cases ends
       (λ l. begins_before nfa (byte_before xs start) (drop start xs) now.match (omega (arith, now.end)) now.left)
       (λ f. rw (now.end, f.end, scan.scan.read) (first_begins scan.accepted scan.prefix

@@ -12,11 +12,11 @@ use Rattle.determinize_find.proofs.Common.{cases_lt, cond, drop, drop-append-le,
 use Rattle.determinize_find.proofs.Common.{false≢true, from, HasMoved, HasPrefixApart, IfSome, IfSome_then, inl, inr}
 use Rattle.determinize_find.proofs.Common.{is_capture, is_touching, IsCertain, IsEndScan, IsFed, IsFinished}
 use Rattle.determinize_find.proofs.Common.{IsFoundInBlock, IsFresh, IsFrontFed, IsKept, IsLeftmostIn, IsNext, IsPartFed}
-use Rattle.determinize_find.proofs.Common.{IsSearching, IsStream, IsUnsettled, KeepsFew, KeptFewAt, KeptFewInBlocks}
-use Rattle.determinize_find.proofs.Common.{left_in, length, length-append, length-drop, List, map, Match, min, moved}
-use Rattle.determinize_find.proofs.Common.{Nfa, nil_from_length, None, Option, option_map, pattern_in, pattern_of}
-use Rattle.determinize_find.proofs.Common.{place, reach, refl, Scanned, Some, Streamed, sym, take-append-le, take_all}
-use Rattle.determinize_find.proofs.Common.{take_at, tests_capture, text_of, touches, true, whole, with_bytes, with_scan}
+use Rattle.determinize_find.proofs.Common.{IsSearching, IsStream, IsUnsettled, KeepsFew, KeptFewInBlocks, left_in}
+use Rattle.determinize_find.proofs.Common.{length, length-append, length-drop, List, map, Match, min, moved, Nfa}
+use Rattle.determinize_find.proofs.Common.{nil_from_length, None, Option, option_map, pattern_in, pattern_of, place}
+use Rattle.determinize_find.proofs.Common.{reach, refl, Scanned, Some, Streamed, sym, take-append-le, take_all, take_at}
+use Rattle.determinize_find.proofs.Common.{tests_capture, text_of, touches, true, whole, with_bytes, with_scan}
 use Rattle.determinize_find.proofs.Common.{without_first, [], ℕ, ◌*◌, ◌++◌, ◌+◌, ◌-◌, ◌<◌, ◌∙◌, ◌∷◌, ◌≡◌, ◌≤◌, ◌⊎◌}
 use Rattle.std.proofs.Math.Seq.{take-append-add}
 use Rattle.std.specs.Prelude.{IsSome}
@@ -371,80 +371,68 @@ unread_unsettled {nfa} unread is =
 
 module _ {nfa : Nfa} {old now new : Streamed} {done block : List ℕ} {list mid after : List Match}
     (fed : IsFed nfa old now done list mid) (more : IsFed nfa now new block mid after) (few : KeepsFew nfa new) where
-  -- at the end of the next block
-  here : (i : ℕ) → i ≡ length (done ++ block) → KeptFewAt nfa old new (done ++ block) list after i
-  here i e =
-      let all : length (done ++ block) ≤ i = omega arith in record {
+  -- at the end of the next block, and at an earlier place
+  more_blocks : (count : ℕ) → length done ≡ count * 4096 → 0 < length block → length block ≤ 4096
+      → KeptFewInBlocks nfa old now done list mid → KeptFewInBlocks nfa old new (done ++ block) list after
+  more_blocks count full some small blocks i (low, high, end) =
+      let size = length-append done block in
+      by_cases (cases_lt (length done) i)
+      (λ later. let all : length (done ++ block) ≤ i = by_cases end (λ e. omega arith) (λ e. omega (arith, e.1)) in
+      record {
         now = new;
         found = after;
         first = rw (take_all i (done ++ block) all) (joined fed more);
         few = few;
         rest = rw (drop_all i (done ++ block) all) (fed_scan nfa new new.scan after);
         end = λ _. refl;
-      }
-
-  -- and at an earlier place
-  earlier : (i : ℕ) → i ≤ length done → 0 < length block → KeptFewAt nfa old now done list mid i
-      → KeptFewAt nfa old new (done ++ block) list after i
-  earlier i l some at = record {
-    now = at.now;
-    found = at.found;
-    first = rw (take-append-le i done block l) at.first;
-    few = at.few;
-    rest = rw (drop-append-le i done block l) (joined at.rest more);
-    end = λ e. absurd (omega (arith, length-append done block));
-  }
-
-  more_blocks : (count : ℕ) → length done ≡ count * 4096 → 0 < length block → length block ≤ 4096
-      → KeptFewInBlocks nfa old now done list mid → KeptFewInBlocks nfa old new (done ++ block) list after
-  more_blocks count full some small blocks i (low, high, end) =
-      let size = length-append done block in
-      by_cases (cases_lt (length done) i)
-      (λ later. here i (by_cases end (λ e. e) (λ e. omega (arith, e.1))))
-      (λ l. earlier i l some (blocks i (low, l, by_cases end (λ e. absurd (omega arith)) (λ e. inr e))))
+      })
+      (λ l. let at = blocks i (low, l, by_cases end (λ e. absurd (omega arith)) (λ e. inr e)) in record {
+        now = at.now;
+        found = at.found;
+        first = rw (take-append-le i done block l) at.first;
+        few = at.few;
+        rest = rw (drop-append-le i done block l) (joined at.rest more);
+        end = λ e. absurd (omega arith);
+      })
 
 -- the blocks of a piece that were read so far, and the rest of it
-pub record HasRead (nfa : Nfa) (old now : Streamed) (piece rest : List ℕ) (size : ℕ) (list mid : List Match)
-    : Type 0 where
+pub record HasRead (nfa : Nfa) (old now : Streamed) (piece rest : List ℕ) (list mid : List Match) : Type 0 where
   pub done : List ℕ
   pub cut : done ++ rest ≡ piece
-  pub size_is : size ≡ 4096
   pub count : ℕ
   pub full : (rest ≡ []) ⊎ (length done ≡ count * 4096)
   pub fed : IsFed nfa old now done list mid
   pub few : KeptFewInBlocks nfa old now done list mid
 
-pub read_none : (nfa : Nfa) (s : Streamed) (piece rest : List ℕ) (size : ℕ) (list : List Match) → rest ≡ piece
-    → size ≡ 4096 → HasRead nfa s s piece rest size list list
-read_none nfa s piece rest size list all e = record {
+pub read_none : (nfa : Nfa) (s : Streamed) (piece rest : List ℕ) (list : List Match) → rest ≡ piece
+    → HasRead nfa s s piece rest list list
+read_none nfa s piece rest list all = record {
   done = [];
   cut = all;
-  size_is = e;
   count = 0;
   full = inr refl;
   fed = fed_scan nfa s s.scan list;
   few = λ i end. absurd (omega (arith, end.0, end.1));
 }
 
-module _ {nfa : Nfa} {old now : Streamed} {piece rest : List ℕ} {size : ℕ} {list mid : List Match}
-    (is : HasRead nfa old now piece rest size list mid) where
-  pub read_more : {new : Streamed} {after : List Match} {block : List ℕ} (others : List ℕ) (next : ℕ) → next ≡ size
-      → rest ≡ block ++ others → length block ≡ min size (length rest) → 0 < length rest
-      → IsFed nfa now new block mid after → KeepsFew nfa new → HasRead nfa old new piece others next list after
-  read_more {new} {after} {block} others next same e m some more few =
+module _ {nfa : Nfa} {old now : Streamed} {piece rest : List ℕ} {list mid : List Match}
+    (is : HasRead nfa old now piece rest list mid) where
+  pub read_more : {new : Streamed} {after : List Match} {block : List ℕ} (others : List ℕ)
+      → rest ≡ block ++ others → length block ≡ min 4096 (length rest) → 0 < length rest
+      → IsFed nfa now new block mid after → KeepsFew nfa new → HasRead nfa old new piece others list after
+  read_more {new} {after} {block} others e m some more few =
       let sum : length rest ≡ length block + length others = ap length e ∙ length-append block others in
       let begun : length is.done ≡ is.count * 4096
       = by_cases is.full (λ z. absurd (omega (arith, ap length z))) (λ z. z) in
       record {
         done = is.done ++ block;
         cut = append_assoc is.done block others ∙ (rw e at is.cut);
-        size_is = same ∙ is.size_is;
         count = is.count + 1;
-        full = by_cases (cases_lt (length rest) size)
-            (λ l. inl (nil_from_length others (omega (arith, is.size_is))))
-            (λ l. inr (omega (arith, is.size_is, length-append is.done block)));
+        full = by_cases (cases_lt (length rest) 4096)
+            (λ l. inl (nil_from_length others (omega arith)))
+            (λ l. inr (omega (arith, length-append is.done block)));
         fed = joined is.fed more;
-        few = more_blocks is.fed more few is.count begun (omega (arith, is.size_is)) (omega (arith, is.size_is)) is.few;
+        few = more_blocks is.fed more few is.count begun (omega arith) (omega arith) is.few;
       }
 
   pub all_read : rest ≡ [] → IsFed nfa old now piece list mid × KeptFewInBlocks nfa old now piece list mid
