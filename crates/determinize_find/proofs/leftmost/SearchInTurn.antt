@@ -66,12 +66,7 @@ leftmost_in nfa asked o l is = record { done = λ d. absurd (omega (arith, ltb-t
 pub found_past : (nfa : Nfa) (asked : Asked) → asked.end < asked.start → IsLeftmostIn nfa asked None
 found_past nfa asked l = record { done = λ d. refl; found = λ d. absurd (omega (arith, ltb-false _ _ d)) }
 
--- the range from a later start on is the rest of the range
-range-since : (xs : List ℕ) (start k end : ℕ) → start + k ≤ end
-    → slice_range xs (start + k) end ≡ drop k (slice_range xs start end)
-range-since xs start k end l =
-    let size : end - start ≡ k + (end - (start + k)) = omega arith in rw (size, drop-take, drop-drop)
-
+-- the byte before a later start is that before its position in the text
 behind-since : (xs : List ℕ) (start k end : ℕ) (ahead : Option ℕ) → start + k ≤ end
     → byte_before xs (start + k) ≡ before_at (between (byte_before xs start) (slice_range xs start end) ahead) k
 behind-since xs start zero end ahead l = let z : start + 0 ≡ start = omega arith in rw z
@@ -85,7 +80,8 @@ pub text-since : (asked from : Asked) (k : ℕ) → from.haystack ≡ asked.hays
     → text_of false from ≡ since (text_of false asked) k
 text-since asked from k haystack start end l =
     let ahead = slice_get asked.haystack asked.end in
-    rw (haystack, start, end, behind-since asked.haystack asked.start k asked.end ahead l, range-since _ _ _ _ l)
+    let size : asked.end - asked.start ≡ k + (asked.end - (asked.start + k)) = omega arith in
+    rw (haystack, start, end, behind-since asked.haystack asked.start k asked.end ahead l, size, drop-take, drop-drop)
 
 -- an anchored search from an index finds the best match there
 module _ (nfa : Nfa) (asked : Asked) (at : ℕ) (forward : nfa.reverse ≡ false) (low : asked.start ≤ at)

@@ -10,7 +10,7 @@ use Rattle.determinize_find.proofs.Common.{false, from, inl, inr, is_anchored, i
 use Rattle.determinize_find.proofs.Common.{IsLeftmost, IsLeftmostIn, IsNext, last_match, latest, left, LeftmostFirst}
 use Rattle.determinize_find.proofs.Common.{length, List, Match, moved, nat_tests, Nfa, None, none-some, Option}
 use Rattle.determinize_find.proofs.Common.{option_map, preferred, refl, since, Some, some_injective, suc, Text, text_of}
-use Rattle.determinize_find.proofs.Common.{touches, true, zero, [], ℕ, ◌+◌, ◌-◌, ◌<◌, ◌∙◌, ◌∷◌, ◌≡◌, ◌≤◌, ◌⊎◌}
+use Rattle.determinize_find.proofs.Common.{touches, zero, [], ℕ, ◌+◌, ◌-◌, ◌<◌, ◌∙◌, ◌∷◌, ◌≡◌, ◌≤◌, ◌⊎◌}
 use Rattle.determinize_find.proofs.leftmost.PreferredRun.{each_anchored_is_leftmost}
 use Rattle.determinize_find.proofs.matches.NextMatch.{fewer, next_further, next_plain}
 use Rattle.determinize_find.proofs.streams.Rests.{leftmost_since}
@@ -96,10 +96,6 @@ none_passed nfa asked at None l h free (k, at_is, cs, i, y, acc) =
 none_passed nfa asked at (Some m) l h p (k, at_is, cs, i, y, acc) =
     let t = in_text h in t.leftmost.leftmost k (omega arith) cs i y acc
 
--- a match that touches the one before is empty, and begins where that one ended
-touching : (before : Option ℕ) (n : Match) → touches before n ≡ true → (before ≡ Some n.start) × (n.end ≡ n.start)
-touching before n t = grind (arith, nat_tests)
-
 -- where a run begins that accepts, before the next match: the match before ended there, and an empty one was skipped
 skipped : (nfa : Nfa) (asked : Asked) (before : Option ℕ) (at : ℕ) (found : Option Match)
     → ((last : ℕ) → before ≡ Some last → last ≡ asked.start) → IsNext nfa asked before found
@@ -108,7 +104,8 @@ skipped : (nfa : Nfa) (asked : Asked) (before : Option ℕ) (at : ℕ) (found : 
 skipped nfa asked before at found starts (None, is, taken) p l b =
     absurd (none_passed nfa asked at None l is (rw taken at p) b)
 skipped nfa asked before at found starts (Some m, is, taken) p l b = by_test (touches before m)
-    (λ e. let (ends, empty) = touching before m e in
+    (λ e. let ends : before ≡ Some m.start = grind (arith, nat_tests) in
+    let empty : m.end ≡ m.start = grind (arith, nat_tests) in
     let start = starts m.start ends in
     let low : asked.start ≤ at = omega (arith, b.1) in
     by_cases (cases_lt asked.start at)

@@ -16,7 +16,7 @@ use Rattle.determinize_find.proofs.Common.{certain_after, certain_match, chain, 
 use Rattle.determinize_find.proofs.Common.{choices_under, cond, drop, drop-append-le, each_run_reads_forward}
 use Rattle.determinize_find.proofs.Common.{EachBusyHasBegun, EachCertainIsPreferred, EachIdleIsFresh, end_of, ended_at}
 use Rattle.determinize_find.proofs.Common.{eq-eqb, false, from, HalfMatch, HasPrefix, HasPrefixApart, inl, inr}
-use Rattle.determinize_find.proofs.Common.{is_capture, is_match, is_reopened, IsAccepted, IsBeginOf, IsCertain, IsEnded}
+use Rattle.determinize_find.proofs.Common.{is_capture, is_match, is_reopened, IsAccepted, IsBeginOf, IsCertain}
 use Rattle.determinize_find.proofs.Common.{IsEndScan, IsFresh, IsLeftmostIn, IsLeftmostMatch, IsPath, IsScan, IsSettled}
 use Rattle.determinize_find.proofs.Common.{last_match, leads_to, LeftmostFirst, length, length-append, length-drop}
 use Rattle.determinize_find.proofs.Common.{length-map, List, map, map-append, Match, moved, ne_eqb, Nfa, None}
@@ -507,15 +507,6 @@ module _ {nfa : Nfa} {xs : List ℕ} {start : ℕ} {s : Scanned} {h : HalfMatch}
   now : IsMatchWith nfa xs start [] h
   now = match_with [] (All-nil (λ b. b < 256))
 
-  ended : IsEnded nfa xs start (start + h.offset) (from (whole xs) start) (moved start now.match)
-  ended = record {
-    same = refl;
-    starts = refl;
-    within = omega arith;
-    leftmost = rw append-nil at now.in_haystack;
-    ends = ap (λ n. start + n) now.end;
-  }
-
   pub certain_is : (begin : ℕ) → begin ≤ start + h.offset → start + h.offset ≤ length xs
       → IsBeginOf nfa xs start (start + h.offset) begin
       → IsCertain nfa xs start record { pattern = h.pattern; start = begin; end = start + h.offset }
@@ -528,7 +519,13 @@ module _ {nfa : Nfa} {xs : List ℕ} {start : ℕ} {s : Scanned} {h : HalfMatch}
       (λ l. begins_before nfa (byte_before xs start) (drop start xs) now.match (omega (arith, now.end)) now.left)
       (λ f. rw (now.end, f.end, scan.scan.read) (first_begins scan.accepted scan.prefix
       (All-drop (λ b. b < 256) start xs bytes) scan.scan f)) in
-      let here : start + now.match.start ≡ begin = at (from (whole xs) start) (moved start now.match) ended in
+      let here : start + now.match.start ≡ begin = at (from (whole xs) start) (moved start now.match) record {
+        same = refl;
+        starts = refl;
+        within = omega arith;
+        leftmost = rw append-nil at now.in_haystack;
+        ends = ap (λ n. start + n) now.end;
+      } in
       let one : now.match.start ≡ there.start = there.is [] now.match now.left refl in
       let some : begin < length xs = omega (arith, there.below, within, length-drop start xs) in
       record {
