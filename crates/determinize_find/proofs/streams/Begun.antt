@@ -20,18 +20,18 @@ use Rattle.determinize_find.proofs.Common.{is_capture, is_match, is_reopened, Is
 use Rattle.determinize_find.proofs.Common.{IsEndScan, IsFresh, IsLeftmostIn, IsLeftmostMatch, IsPath, IsScan, IsSettled}
 use Rattle.determinize_find.proofs.Common.{last_match, leads_to, LeftmostFirst, length, length-append, length-drop}
 use Rattle.determinize_find.proofs.Common.{length-map, List, map, map-append, Match, moved, ne_eqb, Nfa, None}
-use Rattle.determinize_find.proofs.Common.{none-some, none_leaves, Option, option_map, option_or, part_read, parted}
-use Rattle.determinize_find.proofs.Common.{pass, pass_all, pass_first, pattern_in, pattern_of, patterns_of}
-use Rattle.determinize_find.proofs.Common.{patterns_read, preferred, reach, refl, same_least, Scanned, skip}
-use Rattle.determinize_find.proofs.Common.{skip_before, slice_get, slice_get-get_or, slice_get_within, Some}
-use Rattle.determinize_find.proofs.Common.{some_injective, start_value, stays_out, step, suc, sym, tests_capture, Text}
-use Rattle.determinize_find.proofs.Common.{true, true_at, u_not_a, u_not_x, under_later, unshape, whole, working_list}
-use Rattle.determinize_find.proofs.Common.{zero, [], ℕ, ◌++◌, ◌+◌, ◌<◌, ◌==◌, ◌∙◌, ◌∷◌, ◌≡◌, ◌≤◌, ◌⊎◌}
+use Rattle.determinize_find.proofs.Common.{none-some, none_leaves, Option, option_or, part_read, parted, pass, pass_all}
+use Rattle.determinize_find.proofs.Common.{pass_first, pattern_in, pattern_of, patterns_of, patterns_read, preferred}
+use Rattle.determinize_find.proofs.Common.{reach, refl, same_least, Scanned, skip, skip_before, slice_get}
+use Rattle.determinize_find.proofs.Common.{slice_get-get_or, slice_get_within, Some, some_injective, start_value}
+use Rattle.determinize_find.proofs.Common.{stays_out, step, suc, sym, tests_capture, Text, true, true_at, u_not_a}
+use Rattle.determinize_find.proofs.Common.{u_not_x, under_later, unshape, whole, working_list, zero, [], ℕ, ◌++◌, ◌+◌}
+use Rattle.determinize_find.proofs.Common.{◌<◌, ◌==◌, ◌∙◌, ◌∷◌, ◌≡◌, ◌≤◌, ◌⊎◌}
 use Rattle.ordered_reach.specs.Runs.{IsLeastRun, ListsReached}
 use Rattle.determinize_core.proofs.walk.UnitLists.{chain_is_future}
 use Rattle.determinize_core.proofs.walk.WalkOfRuns.{each_chain_reaches}
 use Rattle.determinize_engine.proofs.Scanning.{last-scanned, settled}
-use Rattle.determinize_engine.specs.Private.Later.{last_from, later_by}
+use Rattle.determinize_engine.specs.Private.Later.{last_from}
 use Rattle.std.proofs.Math.Nat.{lt_of_not-le, zero-add}
 use Rattle.determinize_find.proofs.leftmost.PreferredRun.{each_preferred_is_leftmost, not_before}
 use Rattle.determinize_core.proofs.Common.{future, MatchKind, same_decides, state_at, value_after}
@@ -159,10 +159,6 @@ module _ (nfa : Nfa) (behind : Option ℕ) (bytes : List ℕ) where
           let before : p.0 < cut = omega arith in
           (before, rw (← same_before others beyond p before, same_before more ahead p before) e)
 
-later_than : (n : ℕ) (o : Option HalfMatch) (h : HalfMatch) → option_or (option_map (later_by n) o) None ≡ Some h
-    → n ≤ h.offset
-later_than n o h e = grind arith
-
 module _ (nfa : Nfa) (kind : MatchKind) where
   -- a search that is at a value with an NFA state has read all units
   reads_all : (us : List (Option ℕ)) (v : Value) (x : ℕ)
@@ -195,7 +191,7 @@ module _ {nfa : Nfa} {start : ℕ} {behind : Option ℕ} {bytes : List ℕ} {s :
       → last_match (chain nfa LeftmostFirst start (between behind (bytes ++ more) ahead)) ≡ Some h
       → length bytes ≤ h.offset
   ends_later none more ahead h e =
-      rw (← is.read) (later_than s.read _ h (rw none at (sym (scanned_whole more ahead) ∙ e)))
+      let last = rw none at (sym (scanned_whole more ahead) ∙ e) in rw (← is.read) (grind (arith, last))
 
   -- the first state of the value is the first that runs reach where the bytes end
   pub recorded : IsAccepted nfa → (x : ℕ) → slice_get s.state.states 0 ≡ Some x → (xs : List ℕ)
