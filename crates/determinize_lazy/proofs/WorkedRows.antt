@@ -5,8 +5,7 @@
 use Rattle.determinize_below.specs.Look.{insert, meets}
 use Rattle.determinize_below.specs.Semantics.{is_word_byte}
 use Rattle.determinize_start.specs.LookTables.{from_word_at_start, half_crlf_at_start, have_at_start, insert_where}
-use Rattle.determinize_start.specs.LookTables.{known_set, line_opened, opened, start_from_word, start_half_crlf}
-use Rattle.determinize_start.specs.LookTables.{start_have, word_opened}
+use Rattle.determinize_start.specs.LookTables.{known_set, line_opened, opened, start_from_word, start_half_crlf, start_have, word_opened}
 use Rattle.determinize_core.proofs.Common.{chain, from_word_after, half_crlf_after, has, have_after, reach, step}
 use Rattle.determinize_core.specs.Spelling.{spell}
 use Rattle.determinize_core.specs.Varint.{varint}

@@ -3,8 +3,7 @@
 -- Used by: boundary_law.
 -- Idea: a byte that does not continue a character is below 0x80 or above 0xBF.
 use Rattle.determinize_regex.proofs.Common.{arith, by_cases, cases_lt, Decides, eq-eqb, eqb-true, get_or_from_slice_get}
-use Rattle.determinize_regex.proofs.Common.{IsCharBoundary, length, List, nat_lt, nat_tests, slice_get_cases, true, ℕ}
-use Rattle.determinize_regex.proofs.Common.{◌||◌, ◌≡◌, ◌≤◌}
+use Rattle.determinize_regex.proofs.Common.{IsCharBoundary, length, List, nat_lt, nat_tests, slice_get_cases, true, ℕ, ◌||◌, ◌≡◌, ◌≤◌}
 use Rattle.determinize_regex.specs.Utf8.{is_boundary}
 
 begins : (b : ℕ) → (nat_lt b 128 || nat_lt 191 b) ≡ true → 128 ≤ b → 192 ≤ b

@@ -9,8 +9,7 @@ use Rattle.determinize_regex.proofs.Common.{each_leftmost_in_is_one, EachLeftmos
 use Rattle.determinize_regex.proofs.Common.{HasPrefix, IfOk, IfOk-weaker, is_done, IsLeftmostOf, IsLeftmostOfIn}
 use Rattle.determinize_regex.proofs.Common.{IsNextBy, IsNfaOf, IsRegex, IsTakenBy, latest_in, List, Match, Nfa, No}
 use Rattle.determinize_regex.proofs.Common.{None, Option, option_map, Pattern, Re, refl, RegexValue, Result, Some, suc}
-use Rattle.determinize_regex.proofs.Common.{sym, Text, text_of, true≢false, value_of, Yes, zero, [], ℕ, ◌-◌, ◌<◌, ◌∙◌}
-use Rattle.determinize_regex.proofs.Common.{◌∷◌, ◌≡◌, ◌≤◌}
+use Rattle.determinize_regex.proofs.Common.{sym, Text, text_of, true≢false, value_of, Yes, zero, [], ℕ, ◌-◌, ◌<◌, ◌∙◌, ◌∷◌, ◌≡◌, ◌≤◌}
 use Rattle.determinize_find.proofs.leftmost.TwoSearches.{starts_differ}
 use Rattle.determinize_find.specs.FullMatches.{IsFullMatch}
 use Rattle.determinize_find.specs.LeftmostIn.{is_anchored, IsLeftmostIn, moved}

@@ -5,8 +5,7 @@
 -- preferred, and of the runs from one position those that accept an earlier pattern.
 use Rattle.determinize_regex.proofs.Common.{Accepts, All, all_ends, ap, arith, Before, by_cases, cases_order, Contains}
 use Rattle.determinize_regex.proofs.Common.{EachAnchoredListIsOf, EachListIsOf, HasPrefix, inl, inr, IsBestRun, IsNfaOf}
-use Rattle.determinize_regex.proofs.Common.{length, List, ListsAccepted, Nfa, pattern_in, Re, refl, suc, Text, zero, ℕ}
-use Rattle.determinize_regex.proofs.Common.{◌+◌, ◌<◌, ◌↔◌, ◌∷◌, ◌≡◌, ◌≤◌}
+use Rattle.determinize_regex.proofs.Common.{length, List, ListsAccepted, Nfa, pattern_in, Re, refl, suc, Text, zero, ℕ, ◌+◌, ◌<◌, ◌↔◌, ◌∷◌, ◌≡◌, ◌≤◌}
 use Rattle.determinize_find.proofs.leftmost.PreferredRun.{from_start}
 use Rattle.determinize_nfa.proofs.prefixes.AfterPrefix.{IsSkip, shape}
 use Rattle.determinize_nfa.proofs.prefixes.Skips.{skip, skip_before}

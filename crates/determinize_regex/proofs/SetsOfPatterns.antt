@@ -7,8 +7,7 @@ use Rattle.determinize_regex.proofs.Common.{Accepts, All, Anchored, ap, append-n
 use Rattle.determinize_regex.proofs.Common.{by_test, drop, drop_all, false, has_start, inr, is_done, IsRegex, latest_in}
 use Rattle.determinize_regex.proofs.Common.{length, length-range, length-replicate, List, meanings, Nfa, No, Pattern}
 use Rattle.determinize_regex.proofs.Common.{refl, RegexValue, replicate, slice_index_or, start_for, sym, take, take_all}
-use Rattle.determinize_regex.proofs.Common.{Text, text_of, true, true≢false, value_of, Yes, [], ℕ, ◌++◌, ◌-◌, ◌<◌, ◌∙◌}
-use Rattle.determinize_regex.proofs.Common.{◌≡◌, ◌≤◌}
+use Rattle.determinize_regex.proofs.Common.{Text, text_of, true, true≢false, value_of, Yes, [], ℕ, ◌++◌, ◌-◌, ◌<◌, ◌∙◌, ◌≡◌, ◌≤◌}
 use Rattle.std.proofs.lemmas.List.Elements.{All-drop, All-take}
 use Rattle.determinize_below.proofs.Written.{replicated}
 use Rattle.determinize_engine.specs.Lists.{ListsAtEnd}

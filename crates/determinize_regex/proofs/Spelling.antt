@@ -3,8 +3,7 @@
 -- Used by: `parse_all`.
 -- Idea: the texts so far, and the next one, are those up to the place after it.
 use Rattle.determinize_regex.proofs.Common.{AreSpelled, get_or, IsRejected, length, List, map, map-append, meaning, Re}
-use Rattle.determinize_regex.proofs.Common.{slice_get-get_or, slice_get-map, sym, take, take-map, take_more, true}
-use Rattle.determinize_regex.proofs.Common.{true≢false, [], ℕ, ◌++◌, ◌+◌, ◌<◌, ◌∙◌, ◌∷◌, ◌≡◌}
+use Rattle.determinize_regex.proofs.Common.{slice_get-get_or, slice_get-map, sym, take, take-map, take_more, true, true≢false, [], ℕ, ◌++◌, ◌+◌, ◌<◌, ◌∙◌, ◌∷◌, ◌≡◌}
 use Rattle.determinize_pattern.specs.declared.pattern.Pattern.{Pattern}
 use Rattle.determinize_regex.specs.Spelled.{one_more}
 use Rattle.determinize_regex.specs.declared.error.Error.TheVariants.{Parse}

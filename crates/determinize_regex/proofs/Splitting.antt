@@ -6,8 +6,7 @@
 use Rattle.determinize_regex.proofs.Common.{ap, append-nil, append_assoc, AreApart, arith, Bool, Bor, cond_both, drop}
 use Rattle.determinize_regex.proofs.Common.{EachReplacedIsJoined, filter, flat_map, FoldsTo, get_or, IsReplacedBy}
 use Rattle.determinize_regex.proofs.Common.{length, List, map, map-append, Match, one_more, Option, parts, refl}
-use Rattle.determinize_regex.proofs.Common.{replaced, replaced_each, slice_range, Some, sym, take, take_more, [], ℕ}
-use Rattle.determinize_regex.proofs.Common.{◌++◌, ◌+◌, ◌<◌, ◌∙◌, ◌∷◌, ◌≡◌, ◌≤◌}
+use Rattle.determinize_regex.proofs.Common.{replaced, replaced_each, slice_range, Some, sym, take, take_more, [], ℕ, ◌++◌, ◌+◌, ◌<◌, ◌∙◌, ◌∷◌, ◌≡◌, ◌≤◌}
 
 -- the matches that are left lie in the text from an index on
 pub record AreLeft (text_size at : ℕ) (found : List Match) : Type 0 where

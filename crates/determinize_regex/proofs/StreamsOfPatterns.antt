@@ -4,8 +4,7 @@
 -- Idea: the matches of the runs are those of the patterns, so what keeps the list of the one keeps that of the other.
 use Rattle.determinize_regex.proofs.Common.{AreMatches, AreMatchesOf, arith, Asked, before, by_test, from, IsAccepted}
 use Rattle.determinize_regex.proofs.Common.{IsFed, IsFinished, IsFoundInBlock, IsFrontFed, IsRegex, IsStream, KeepsFew}
-use Rattle.determinize_regex.proofs.Common.{List, Match, meanings, Nfa, None, Option, place, RegexValue, Some, Streamed}
-use Rattle.determinize_regex.proofs.Common.{value_of, whole, ℕ, ◌++◌, ◌↔◌, ◌≡◌}
+use Rattle.determinize_regex.proofs.Common.{List, Match, meanings, Nfa, None, Option, place, RegexValue, Some, Streamed, value_of, whole, ℕ, ◌++◌, ◌↔◌, ◌≡◌}
 use Rattle.determinize_find.proofs.matches.InputMatches.{each_input_has_matches}
 use Rattle.determinize_pattern.specs.declared.pattern.Pattern.{Pattern}
 use Rattle.determinize_regex.specs.Streams.{IsFedOf, IsFinishedOf, IsFoundInBlockOf, IsFrontFedOf, IsStreamOf, KeepsFewOf, StreamValue}

@@ -4,8 +4,7 @@
 -- Idea: after the prefix a run that skips fewer bytes is preferred, so the preferred run begins leftmost.
 use Rattle.determinize_find.proofs.Common.{Accepts, AcceptsFrom, All, ap, arith, Before, Before-asym, HasPrefix, length}
 use Rattle.determinize_find.proofs.Common.{List, Match, Nfa, None, NothingFrom, pattern_in, refl, shape, skip}
-use Rattle.determinize_find.proofs.Common.{skip_before, skip_same, Some, Text, true_at, unshape, ℕ, ◌+◌, ◌<◌, ◌∷◌, ◌≡◌}
-use Rattle.determinize_find.proofs.Common.{◌≤◌, ◌⊎◌}
+use Rattle.determinize_find.proofs.Common.{skip_before, skip_same, Some, Text, true_at, unshape, ℕ, ◌+◌, ◌<◌, ◌∷◌, ◌≡◌, ◌≤◌, ◌⊎◌}
 use Rattle.determinize_find.specs.Private.BestAt.{IsBestFrom}
 use Rattle.determinize_find.proofs.leftmost.SearchInTurn.{leftmost_match}
 use Rattle.determinize_find.specs.Laws.{EachAnchoredIsLeftmost, EachPreferredIsLeftmost}

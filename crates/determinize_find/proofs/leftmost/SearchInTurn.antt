@@ -10,8 +10,7 @@ use Rattle.determinize_find.proofs.Common.{IsLeftmostIn, IsLeftmostMatch, IsSear
 use Rattle.determinize_find.proofs.Common.{length, length-drop, List, lt-ltb, ltb-false, ltb-true, Match, moved}
 use Rattle.determinize_find.proofs.Common.{nat_tests, Nfa, no_run_leaves_the_text, None, none-some, NothingFrom, Option}
 use Rattle.determinize_find.proofs.Common.{option_map, refl, since, slice_get, slice_get-drop, slice_get-take}
-use Rattle.determinize_find.proofs.Common.{slice_range, Some, some_injective, suc, sym, Text, text_of, Yes, zero, ℕ}
-use Rattle.determinize_find.proofs.Common.{◌+◌, ◌-◌, ◌<◌, ◌≡◌, ◌≤◌}
+use Rattle.determinize_find.proofs.Common.{slice_range, Some, some_injective, suc, sym, Text, text_of, Yes, zero, ℕ, ◌+◌, ◌-◌, ◌<◌, ◌≡◌, ◌≤◌}
 use Rattle.determinize_find.specs.Private.BestAt.{from_index, IsBestFrom, IsBestIn}
 
 -- a run from a later position is one over the text from an earlier one on

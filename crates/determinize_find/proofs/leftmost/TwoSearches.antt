@@ -10,12 +10,10 @@ use Rattle.determinize_find.proofs.Common.{IsEnded, IsLeftmost, IsLeftmostIn, Is
 use Rattle.determinize_find.proofs.Common.{LeftmostFirst, length, length-drop, length-take, List, lt-ltb, Match, moved}
 use Rattle.determinize_find.proofs.Common.{ne_eqb, Nfa, No, no_run_leaves_the_text, None, Option, option_map, or_some}
 use Rattle.determinize_find.proofs.Common.{Pattern, refl, Result, slice_get-drop, slice_get-take, slice_get_past}
-use Rattle.determinize_find.proofs.Common.{slice_index_or, slice_range, Some, start_for, sym, take-take, Text, text_of}
-use Rattle.determinize_find.proofs.Common.{true, u_not_a, Yes, [], ℕ, ◌+◌, ◌-◌, ◌<◌, ◌∙◌, ◌≡◌, ◌≤◌}
+use Rattle.determinize_find.proofs.Common.{slice_index_or, slice_range, Some, start_for, sym, take-take, Text, text_of, true, u_not_a, Yes, [], ℕ, ◌+◌, ◌-◌, ◌<◌, ◌∙◌, ◌≡◌, ◌≤◌}
 use Rattle.determinize_below.specs.declared.search.Anchored.{Anchored}
 use Rattle.determinize_find.proofs.leftmost.SearchInTurn.{found_past, in_text, IsInText, leftmost_in, none_in_text}
-use Rattle.determinize_find.proofs.leftmost.PreferredRun.{each_anchored_is_leftmost, each_preferred_is_leftmost}
-use Rattle.determinize_find.proofs.leftmost.PreferredRun.{to_start}
+use Rattle.determinize_find.proofs.leftmost.PreferredRun.{each_anchored_is_leftmost, each_preferred_is_leftmost, to_start}
 use Rattle.determinize_find.proofs.matches.OneList.{length-range, lies, LiesIn}
 use Rattle.determinize_engine.specs.Engines.{EngineValue}
 use Rattle.determinize_find.specs.FullMatches.{IsFullMatch}

@@ -15,8 +15,7 @@ use Rattle.determinize_find.proofs.leftmost.PreferredRun.{each_anchored_is_leftm
 use Rattle.determinize_find.proofs.matches.NextMatch.{fewer, next_further, next_plain}
 use Rattle.determinize_find.proofs.streams.Rests.{leftmost_since}
 use Rattle.determinize_find.proofs.matches.OneList.{next_lies}
-use Rattle.determinize_find.proofs.leftmost.SearchInTurn.{found_past, in_text, later_run, leftmost_in, none_in_text}
-use Rattle.determinize_find.proofs.leftmost.SearchInTurn.{text-since}
+use Rattle.determinize_find.proofs.leftmost.SearchInTurn.{found_past, in_text, later_run, leftmost_in, none_in_text, text-since}
 
 module _ (nfa : Nfa) (accepted : IsAccepted nfa) where
   -- the match that begins with a text

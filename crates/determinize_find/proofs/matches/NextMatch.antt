@@ -3,8 +3,7 @@
 -- Used by: the loops over all matches of this crate and of determinize_linear, InputMatches and Steps.
 -- Idea: a list of all matches from the cursor on, after what was found, is the list of all matches.
 use Rattle.determinize_find.proofs.Common.{ap, append-nil, append_assoc, AreMatches, arith, Asked, false, from}
-use Rattle.determinize_find.proofs.Common.{is_touching, IsLeftmostIn, IsNext, left, length, List, Match, Nfa, None}
-use Rattle.determinize_find.proofs.Common.{Option, Some, true, [], ℕ, ◌++◌, ◌+◌, ◌<◌, ◌∷◌, ◌≡◌, ◌≤◌}
+use Rattle.determinize_find.proofs.Common.{is_touching, IsLeftmostIn, IsNext, left, length, List, Match, Nfa, None, Option, Some, true, [], ℕ, ◌++◌, ◌+◌, ◌<◌, ◌∷◌, ◌≡◌, ◌≤◌}
 use Rattle.determinize_find.specs.Cursors.{after_match, SearcherValue}
 use Rattle.determinize_find.proofs.matches.OneList.{LiesIn, next_lies}
 

@@ -7,8 +7,7 @@ use Rattle.determinize_find.proofs.Common.{ap, AreApart, AreMatches, arith, Aske
 use Rattle.determinize_find.proofs.Common.{choices, each_run_reads_forward, false, from, is_done, IsLeftmostIn}
 use Rattle.determinize_find.proofs.Common.{IsLeftmostMatch, IsNext, IsTaken, latest, length, length-drop, length-take}
 use Rattle.determinize_find.proofs.Common.{List, Match, moved, nat_tests, Nfa, None, none-some, Option, option_map}
-use Rattle.determinize_find.proofs.Common.{refl, same_least, slice_range, Some, some_injective, sym, Text, text_of}
-use Rattle.determinize_find.proofs.Common.{touches, [], ℕ, ◌+◌, ◌-◌, ◌<◌, ◌∙◌, ◌∷◌, ◌≡◌, ◌≤◌}
+use Rattle.determinize_find.proofs.Common.{refl, same_least, slice_range, Some, some_injective, sym, Text, text_of, touches, [], ℕ, ◌+◌, ◌-◌, ◌<◌, ◌∙◌, ◌∷◌, ◌≡◌, ◌≤◌}
 use Rattle.ordered_reach.proofs.graph.UniqueOrder.{one_end}
 use Rattle.determinize_find.proofs.leftmost.SearchInTurn.{in_text, run_within}
 use Rattle.determinize_find.specs.Laws.{EachLeftmostInIsOne, EachLeftmostIsOne, EachMatchesAreApart, EachMatchesAreOne}

@@ -15,18 +15,15 @@ use Rattle.determinize_find.proofs.Common.{between, Bool, by_cases, by_option, b
 use Rattle.determinize_find.proofs.Common.{certain_after, certain_match, chain, choice_cases, choice_later, choices}
 use Rattle.determinize_find.proofs.Common.{choices_under, cond, drop, drop-append-le, each_run_reads_forward}
 use Rattle.determinize_find.proofs.Common.{EachBusyHasBegun, EachCertainIsPreferred, EachIdleIsFresh, end_of, ended_at}
-use Rattle.determinize_find.proofs.Common.{eq-eqb, false, from, HalfMatch, HasPrefix, HasPrefixApart, inl, inr}
-use Rattle.determinize_find.proofs.Common.{is_capture, is_match, is_reopened, IsAccepted, IsBeginOf, IsCertain}
+use Rattle.determinize_find.proofs.Common.{eq-eqb, false, from, HalfMatch, HasPrefix, HasPrefixApart, inl, inr, is_capture, is_match, is_reopened, IsAccepted, IsBeginOf, IsCertain}
 use Rattle.determinize_find.proofs.Common.{IsEndScan, IsFresh, IsLeftmostIn, IsLeftmostMatch, IsPath, IsScan, IsSettled}
 use Rattle.determinize_find.proofs.Common.{last_match, leads_to, LeftmostFirst, length, length-append, length-drop}
 use Rattle.determinize_find.proofs.Common.{length-map, List, map, map-append, Match, moved, ne_eqb, Nfa, None}
 use Rattle.determinize_find.proofs.Common.{none-some, none_leaves, Option, option_or, part_read, parted, pass, pass_all}
 use Rattle.determinize_find.proofs.Common.{pass_first, pattern_in, pattern_of, patterns_of, patterns_read, preferred}
-use Rattle.determinize_find.proofs.Common.{reach, refl, same_least, Scanned, skip, skip_before, slice_get}
-use Rattle.determinize_find.proofs.Common.{slice_get-get_or, slice_get_within, Some, some_injective, start_value}
+use Rattle.determinize_find.proofs.Common.{reach, refl, same_least, Scanned, skip, skip_before, slice_get, slice_get-get_or, slice_get_within, Some, some_injective, start_value}
 use Rattle.determinize_find.proofs.Common.{stays_out, step, suc, sym, tests_capture, Text, true, true_at, u_not_a}
-use Rattle.determinize_find.proofs.Common.{u_not_x, under_later, unshape, whole, working_list, zero, [], ℕ, ◌++◌, ◌+◌}
-use Rattle.determinize_find.proofs.Common.{◌<◌, ◌==◌, ◌∙◌, ◌∷◌, ◌≡◌, ◌≤◌, ◌⊎◌}
+use Rattle.determinize_find.proofs.Common.{u_not_x, under_later, unshape, whole, working_list, zero, [], ℕ, ◌++◌, ◌+◌, ◌<◌, ◌==◌, ◌∙◌, ◌∷◌, ◌≡◌, ◌≤◌, ◌⊎◌}
 use Rattle.ordered_reach.specs.Runs.{IsLeastRun, ListsReached}
 use Rattle.determinize_core.proofs.walk.UnitLists.{chain_is_future}
 use Rattle.determinize_core.proofs.walk.WalkOfRuns.{each_chain_reaches}

@@ -7,8 +7,7 @@ use Rattle.determinize_find.proofs.Common.{arith, between, by_cases, byte_before
 use Rattle.determinize_find.proofs.Common.{each_run_moves, false, from, HasPrefix, is_done, IsLeftmost, IsLeftmostIn}
 use Rattle.determinize_find.proofs.Common.{le-ltb, length, length-drop, List, Match, moved, nat_lt, Nfa, None, Option}
 use Rattle.determinize_find.proofs.Common.{option_map, refl, since, slice_get, slice_get-drop, slice_get_past, Some}
-use Rattle.determinize_find.proofs.Common.{suc, sym, take_rest, Text, text_of, whole, zero, [], ℕ, ◌++◌, ◌+◌, ◌-◌, ◌<◌}
-use Rattle.determinize_find.proofs.Common.{◌∙◌, ◌∷◌, ◌≡◌, ◌≤◌}
+use Rattle.determinize_find.proofs.Common.{suc, sym, take_rest, Text, text_of, whole, zero, [], ℕ, ◌++◌, ◌+◌, ◌-◌, ◌<◌, ◌∙◌, ◌∷◌, ◌≡◌, ◌≤◌}
 use Rattle.determinize_find.specs.Idle.{NothingBefore}
 use Rattle.determinize_find.proofs.leftmost.SearchInTurn.{later_run, leftmost_in, leftmost_match, text-since}
 use Rattle.determinize_find.proofs.leftmost.TwoSearches.{starts_differ}

@@ -24,8 +24,7 @@ use Rattle.determinize_find.specs.Idle.{IsIdle, NothingBefore}
 use Rattle.determinize_find.specs.Private.Windows.{IsWindow, past_match}
 use Rattle.determinize_find.proofs.matches.NextMatch.{next_further, next_plain}
 use Rattle.determinize_find.proofs.matches.OneList.{apart, lies}
-use Rattle.determinize_find.proofs.streams.Rests.{byte_before-append, byte_before-drop, rest-drop, shift_leftmost}
-use Rattle.determinize_find.proofs.streams.Rests.{skip_leftmost, text-whole}
+use Rattle.determinize_find.proofs.streams.Rests.{byte_before-append, byte_before-drop, rest-drop, shift_leftmost, skip_leftmost, text-whole}
 
 module _ {nfa : Nfa} {old now new : Streamed} {more : List ℕ} {list mid after : List Match}
     (fed : IsFed nfa old now more list mid) where

@@ -8,8 +8,7 @@ use Rattle.determinize_lazy.proofs.Common.{by_cases, by_test, Contains, Contains
 use Rattle.determinize_lazy.proofs.Common.{Contains-append_right, drop_all, eqb-true, false, get_or, get_or-set_other}
 use Rattle.determinize_lazy.proofs.Common.{get_or-set_same, HasCome, HasMatchOf, inl, inr, is_last, IsAccepted}
 use Rattle.determinize_lazy.proofs.Common.{IsMarking, length, length-set, List, listed_from, listed_over, MatchKind}
-use Rattle.determinize_lazy.proofs.Common.{nat_eq, next_place, Nfa, none_left, Option, Place, refl, slice_get}
-use Rattle.determinize_lazy.proofs.Common.{slice_set, Some, start_for, subst, take, take_more, text_of, true, ℕ}
+use Rattle.determinize_lazy.proofs.Common.{nat_eq, next_place, Nfa, none_left, Option, Place, refl, slice_get, slice_set, Some, start_for, subst, take, take_more, text_of, true, ℕ}
 use Rattle.determinize_lazy.proofs.Common.{◌++◌, ◌+◌, ◌<◌, ◌↔◌, ◌∙◌, ◌∷◌, ◌≡◌, ◌≤◌, ◌⊎◌}
 use Rattle.determinize_lazy.proofs.finding.Reported.{listed-come, listed-matches, listed-over, matches-listed}
 use Rattle.determinize_lazy.proofs.walking.CachedWalks.{drop-one}

@@ -12,11 +12,9 @@ use Rattle.determinize_lazy.proofs.Common.{IsCutOffAt, IsFailedStep, IsLeftBy, I
 use Rattle.determinize_lazy.proofs.Common.{IsSound, IsStepped, IsTarget, last_from, last_from-first, last_from-next}
 use Rattle.determinize_lazy.proofs.Common.{last_from-over, last_match, LazyValue, length, length-map, List, map}
 use Rattle.determinize_lazy.proofs.Common.{match-decides, match_of, match_reported, next_place, None, none_left, Ok}
-use Rattle.determinize_lazy.proofs.Common.{Option, option_or, Place, place, Position, refl, Result, slice_get}
-use Rattle.determinize_lazy.proofs.Common.{slice_get-get_or, slice_get_within, slice_index_or, Some, start_for}
+use Rattle.determinize_lazy.proofs.Common.{Option, option_or, Place, place, Position, refl, Result, slice_get, slice_get-get_or, slice_get_within, slice_index_or, Some, start_for}
 use Rattle.determinize_lazy.proofs.Common.{start_value, step_of, subst, sym, tag_in, tag_of, Text, text_of, true}
-use Rattle.determinize_lazy.proofs.Common.{true≢false, units, units_read, Value, value_after, with_cursor, ℕ, ◌&&◌, ◌+◌}
-use Rattle.determinize_lazy.proofs.Common.{◌<◌, ◌∙◌, ◌∷◌, ◌≡◌, ◌≤◌}
+use Rattle.determinize_lazy.proofs.Common.{true≢false, units, units_read, Value, value_after, with_cursor, ℕ, ◌&&◌, ◌+◌, ◌<◌, ◌∙◌, ◌∷◌, ◌≡◌, ◌≤◌}
 use Rattle.determinize_lazy.proofs.steps.Rule.{grows-more, grows_none}
 use Rattle.determinize_lazy.proofs.walking.CachedWalks.{cut_off-first, cut_off-later, drop-one, left_whole}
 use Rattle.determinize_table.specs.declared.tag.LastMatch.{LastMatch}

@@ -5,8 +5,7 @@
 use Rattle.determinize_lazy.proofs.Common.{[], ap, arith, cache, Cache, Cached, Cursor, cursor_value, dead, false}
 use Rattle.determinize_lazy.proofs.Common.{get_or, get_or_from_slice_get, is_cached, is_some, IsCursor, IsFollowed}
 use Rattle.determinize_lazy.proofs.Common.{IsSound, IsStepped, IsTable, IsTarget, LazyValue, List, not_source, Ok}
-use Rattle.determinize_lazy.proofs.Common.{Option, refl, slice_get, slice_get-get_or, Some, step_of, true, Uncached}
-use Rattle.determinize_lazy.proofs.Common.{Value, ℕ, ◌++◌, ◌+◌, ◌∙◌, ◌∷◌, ◌≡◌}
+use Rattle.determinize_lazy.proofs.Common.{Option, refl, slice_get, slice_get-get_or, Some, step_of, true, Uncached, Value, ℕ, ◌++◌, ◌+◌, ◌∙◌, ◌∷◌, ◌≡◌}
 use Rattle.determinize_lazy.proofs.walking.CachedWalks.{drop-one, walks-on}
 use Rattle.determinize_lazy.proofs.steps.Rule.{grows_none}
 

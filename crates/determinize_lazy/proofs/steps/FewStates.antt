@@ -10,8 +10,7 @@ use Rattle.determinize_lazy.proofs.Common.{joined, LeftmostFirst, length, List, 
 use Rattle.determinize_lazy.proofs.Common.{Nfa, None, none_held, opened_by, Option, option_to_list, or_false}
 use Rattle.determinize_lazy.proofs.Common.{pattern_of, patterns_of, patterns_read, reach, refl, same_decides, Some}
 use Rattle.determinize_lazy.proofs.Common.{start_value, step, suc, sum_by, sym, tables_of, take, take_all, targets}
-use Rattle.determinize_lazy.proofs.Common.{true, Value, without, working_list, zero, ℕ, ◌*◌, ◌+◌, ◌<◌, ◌∙◌, ◌∷◌, ◌≡◌}
-use Rattle.determinize_lazy.proofs.Common.{◌≤◌}
+use Rattle.determinize_lazy.proofs.Common.{true, Value, without, working_list, zero, ℕ, ◌*◌, ◌+◌, ◌<◌, ◌∙◌, ◌∷◌, ◌≡◌, ◌≤◌}
 use Rattle.std.proofs.Math.Nat.{mul-le-mul_right}
 use Rattle.std.proofs.lemmas.List.Concat.{length-flat_map}
 use Rattle.std.proofs.lemmas.List.Sums.{count_by-le-length, length-filter, sum_by-cons, sum_by-le, sum_by_more}

@@ -6,12 +6,10 @@ use Rattle.determinize_lazy.proofs.Common.{All-get_or, All-nil, All-push, ap, Ar
 use Rattle.determinize_lazy.proofs.Common.{by_test, cache, Cache, Cached, Classes, classes_from, count_after, Cursor}
 use Rattle.determinize_lazy.proofs.Common.{cursor_value, dead, Each, empty, empty-is, Err, false, fits, Grows}
 use Rattle.determinize_lazy.proofs.Common.{IfOk-weaker, IfSome, inr, is_cached, IsAccepted, IsAt, IsEmpty, IsKept}
-use Rattle.determinize_lazy.proofs.Common.{IsKnown, IsLazy, IsReady, IsSound, IsStateOf, IsStepped, IsTable, keep}
-use Rattle.determinize_lazy.proofs.Common.{LazyValue, length, List, list_any, MatchKind, Nfa, not_none, Ok}
+use Rattle.determinize_lazy.proofs.Common.{IsKnown, IsLazy, IsReady, IsSound, IsStateOf, IsStepped, IsTable, keep, LazyValue, length, List, list_any, MatchKind, Nfa, not_none, Ok}
 use Rattle.determinize_lazy.proofs.Common.{on_err_weaker, on_ok_weaker, OnErr, Option, refl, Result, same, shared_by}
 use Rattle.determinize_lazy.proofs.Common.{shares, slot_number, step, step_of, StoredTable, sym, Table, table_of}
-use Rattle.determinize_lazy.proofs.Common.{Uncached, Value, viewed, with_transition, with_transition-is, with_value, ℕ}
-use Rattle.determinize_lazy.proofs.Common.{◌∙◌, ◌≡◌, ◌≤◌}
+use Rattle.determinize_lazy.proofs.Common.{Uncached, Value, viewed, with_transition, with_transition-is, with_value, ℕ, ◌∙◌, ◌≡◌, ◌≤◌}
 use Rattle.determinize_lazy.proofs.steps.Sharing.{shared_steps, shares-self}
 use Rattle.determinize_lazy.proofs.steps.FewStates.{known-step}
 use Rattle.determinize_lazy.proofs.steps.Starts.{starts-stay}

@@ -4,8 +4,7 @@
 -- Idea: a value that needs only assertions of the NFA does not distinguish bytes that the NFA does not distinguish.
 use Rattle.determinize_lazy.proofs.Common.{ap, AreClassesOf, arith, by_test, Classes, classes_from, Decides-unit}
 use Rattle.determinize_lazy.proofs.Common.{eqb-true, has, IfSome, in_one_class, IsAccepted, MatchKind, nat_tests}
-use Rattle.determinize_lazy.proofs.Common.{needs_tested, Nfa, None, Option, refl, same_unit, shares, Some, step, sym}
-use Rattle.determinize_lazy.proofs.Common.{true, Value, ℕ, ◌∙◌, ◌≡◌}
+use Rattle.determinize_lazy.proofs.Common.{needs_tested, Nfa, None, Option, refl, same_unit, shares, Some, step, sym, true, Value, ℕ, ◌∙◌, ◌≡◌}
 use Rattle.determinize_below.proofs.looks.LookSets.{has-union}
 use Rattle.determinize_below.proofs.nfas.TestedLooks.{Decides-look_set_any}
 use Rattle.determinize_below.specs.Look.{union}

@@ -3,8 +3,7 @@
 -- Used by: `kept_start`, `find_start`, and Rule.
 -- Idea: a slot is that of one state and one kind, so it has one start state.
 use Rattle.determinize_lazy.proofs.Common.{ap, AreStarts, arith, by_cases, by_test, cond, from_word_at_start, get_or}
-use Rattle.determinize_lazy.proofs.Common.{get_or-set_other, get_or-set_same, get_or_past, half_crlf_at_start}
-use Rattle.determinize_lazy.proofs.Common.{have_at_start, IfSome, length-set, List, nat_eq, Nfa, None, not_none}
+use Rattle.determinize_lazy.proofs.Common.{get_or-set_other, get_or-set_same, get_or_past, half_crlf_at_start, have_at_start, IfSome, length-set, List, nat_eq, Nfa, None, not_none}
 use Rattle.determinize_lazy.proofs.Common.{of_some, Option, option_map, refl, slice_get, slice_set, slot_number, Some}
 use Rattle.determinize_lazy.proofs.Common.{start_slot, start_value, StartsStay, StoredTable, sym, ℕ, ◌∙◌, ◌≡◌, ◌⊎◌}
 use Rattle.determinize_start.proofs.kinds.StartSlots.{one_slot}

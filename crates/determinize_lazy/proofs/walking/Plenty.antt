@@ -10,8 +10,7 @@ use Rattle.determinize_lazy.proofs.Common.{IsCutOff, IsErr, IsSound, IsTable, Ke
 use Rattle.determinize_lazy.proofs.Common.{List, list_any, list_any-from_Contains, missing, not_source, on_ok_weaker}
 use Rattle.determinize_lazy.proofs.Common.{Option, refl, Result, same, same_laws, shared_by, start_for, start_value}
 use Rattle.determinize_lazy.proofs.Common.{step_of, sym, Table, tail, Text, text_of, true, true≢false, units, Value}
-use Rattle.determinize_lazy.proofs.Common.{with_step, with_target-new, with_transition-is, with_value, with_values}
-use Rattle.determinize_lazy.proofs.Common.{with_walk, ℕ, ◌+◌, ◌∙◌, ◌∷◌, ◌≡◌, ◌≤◌}
+use Rattle.determinize_lazy.proofs.Common.{with_step, with_target-new, with_transition-is, with_value, with_values, with_walk, ℕ, ◌+◌, ◌∙◌, ◌∷◌, ◌≡◌, ◌≤◌}
 use Rattle.determinize_lazy.proofs.steps.Rule.{grows_none, of_err}
 use Rattle.determinize_lazy.proofs.walking.CachedWalks.{cut_off-none, same_steps}
 use Rattle.determinize_lazy.proofs.steps.Sharing.{shared_steps, shares-self}

@@ -1,5 +1,4 @@
-use Rattle.determinize_regex.proofs.Common.{arith, FoldsTo-push, next_of, None, of_calls, refl, take_all, take_rest, []}
-use Rattle.determinize_regex.proofs.Common.{◌++◌, ◌∙◌, ◌∷◌}
+use Rattle.determinize_regex.proofs.Common.{arith, FoldsTo-push, next_of, None, of_calls, refl, take_all, take_rest, [], ◌++◌, ◌∙◌, ◌∷◌}
 use Rattle.determinize_regex.proofs.Splitting.{last_of_each, next_left, one_more_match, one_of_each}
 use Rattle.determinize_regex.proofs.split.replace_each.Goals as goal
 

@@ -1,5 +1,4 @@
-use Rattle.determinize_find.proofs.Common.{end_before, from, left, length, List, map, Match, moved, take, whole, ◌++◌}
-use Rattle.determinize_find.proofs.Common.{◌≡◌}
+use Rattle.determinize_find.proofs.Common.{end_before, from, left, length, List, map, Match, moved, take, whole, ◌++◌, ◌≡◌}
 use Rattle.determinize_find.proofs.matches.NextMatch.{IsAfter}
 use Rattle.determinize_find.proofs.pieces.Pieces.add_rest.Given as goal
 

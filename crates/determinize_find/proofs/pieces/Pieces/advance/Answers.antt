@@ -1,5 +1,4 @@
-use Rattle.determinize_find.proofs.Common.{arith, IsFed, IsSearching, length, None, of_err, refl, rules, sym, [], ◌∙◌}
-use Rattle.determinize_find.proofs.Common.{◌∷◌, ◌≡◌, ◌≤◌}
+use Rattle.determinize_find.proofs.Common.{arith, IsFed, IsSearching, length, None, of_err, refl, rules, sym, [], ◌∙◌, ◌∷◌, ◌≡◌, ◌≤◌}
 use Rattle.determinize_find.proofs.streams.Steps.{blocks_none, joined_none, left_kept, next_block, read_on}
 use Rattle.determinize_find.proofs.pieces.Pieces.advance.Given.{Over}
 use Rattle.determinize_find.proofs.pieces.Pieces.advance.Goals.{After-pass}

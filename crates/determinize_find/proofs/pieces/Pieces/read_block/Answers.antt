@@ -1,5 +1,4 @@
-use Rattle.determinize_find.proofs.Common.{append-nil, HasMoved, IsFed, IsSearching, moved, None, of_err, refl, rules}
-use Rattle.determinize_find.proofs.Common.{[], ◌++◌, ◌∙◌, ◌∷◌, ◌≡◌}
+use Rattle.determinize_find.proofs.Common.{append-nil, HasMoved, IsFed, IsSearching, moved, None, of_err, refl, rules, [], ◌++◌, ◌∙◌, ◌∷◌, ◌≡◌}
 use Rattle.determinize_find.proofs.streams.Steps.{front_fed, joined_none, moved_begun}
 use Rattle.determinize_find.proofs.pieces.Pieces.read_block.Given.{Over}
 use Rattle.determinize_find.proofs.pieces.Pieces.read_block.Goals.{After-next_certain}

@@ -1,5 +1,4 @@
-use Rattle.determinize_find.proofs.Common.{arith, by_cases, cases_lt, drop, drop_all, false≢true, IfSome_then, length}
-use Rattle.determinize_find.proofs.Common.{refl, rules, sym, [], ◌∙◌, ◌≡◌, ◌≤◌}
+use Rattle.determinize_find.proofs.Common.{arith, by_cases, cases_lt, drop, drop_all, false≢true, IfSome_then, length, refl, rules, sym, [], ◌∙◌, ◌≡◌, ◌≤◌}
 use Rattle.determinize_find.proofs.streams.Steps.{fed_later, moved_begun, unread_unsettled}
 use Rattle.determinize_find.proofs.pieces.Pieces.skip_idle.Goals as goal
 

@@ -1,6 +1,5 @@
 use Rattle.determinize_lazy.proofs.{ap, arith, cache, cursor_value, has_read, IsPieceRead, last_match-within}
-use Rattle.determinize_lazy.proofs.{later-within, later_by, left_whole, length, length-map, map, option_map, option_or}
-use Rattle.determinize_lazy.proofs.{rules, scan-piece, Scanned, Some, ◌+◌, ◌∙◌, ◌≡◌, ◌≤◌}
+use Rattle.determinize_lazy.proofs.{later-within, later_by, left_whole, length, length-map, map, option_map, option_or, rules, scan-piece, Scanned, Some, ◌+◌, ◌∙◌, ◌≡◌, ◌≤◌}
 use Rattle.determinize_lazy.proofs.lazy.LazyDfa.feed.Goals.{After-rest}
 use Rattle.determinize_lazy.proofs.lazy.LazyDfa.feed.Goals as goal
 

@@ -1,6 +1,5 @@
 use Rattle.determinize_lazy.proofs.{[], ap, between, cache, end-left, has_read, is-search, last-found, last-whole}
-use Rattle.determinize_lazy.proofs.{later_by, option_map, option_or, Place, read_err, read_none, refl, Scanned, ◌∙◌}
-use Rattle.determinize_lazy.proofs.{◌∷◌}
+use Rattle.determinize_lazy.proofs.{later_by, option_map, option_or, Place, read_err, read_none, refl, Scanned, ◌∙◌, ◌∷◌}
 use Rattle.determinize_core.specs.Chain.{chain}
 use Rattle.determinize_lazy.proofs.lazy.LazyDfa.finish.Goals as goal
 

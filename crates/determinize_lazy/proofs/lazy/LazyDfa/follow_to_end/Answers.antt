@@ -1,5 +1,4 @@
-use Rattle.determinize_lazy.proofs.{ap, arith, come-next, come_twice, lazy-sound, length, next-cached, Some, sym, true}
-use Rattle.determinize_lazy.proofs.{unit-here, unit-last, ◌∙◌, ◌≡◌}
+use Rattle.determinize_lazy.proofs.{ap, arith, come-next, come_twice, lazy-sound, length, next-cached, Some, sym, true, unit-here, unit-last, ◌∙◌, ◌≡◌}
 use Rattle.determinize_lazy.proofs.lazy.LazyDfa.follow_to_end.Goals as goal
 
 pub returns-then-at-len-clause-come : goal.returns-then-at-len-clause-come

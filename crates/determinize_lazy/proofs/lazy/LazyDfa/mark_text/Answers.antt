@@ -1,8 +1,7 @@
 use Rattle.determinize_lazy.proofs.{all-some, all_read, ap, arith, cache, come-next, come_none, come_twice}
 use Rattle.determinize_lazy.proofs.{cursor_value, fails-next, false, first_place, grows-more, HasCome, inl, inr}
 use Rattle.determinize_lazy.proofs.{is_last, left-at, left_err, listed_from, marking-end, marking-first, marking-over}
-use Rattle.determinize_lazy.proofs.{marking-some, marking-step, place, Place, refl, rules, start_value, tag-last, true}
-use Rattle.determinize_lazy.proofs.{unit-here, units, ◌≡◌}
+use Rattle.determinize_lazy.proofs.{marking-some, marking-step, place, Place, refl, rules, start_value, tag-last, true, unit-here, units, ◌≡◌}
 use Rattle.determinize_lazy.proofs.lazy.LazyDfa.mark_text.Goals.{After-mark, After-unit-unit}
 use Rattle.determinize_lazy.proofs.lazy.LazyDfa.mark_text.Goals as goal
 

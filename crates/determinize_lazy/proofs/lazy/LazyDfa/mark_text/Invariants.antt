@@ -1,5 +1,4 @@
-use Rattle.determinize_lazy.proofs.{cache, false, first_place, HasCome, IsMarking, IsPosition, length, listed_from}
-use Rattle.determinize_lazy.proofs.{listed_over, place, start_value, units, ◌+◌, ◌-◌, ◌≤◌}
+use Rattle.determinize_lazy.proofs.{cache, false, first_place, HasCome, IsMarking, IsPosition, length, listed_from, listed_over, place, start_value, units, ◌+◌, ◌-◌, ◌≤◌}
 use Rattle.determinize_lazy.proofs.lazy.LazyDfa.mark_text.Given as goal
 
 abbrev pub invariant-loop-at : goal.invariant-loop-at

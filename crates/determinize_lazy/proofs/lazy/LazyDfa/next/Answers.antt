@@ -1,5 +1,4 @@
-use Rattle.determinize_lazy.proofs.{ap, cursor_value, cut_off-first, cut_off-whole, has_read, lazy-known, LazyValue}
-use Rattle.determinize_lazy.proofs.{left_whole, read_err, walked-next, ◌∙◌, ◌≡◌}
+use Rattle.determinize_lazy.proofs.{ap, cursor_value, cut_off-first, cut_off-whole, has_read, lazy-known, LazyValue, left_whole, read_err, walked-next, ◌∙◌, ◌≡◌}
 use Rattle.determinize_lazy.proofs.Common.{step}
 use Rattle.determinize_lazy.proofs.lazy.LazyDfa.next.Goals.{In_ok-walker-inside}
 use Rattle.determinize_lazy.proofs.lazy.LazyDfa.next.Goals as goal

@@ -1,6 +1,5 @@
 use Rattle.determinize_lazy.proofs.{ap, at-end, cache, cursor_value, false, first_place, HasCome, HasStopped}
-use Rattle.determinize_lazy.proofs.{last_match-within, lazy-known, LazyValue, left-at, left_err, length, length-map}
-use Rattle.determinize_lazy.proofs.{map, place, rules, Some, true, ◌∙◌}
+use Rattle.determinize_lazy.proofs.{last_match-within, lazy-known, LazyValue, left-at, left_err, length, length-map, map, place, rules, Some, true, ◌∙◌}
 use Rattle.determinize_lazy.proofs.lazy.LazyDfa.read_piece.Goals.{After-found-last}
 use Rattle.determinize_lazy.proofs.lazy.LazyDfa.read_piece.Goals as goal
 

@@ -1,10 +1,7 @@
 use Rattle.determinize_lazy.proofs.{all_read, ap, arith, cache, cached_place, dead, first_place, get_or_from_slice_get}
 use Rattle.determinize_lazy.proofs.{HasCome, inl, inr, LazyValue, match_of, match_reported, option_or, over-at}
-use Rattle.determinize_lazy.proofs.{slice_get, slice_get-get_or, slice_index_or, start_value, Tag, tag-last, tag_in}
-use Rattle.determinize_lazy.proofs.{tag_of, units, Value, ◌∙◌, ◌≡◌}
-use Rattle.determinize_lazy.proofs.lazy.LazyDfa.read_text.Goals.{then-at-len-via-else-at-len+then-is_last}
-use Rattle.determinize_lazy.proofs.lazy.LazyDfa.read_text.Goals.{then-at-len-via-then-at-len}
-use Rattle.determinize_lazy.proofs.lazy.LazyDfa.read_text.Goals.{After-len}
+use Rattle.determinize_lazy.proofs.{slice_get, slice_get-get_or, slice_index_or, start_value, Tag, tag-last, tag_in, tag_of, units, Value, ◌∙◌, ◌≡◌}
+use Rattle.determinize_lazy.proofs.lazy.LazyDfa.read_text.Goals.{then-at-len-via-else-at-len+then-is_last, then-at-len-via-then-at-len, After-len}
 use Rattle.determinize_lazy.proofs.lazy.LazyDfa.read_text.Goals as goal
 
 -- the search of what is cached

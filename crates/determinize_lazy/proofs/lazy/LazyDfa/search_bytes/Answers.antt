@@ -1,5 +1,4 @@
-use Rattle.determinize_lazy.proofs.{cache, cursor_value, Fails, fails-next, false, goes-next, goes_twice, is_last}
-use Rattle.determinize_lazy.proofs.{more-still, of_err, place, tag-last, ◌≡◌}
+use Rattle.determinize_lazy.proofs.{cache, cursor_value, Fails, fails-next, false, goes-next, goes_twice, is_last, more-still, of_err, place, tag-last, ◌≡◌}
 use Rattle.determinize_lazy.proofs.lazy.LazyDfa.search_bytes.Goals.{After-byte-byte}
 use Rattle.determinize_lazy.proofs.lazy.LazyDfa.search_bytes.Goals as goal
 

@@ -1,7 +1,5 @@
-use Rattle.determinize_lazy.proofs.{ap, cache, come_none, first_place, grows-more, HasCome, IfOk-from_err, left_err}
-use Rattle.determinize_lazy.proofs.{over-end, place, start_value, units}
-use Rattle.determinize_lazy.proofs.lazy.LazyDfa.search_rest.Goals.{in-Some, in-None+in_ok-find_start-in-None}
-use Rattle.determinize_lazy.proofs.lazy.LazyDfa.search_rest.Goals.{After-search_to_end}
+use Rattle.determinize_lazy.proofs.{ap, cache, come_none, first_place, grows-more, HasCome, IfOk-from_err, left_err, over-end, place, start_value, units}
+use Rattle.determinize_lazy.proofs.lazy.LazyDfa.search_rest.Goals.{in-Some, in-None+in_ok-find_start-in-None, After-search_to_end}
 use Rattle.determinize_lazy.proofs.lazy.LazyDfa.search_rest.Goals as goal
 
 -- how far the search has come

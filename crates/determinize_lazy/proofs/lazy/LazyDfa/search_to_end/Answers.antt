@@ -1,7 +1,6 @@
 use Rattle.determinize_lazy.proofs.{all_read, ap, below_next, come-next, come_twice, cursor_value, end-here, fails-next}
 use Rattle.determinize_lazy.proofs.{false, grows-more, IfOk-from_err, IfOk-weaker, inl, inr, is_last, length, of_err}
-use Rattle.determinize_lazy.proofs.{on_err_weaker, Place, place, read_all, slice_get, Some, sym, tag-last, true}
-use Rattle.determinize_lazy.proofs.{unit-here, unit-last, units, ◌∙◌, ◌≡◌}
+use Rattle.determinize_lazy.proofs.{on_err_weaker, Place, place, read_all, slice_get, Some, sym, tag-last, true, unit-here, unit-last, units, ◌∙◌, ◌≡◌}
 use Rattle.determinize_lazy.proofs.lazy.LazyDfa.search_to_end.Goals.{After-ahead}
 use Rattle.determinize_lazy.proofs.lazy.LazyDfa.search_to_end.Goals as goal
 

@@ -1,5 +1,4 @@
-use Rattle.determinize_lazy.proofs.{ap, between, cache, future, has_read, IfOk-weaker, IsCacheAfter, LazyValue, List}
-use Rattle.determinize_lazy.proofs.{Option, start_value, subst, Text, units, ℕ, ◌∙◌}
+use Rattle.determinize_lazy.proofs.{ap, between, cache, future, has_read, IfOk-weaker, IsCacheAfter, LazyValue, List, Option, start_value, subst, Text, units, ℕ, ◌∙◌}
 use Rattle.determinize_core.proofs.walk.ReturnedWalk.{is_walk}
 use Rattle.determinize_core.specs.Chain.{chain}
 use Rattle.determinize_lazy.proofs.lazy.LazyDfa.walk_between.Goals as goal

@@ -1,6 +1,5 @@
 use Rattle.determinize_lazy.proofs.{[], all_read, append-nil, cache, cursor_value, cut_off-first, cut_off-none, drop}
-use Rattle.determinize_lazy.proofs.{drop-one, drop_all, grows-more, IsWalking, left_err, left_none, left_whole, refl, units}
-use Rattle.determinize_lazy.proofs.{walks-on, ◌++◌, ◌+◌, ◌∷◌}
+use Rattle.determinize_lazy.proofs.{drop-one, drop_all, grows-more, IsWalking, left_err, left_none, left_whole, refl, units, walks-on, ◌++◌, ◌+◌, ◌∷◌}
 use Rattle.determinize_lazy.proofs.lazy.LazyDfa.walk_on.Goals.{In_ok-cursor}
 use Rattle.determinize_lazy.proofs.lazy.LazyDfa.walk_on.Goals as goal
 

@@ -1,7 +1,6 @@
 use Rattle.determinize_lazy.proofs.{ap, AreMarked, AreSomeMarked, at-text, cache, Contains, false, first_place}
 use Rattle.determinize_lazy.proofs.{has_read, IsLeftBy, lazy-sound, listed_over, marked-matches, on_ok_weaker, OnOk}
-use Rattle.determinize_lazy.proofs.{rules, searched-in, some-matches, start_for, start_value, sym, text_of, true≢false}
-use Rattle.determinize_lazy.proofs.{units, ◌∙◌, ◌≡◌}
+use Rattle.determinize_lazy.proofs.{rules, searched-in, some-matches, start_for, start_value, sym, text_of, true≢false, units, ◌∙◌, ◌≡◌}
 use Rattle.determinize_lazy.proofs.lazy.LazyDfa.which_patterns.Goals as goal
 
 pub returns : goal.returns

@@ -1,5 +1,4 @@
-use Rattle.determinize_lazy.proofs.{[], ap, between, future, is-search, last_match, map-append, Some, start_value, sym}
-use Rattle.determinize_lazy.proofs.{◌∙◌, ◌∷◌}
+use Rattle.determinize_lazy.proofs.{[], ap, between, future, is-search, last_match, map-append, Some, start_value, sym, ◌∙◌, ◌∷◌}
 use Rattle.determinize_core.proofs.walk.UnitLists.{chain_is_future}
 use Rattle.determinize_lazy.proofs.scan.Scan.last.Goals as goal
 
