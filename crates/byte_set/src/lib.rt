@@ -1,5 +1,5 @@
-//! Sets of bytes, and the first and the last member in a part of a text, and the number of them,
-//! found by vectors: 64 bytes at a time, and then 16.
+//! Sets of bytes, and the first, the last and the number of members in a part of a text, found by
+//! vectors: 64 bytes at a time, and then 16.
 //!
 //! A set is 32 bytes, in two tables of 16. A byte is looked up by its low half, and the bit of its
 //! high half says whether it is a member. `lanes` looks up many bytes at once. If there is only one
@@ -263,7 +263,8 @@ fn quiet_from<S: LookUp>(s: &S, text: &[u8], from: usize, to: usize) -> usize
     end
 }
 
-/// Returns the number of bytes of the text, from `from` up to `to`, that have a bit.
+/// Returns the number of bytes of the text that have a bit, from `from` up to `to`, which are a
+/// multiple of sixteen bytes.
 #[inline(always)]
 fn count_by_vectors<S: LookUp>(s: &S, text: &[u8], from: usize, to: usize) -> usize
     requires ordered { from ≤ to }

@@ -283,6 +283,7 @@ impl<A: Allocator + Copy> Pieces<A> {
         };
         let kept = self.kept.as_slice();
         let end = self.start + half.offset;
+        // The end itself, if no match of this NFA ends there: the scan is then one of another NFA.
         let begin = regex.search_start(kept, self.start, end)?;
         if begin >= kept.len() {
             return Ok(None);

@@ -1,7 +1,7 @@
 //! The classes of bytes with which branches begin.
 
 ghost use Rattle.std.specs.Prelude.{IfOk, IfSome};
-ghost use Rattle.determinize_pattern.specs.Private.FirstClasses.{AreFirst, IsFirst, IsWithin};
+ghost use Rattle.determinize_pattern.specs.Private.FirstClasses.{AreFirst, BeginsWith, IsBetween};
 
 use crate::class::ClassBytes;
 use crate::pattern::Pattern;
@@ -32,7 +32,7 @@ pub fn first_classes<'p, A: Allocator>(
 
 /// Returns the class of the first byte of a pattern that is a class, or begins with one.
 fn first_class(pattern: &Pattern) -> Option<&ClassBytes>
-    ensures { IfSome result (λ class. IsFirst pattern.now class.now) }
+    ensures { IfSome result (λ class. BeginsWith pattern.now class.now) }
 {
     match pattern {
         Pattern::Class(class) => Some(class),
@@ -44,10 +44,9 @@ fn first_class(pattern: &Pattern) -> Option<&ClassBytes>
     }
 }
 
-/// Returns the number after that of the last byte of a class, if it has bytes, and none is below
-/// `low`.
+/// Returns a number above all bytes of a class, if it has some, and none is below `low`.
 fn past_class(class: &ClassBytes, low: usize) -> Option<usize>
-    ensures { IfSome result (λ past. IsWithin low past class.now) }
+    ensures { IfSome result (λ past. IsBetween low past class.now) }
 {
     let mut past = low;
     for range in class.ranges() {

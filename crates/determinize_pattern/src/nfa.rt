@@ -22,8 +22,8 @@ pub struct Config {
     /// The budget of `compile`, for the patterns together: each state costs one, and so does each
     /// part of a pattern each time that it is compiled, once for each place where it may be
     /// entered. The bytes with which a pattern or a branch begins cost their states only, which
-    /// others share, and the classes with which branches begin only the one state that reads them,
-    /// if there is one. The two states of the prefix are free.
+    /// others share. Where one state reads the first byte of all branches, their first classes cost
+    /// only that state. The two states of the prefix are free.
     pub state_limit: usize,
     /// The greatest depth of a pattern. The recursion of `compile` is as deep.
     pub nest_limit: u32,

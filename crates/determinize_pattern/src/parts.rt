@@ -10,7 +10,7 @@ ghost use Rattle.determinize_pattern.specs.Meaning as meanings;
 ghost use Rattle.determinize_pattern.specs.Patterns as patterns;
 ghost use Rattle.determinize_pattern.specs.Patterns.{at_least, choice, meaning, repeated, sequence};
 ghost use Rattle.determinize_pattern.specs.Private.Compiling.{AlwaysReads, IsBegun, IsCompiled, IsUnread, Paid, Precedes};
-ghost use Rattle.determinize_pattern.specs.Private.FirstClasses.{AreFirst, IsFirst, IsRest};
+ghost use Rattle.determinize_pattern.specs.Private.FirstClasses.{AreFirst, BeginsWith, IsRest};
 ghost use Rattle.determinize_pattern.specs.Private.Words.{IsHead};
 
 use crate::always_reads::always_reads;
@@ -239,7 +239,7 @@ impl<A: Allocator + Copy> Compiler<A> {
     /// Adds the states of what follows the first part of a pattern, and returns where they begin.
     #[cycle(part)]
     fn after_first(&mut self, pattern: &Pattern, next: StateID) -> Result<StateID, CompileError>
-        ensures rest { IfOk result (λ s. (class : List (ℕ × ℕ)) → IsFirst pattern.now class
+        ensures rest { IfOk result (λ s. (class : List (ℕ × ℕ)) → BeginsWith pattern.now class
             → IsRest self.old.builder self.new.builder (meaning pattern.now) class next s) }
         ensures paid { OnOk result
             (Paid self.old.builder self.old.left self.new.builder self.new.left) }

@@ -88,7 +88,7 @@ fn push_numbers(
     Ok(())
 }
 
-/// Returns the numbers that are written with `count` digits after this first digit.
+/// Returns the numbers of the `count` digits that may follow this first digit.
 fn after_digit(alloc: Global, runs: &[Run], digit: u32, count: u32) -> Result<Vec<Run>, AllocError>
     requires count { count ≤ 3 }
     requires digit { digit ≤ 256 }
@@ -101,8 +101,7 @@ fn after_digit(alloc: Global, runs: &[Run], digit: u32, count: u32) -> Result<Ve
     part_of(alloc, runs, low, low + size, low)
 }
 
-/// Returns the digit before which those end, from `digit` on, that are followed by the same
-/// numbers.
+/// Returns a digit from `digit` on, before which each is followed by the numbers of `rest`.
 fn past_alike(
     alloc: Global,
     runs: &[Run],
@@ -154,7 +153,7 @@ fn part_of(
     Ok(part)
 }
 
-/// Returns whether these are the same runs.
+/// Returns `true` only if these are the same runs.
 fn are_equal(one: &[Run], other: &[Run]) -> bool
     ensures { result ≡ true → one.now ≡ other.now }
 {

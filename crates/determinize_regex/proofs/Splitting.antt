@@ -1,7 +1,7 @@
 -- A text is cut at one match after another, and other bytes are put in their places.
 -- Main statements: kept_apart, one_part, last_part, one_more_match, one_of_each,
 -- last_of_each, replaced_by, each_replaced_is_joined.
--- Used by: `whole_matches_in`, `split_at`, `replace_each`, `replace_all`, and `laws::parts_law`.
+-- Used by: `split_utf8`, `split_at`, `replace_each`, `replace_all`, and `laws::parts_law`.
 -- Idea: what is made of the matches so far, and then of the rest from their end on, is what is made of all.
 use Rattle.determinize_regex.proofs.Common.{ap, append-nil, append_assoc, AreApart, arith, Bool, Bor, cond_both, drop}
 use Rattle.determinize_regex.proofs.Common.{EachReplacedIsJoined, filter, flat_map, FoldsTo, get_or, IsReplacedBy}

@@ -8,7 +8,7 @@ ghost use Rattle.determinize_pattern.specs.declared.nfa.CompileError.TheVariants
 ghost use Rattle.determinize_below.specs.Nfa.{IsAccepted};
 ghost use Rattle.determinize_engine.specs.Searches.{has_start};
 ghost use Rattle.determinize_find.specs.Cursors.{after_match};
-ghost use Rattle.determinize_find.specs.LeftmostIn.{is_anchored};
+ghost use Rattle.determinize_find.specs.LeftmostIn.{IsWithin, is_anchored};
 ghost use Rattle.determinize_linear.specs.Tries.{most_tries};
 ghost use Rattle.determinize_pattern.specs.contracts.pattern.Pattern as e;
 ghost use Rattle.determinize_regex.specs.RegexBytes.{AreBytesOf, regex_bytes};
@@ -202,8 +202,7 @@ impl<P: AsSlice<Pattern> + Drop, R: AsNfa, A: Allocator + Copy> Regex<P, R, A> {
     pub fn find(&mut self, input: &Input<'_>) -> Result<Option<Match>, AllocError>
         requires start { has_start input.now.anchored ≡ true }
         ensures leftmost { IfOk result (λ found. IsFirst self.old input.now found) }
-        ensures within { IfOk result (λ found. IfSome found (λ m.
-            (input.now.start ≤ m.start) × (m.start ≤ m.end) × (m.end ≤ input.now.end))) }
+        ensures within { IfOk result (λ found. IfSome found (IsWithin input.now)) }
         ensures same { self.new ≡ self.old }
     {
         self.search.find(input)

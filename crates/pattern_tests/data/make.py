@@ -502,7 +502,7 @@ def most_states(ranges, negated):
 
 
 def nodes(tree):
-    """a state for each byte that may be next, except for neighbors that the same bytes may follow"""
+    """one state, and those after each byte, once for neighbors that the same bytes may follow"""
     count, before = 1, None
     for byte in sorted(tree):
         if tree[byte] and before != (byte - 1, tree[byte]):

@@ -1,7 +1,7 @@
 -- What each step of `Pieces` leaves: bytes kept or dropped, a match added or skipped, a later start; what steps do one
 -- after the other, and what is left at the end.
 -- Main statements: joined, fed_scan, fed_kept, fed_match, fed_skipped, fed_later, fed_dropped, finished, moved_on,
--- settled, few_kept, advanced, in_block, read_more, all_read.
+-- settled, few_kept, read_more, all_read.
 -- Used by: the calls of `Pieces`.
 -- Idea: the matches from the new place on, after what was added, are those from the old place on; and a match of the
 -- kept bytes is one of the text, as much later as bytes were dropped. What was so at the end of a block stays so, as

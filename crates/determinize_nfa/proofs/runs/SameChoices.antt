@@ -1,6 +1,6 @@
 -- Where two texts, with two sets of assertions, give a run the same choices.
 -- Main statements: same_choices, free_more.
--- Used by: runs over a text up to a position (Cuts).
+-- Used by: runs over a text up to a position (Begun).
 -- Idea: the choices at a pair depend on the next byte and on the assertions there, and no state has transitions of both
 -- kinds.
 use Rattle.determinize_nfa.proofs.Common.{Assertion, Bool, In, In_none, List, Nfa, Node, Option, Some, Text, [], arith}

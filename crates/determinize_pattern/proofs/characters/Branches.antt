@@ -1,6 +1,6 @@
 -- What a choice matches once branches are added to it.
 -- Main statements: adds_one, adds_both, adds_same, adds_nothing, all_added.
--- Used by: the proofs of `push_numbers` and `chars_of`, and the files characters.
+-- Used by: the proofs of `push_numbers` and `chars_of`, and the files in `characters`.
 -- Idea: a choice matches what one of its branches matches, and a branch that is added is its last.
 use Rattle.std.proofs.Common.{◌↔◌, ◌≡◌, ◌⊎◌, ◌++◌, ◌∷◌, ℕ, List, None, Option, Some, [], inl, inr, slice_get, true}
 use Rattle.std.proofs.lemmas.Bool.{false≢true}

@@ -1,6 +1,6 @@
 -- Characters as numbers written in base 64.
 -- Main statements: chars_added, chars_same, one_char, accent.
--- Used by: the proofs of `chars_of` and `chars_law`, and the files characters.
+-- Used by: the proofs of `chars_of` and `chars_law`, and the files in `characters`.
 -- Idea: the bytes from one position to another are those that are read there one after the other.
 use Rattle.std.proofs.lemmas.Bool.Decides.{nat_tests}
 use Rattle.std.proofs.lemmas.Bool.{cases_lt, cond-false, cond-true}

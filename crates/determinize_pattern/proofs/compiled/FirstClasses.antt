@@ -25,12 +25,12 @@ use Rattle.determinize_pattern.specs.Meaning.{Byte, Empty, Re, Then, ends, is_in
 use Rattle.determinize_pattern.specs.Patterns.{choice, meaning, sequence}
 use Rattle.determinize_pattern.specs.Private.Compiling.{Continues, Extends, IsBegun}
 use Rattle.determinize_pattern.specs.Private.Entries.{Finds, leading, matched, target_of_end}
-use Rattle.determinize_pattern.specs.Private.FirstClasses.{AreFirst, IsRest, IsWithin}
+use Rattle.determinize_pattern.specs.Private.FirstClasses.{AreFirst, IsRest, IsBetween}
 use Rattle.determinize_pattern.specs.declared.pattern.Pattern.{Pattern}
 use Rattle.determinize_pattern.specs.declared.pattern.Pattern.TheVariants.{Class, Concat}
 
-pub within_more : (low past start end : ℕ) (class : List (ℕ × ℕ)) → IsWithin low past class → past ≤ start
-    → IsWithin low (max past (end + 1)) (class ++ (start, end) ∷ [])
+pub within_more : (low past start end : ℕ) (class : List (ℕ × ℕ)) → IsBetween low past class → past ≤ start
+    → IsBetween low (max past (end + 1)) (class ++ (start, end) ∷ [])
 within_more low past start end class h l = (
   omega (arith, h.0),
   λ b e. by_test (is_in class (Some b))
@@ -120,7 +120,7 @@ pub record AreRead (old new : BuilderValue) (res : List Re) (next low : ℕ) (ts
 
 pub read_more : (old mid new : BuilderValue) (res : List Re) (next low past : ℕ) (ts : List Transition) (re : Re)
     (class : List (ℕ × ℕ)) (s : ℕ) → AreRead old mid res next low ts → IsRest mid new re class next s
-    → IsWithin low past class → AreRead old new (res ++ re ∷ []) next past (ts ++ leading s class)
+    → IsBetween low past class → AreRead old new (res ++ re ∷ []) next past (ts ++ leading s class)
 read_more old mid new res next low past ts re class s h f w = record {
   extends = extends_then old mid new h.extends f.begun.extends;
   above = λ b l. none b (h.above b (omega (arith, w.0))) (out b l);

@@ -11,21 +11,21 @@ use Rattle.determinize_pattern.specs.declared.pattern.Pattern.{Pattern}
 use Rattle.determinize_pattern.specs.declared.pattern.Pattern.TheVariants.{Class, Concat}
 
 -- the pattern is the class, or a row that begins with it
-abbrev pub IsFirst : Pattern → List (ℕ × ℕ) → Type 0
-IsFirst pattern class = (pattern ≡ Class class)
+abbrev pub BeginsWith : Pattern → List (ℕ × ℕ) → Type 0
+BeginsWith pattern class = (pattern ≡ Class class)
     ⊎ ((subs : Vec Pattern) × (rest : Re) × (pattern ≡ Concat subs)
     × (meaning pattern ≡ Then (Byte class) rest))
 
 -- the bytes of the class are from `low` on and below `past`
-abbrev pub IsWithin : ℕ → ℕ → List (ℕ × ℕ) → Type 0
-IsWithin low past class =
+abbrev pub IsBetween : ℕ → ℕ → List (ℕ × ℕ) → Type 0
+IsBetween low past class =
     (low ≤ past) × ((b : ℕ) → is_in class (Some b) ≡ true → (low ≤ b) × (b < past))
 
 -- the branches begin with these classes, and the bytes of each are above those of the one before
 abbrev pub AreFirst : ℕ → List Pattern → List (Bor (List (ℕ × ℕ))) → Type 0
 AreFirst low [] [] = Unit {0}
-AreFirst low (pattern ∷ patterns) (class ∷ classes) = (past : ℕ) × IsFirst pattern class.now
-    × IsWithin low past class.now × AreFirst past patterns classes
+AreFirst low (pattern ∷ patterns) (class ∷ classes) = (past : ℕ) × BeginsWith pattern class.now
+    × IsBetween low past class.now × AreFirst past patterns classes
 AreFirst low _ _ = ⊥
 
 -- the pattern is a byte of the class and then a pattern that begins at the state
