@@ -1,23 +1,14 @@
 //! A search in one text after the other, line by line.
 
 use crate::blocks::{Blocks, set_of};
+use crate::engines::Engines;
 use crate::error::{OutputError, SearchError};
-use crate::literals::Literals;
 use crate::options::{Binary, Options, Settings, Shows};
 use crate::printer::{Head, Printer, Sign, digits};
 use byte_set::ByteSet;
-use determinize_regex::{Input, Match, Regex};
 use std::alloc::{AllocError, Global};
 use std::collections::VecDeque;
 use std::io::{Read, Write};
-
-/// The length from which on a line is long. `find_all` takes a time that may grow with the square
-/// of the length; `find_all_linear` does not, but takes longer for most patterns.
-const LONG: usize = 1 << 14;
-
-/// The length from which on a line is too long for `find_all_linear`, which allocates for each
-/// byte.
-const TOO_LONG: usize = 1 << 20;
 
 /// A search of texts for the lines that the settings select.
 #[derive(Drop)]
@@ -26,9 +17,7 @@ pub struct Lines<'a, W: Write + Drop> {
     settings: &'a Settings,
     /// What is printed between groups of lines.
     separator: Option<&'a [u8]>,
-    regex: Regex,
-    /// What only lines with a match have, if only these are sought.
-    literals: Option<Literals>,
+    engines: Engines<'a>,
     pub printer: Printer<W>,
     /// The byte that ends a line.
     ends: ByteSet,
@@ -102,8 +91,7 @@ impl<'a, W: Write + Drop> Lines<'a, W> {
     pub fn new(
         alloc: Global,
         options: &'a Options,
-        regex: Regex,
-        literals: Option<Literals>,
+        engines: Engines<'a>,
         printer: Printer<W>,
     ) -> Lines<'a, W> {
         let settings = &options.settings;
@@ -114,8 +102,7 @@ impl<'a, W: Write + Drop> Lines<'a, W> {
                 Some(text) => Some(text.as_slice()),
                 None => None,
             },
-            regex,
-            literals,
+            engines,
             printer,
             ends: set_of(settings.terminator),
             zero: set_of(0),
@@ -183,10 +170,7 @@ impl<'a, W: Write + Drop> Lines<'a, W> {
         blocks: &mut Blocks<R>,
     ) -> Result<(), SearchError> {
         for _ in 0..u64::MAX {
-            let next = match self.literals {
-                Some(_) => self.take_found(text, blocks.lines())?,
-                None => self.take_all(text, blocks.lines())?,
-            };
+            let next = self.take_block(text, blocks.lines())?;
             if next == Next::Stop {
                 break;
             }
@@ -199,6 +183,16 @@ impl<'a, W: Write + Drop> Lines<'a, W> {
     }
 
     /// Takes the lines of a block.
+    fn take_block(&mut self, text: &mut Text<'_>, block: &[u8]) -> Result<Next, SearchError> {
+        self.engines.prepare(block.len());
+        if self.engines.can_find(text.is_binary) {
+            self.take_found(text, block)
+        } else {
+            self.take_all(text, block)
+        }
+    }
+
+    /// Takes the lines of a block one by one.
     fn take_all(&mut self, text: &mut Text<'_>, block: &[u8]) -> Result<Next, SearchError> {
         let mut rest = block;
         for _ in 0..block.len() {
@@ -215,11 +209,14 @@ impl<'a, W: Write + Drop> Lines<'a, W> {
         Ok(Next::Read)
     }
 
-    /// Takes the lines of a block that contain a literal. The others have no match.
+    /// Takes the lines of a block that may have a match. The others have none.
     fn take_found(&mut self, text: &mut Text<'_>, block: &[u8]) -> Result<Next, SearchError> {
         let mut rest = block;
         for _ in 0..block.len() {
-            let Some(at) = self.find_literal(rest) else {
+            if rest.is_empty() {
+                break;
+            }
+            let Some(at) = self.engines.find(rest) else {
                 break;
             };
             let (passed, found) = self.split_before(rest, at);
@@ -235,21 +232,12 @@ impl<'a, W: Write + Drop> Lines<'a, W> {
         Ok(Next::Read)
     }
 
-    /// Returns an index in the first line that contains a literal.
-    fn find_literal(&self, lines: &[u8]) -> Option<usize> {
-        match &self.literals {
-            Some(literals) => literals.find(lines),
-            None => None,
-        }
-    }
-
-    /// Takes a line that contains a literal. In a binary text its parts may have no match.
+    /// Takes a line that was found. In a binary text its parts may have no match.
     fn take_one_found(&mut self, text: &mut Text<'_>, line: &[u8]) -> Result<Next, SearchError> {
-        match &self.literals {
-            Some(literals) if literals.are_matches() && !text.is_binary => {
-                self.take_selected(text, line)
-            }
-            _ => self.take(text, line),
+        if self.engines.finds_matches() && !text.is_binary {
+            self.take_selected(text, line)
+        } else {
+            self.take(text, line)
         }
     }
 
@@ -328,7 +316,7 @@ impl<'a, W: Write + Drop> Lines<'a, W> {
 
     /// Returns whether a line is selected.
     fn selects(&mut self, line: &[u8]) -> Result<bool, AllocError> {
-        let has_match = self.regex.is_match(&Input::new(line))?;
+        let has_match = self.engines.is_match(line)?;
         Ok(has_match != self.settings.inverts)
     }
 
@@ -450,7 +438,7 @@ impl<'a, W: Write + Drop> Lines<'a, W> {
         } else {
             Sign::Colon
         };
-        for found in &self.matches(line)? {
+        for found in &self.engines.matches(line)? {
             let bytes = found.bytes(line).unwrap_or(&[]);
             if bytes.is_empty() {
                 continue;
@@ -478,7 +466,7 @@ impl<'a, W: Write + Drop> Lines<'a, W> {
     fn print_marked(&mut self, head: &Head<'_>, line: &[u8]) -> Result<(), SearchError> {
         self.printer.head(head, line.is_empty())?;
         let mut done = 0;
-        for found in &self.matches(line)? {
+        for found in &self.engines.matches(line)? {
             if found.is_empty() {
                 continue;
             }
@@ -489,15 +477,5 @@ impl<'a, W: Write + Drop> Lines<'a, W> {
         }
         self.printer.bytes(line.get(done..).unwrap_or(&[]))?;
         Ok(self.printer.end_line()?)
-    }
-
-    /// Returns all matches of a line, in linear time if it is long, but not too long.
-    fn matches(&mut self, line: &[u8]) -> Result<Vec<Match>, AllocError> {
-        let input = Input::new(line);
-        if line.len() >= LONG && line.len() < TOO_LONG {
-            self.regex.find_all_linear(self.alloc, &input)
-        } else {
-            self.regex.find_all(self.alloc, &input)
-        }
     }
 }

@@ -1,6 +1,5 @@
 //! Texts that the matches of patterns contain, by the form of the patterns.
 
-use crate::options::Settings;
 use byte_set::ByteSet;
 use determinize_regex::Pattern;
 use std::alloc::{AllocError, Global};
@@ -49,19 +48,16 @@ struct Walk {
 
 impl Literals {
     /// Returns texts of which each match of the patterns contains one, if their form shows such
-    /// texts, which are few and rare, and if lines that contain none need not be printed. None of
-    /// the texts has the byte that ends a line, so each is within one line.
+    /// texts, which are few and rare. None of them has the byte that ends a line, so each is within
+    /// one line.
     pub fn of(
         alloc: Global,
         patterns: &[Pattern],
-        settings: &Settings,
+        terminator: u8,
     ) -> Result<Option<Literals>, AllocError> {
-        if settings.inverts || settings.separates() {
-            return Ok(None);
-        }
         let mut literals = Vec::new(alloc);
         push_all(alloc, patterns, &mut literals)?;
-        if !are_sought(&literals, settings.terminator) {
+        if !are_sought(&literals, terminator) {
             return Ok(None);
         }
         Ok(Some(Literals {

@@ -4,6 +4,7 @@
 mod args;
 mod blocks;
 mod command;
+mod engines;
 mod error;
 mod files;
 mod flags;
@@ -16,10 +17,10 @@ mod printer;
 mod quoted;
 mod usage;
 
+use crate::engines::Engines;
 use crate::error::{Error, OutputError};
 use crate::files::Files;
 use crate::lines::Lines;
-use crate::literals::Literals;
 use crate::options::{Action, Colors, Options, Shows};
 use crate::printer::{Printer, Style};
 use crate::usage::{USAGE, VERSION};
@@ -52,12 +53,7 @@ fn has_colors(rt: &HostRuntime, colors: Colors) -> bool {
 }
 
 /// Searches for the patterns, and returns the exit status.
-fn search(
-    rt: &HostRuntime,
-    options: &Options,
-    regex: Regex,
-    literals: Option<Literals>,
-) -> Result<ExitCode, OutputError> {
+fn search(rt: &HostRuntime, options: &Options, regex: &Regex) -> Result<ExitCode, Error> {
     let settings = &options.settings;
     let style = Style {
         has_colors: has_colors(rt, settings.colors),
@@ -66,9 +62,10 @@ fn search(
         has_tabs: settings.has_tabs,
         is_line_buffered: settings.is_line_buffered,
     };
+    let engines = Engines::new(rt.alloc(), regex, settings)?;
     let printer = Printer::new(rt.alloc(), io::writer(rt), style)?;
-    let lines = Lines::new(rt.alloc(), options, regex, literals, printer);
-    Files::new(rt, options, lines).search_all()
+    let lines = Lines::new(rt.alloc(), options, engines, printer);
+    Ok(Files::new(rt, options, lines).search_all()?)
 }
 
 /// Prints a text, and returns the exit status.
@@ -92,8 +89,7 @@ fn run(rt: &HostRuntime) -> Result<ExitCode, Error> {
     if settings.max_count == 0 && settings.shows != Shows::OtherNames {
         return Ok(ExitCode::FAILURE);
     }
-    let literals = Literals::of(rt.alloc(), regex.patterns(), settings)?;
-    Ok(search(rt, &options, regex, literals)?)
+    search(rt, &options, &regex)
 }
 
 /// Writes an error that ends the program, unless a pipe was closed, and returns the exit status.

@@ -1,0 +1,180 @@
+//! What finds the matches of patterns: a regex and, once much was searched, a whole DFA.
+
+use crate::literals::Literals;
+use crate::options::Settings;
+use determinize_below::MatchKind;
+use determinize_dense::Dfa;
+use determinize_regex::{ClassBytesRange, Input, Look, Match, Matcher, NFA, Pattern, Regex};
+use std::alloc::{AllocError, Global};
+
+/// The most states of a cache of the regex, as `RegexConfig` has it.
+const CACHE_LIMIT: usize = 10_000;
+
+/// The number of bytes after which a whole DFA is built, so that a small file is searched at once.
+const MUCH: usize = 1 << 20;
+
+/// The most states of a whole DFA.
+const MOST_STATES: usize = 1 << 12;
+
+/// The length from which on a line is long. `find_all` takes a time that may grow with the square
+/// of the length; `find_all_linear` does not, but takes longer for most patterns.
+const LONG: usize = 1 << 14;
+
+/// The length from which on a line is too long for `find_all_linear`, which allocates for each
+/// byte.
+const TOO_LONG: usize = 1 << 20;
+
+/// What finds the matches of patterns in lines.
+#[derive(Drop)]
+pub struct Engines<'r> {
+    alloc: Global,
+    matcher: Matcher<'r>,
+    nfa: &'r NFA,
+    /// The byte that ends a line.
+    terminator: u8,
+    /// The whole DFA, if it is built and has few states.
+    dfa: Option<Dfa<&'r NFA>>,
+    /// What each match contains, if only lines with a match are sought.
+    literals: Option<Literals>,
+    /// Whether only lines with a match are sought, and those of several lines are the matches of
+    /// each.
+    is_local: bool,
+    /// The number of bytes that were searched, until there are many.
+    searched: usize,
+}
+
+impl<'r> Engines<'r> {
+    /// Returns what finds the matches of a regex, by the settings.
+    pub fn new(
+        alloc: Global,
+        regex: &'r Regex,
+        settings: &Settings,
+    ) -> Result<Engines<'r>, AllocError> {
+        let (patterns, terminator) = (regex.patterns(), settings.terminator);
+        let seeks = !settings.inverts && !settings.separates();
+        Ok(Engines {
+            alloc,
+            matcher: regex.matcher(alloc, CACHE_LIMIT),
+            nfa: regex.nfa(),
+            terminator,
+            dfa: None,
+            literals: if seeks {
+                Literals::of(alloc, patterns, terminator)?
+            } else {
+                None
+            },
+            is_local: seeks && are_local(patterns, terminator),
+            searched: 0,
+        })
+    }
+
+    /// Builds the whole DFA, if these bytes make those that were searched many. If it has too many
+    /// states, or not enough memory, the regex finds all matches as before.
+    pub fn prepare(&mut self, bytes: usize) {
+        if self.searched >= MUCH {
+            return;
+        }
+        self.searched = self.searched.saturating_add(bytes);
+        if self.searched < MUCH {
+            return;
+        }
+        let built = Dfa::build(self.alloc, self.nfa, MatchKind::LeftmostFirst, MOST_STATES);
+        if let Ok(dfa) = built {
+            self.dfa = Some(dfa);
+        }
+    }
+
+    /// Returns whether `find` finds lines: of a binary text only by what each match contains, since
+    /// there a zero byte ends a line too.
+    pub fn can_find(&self, is_binary: bool) -> bool {
+        self.literals.is_some() || (self.dfa.is_some() && self.is_local && !is_binary)
+    }
+
+    /// Returns whether each line that `find` finds has a match.
+    pub fn finds_matches(&self) -> bool {
+        match &self.literals {
+            Some(literals) => literals.are_matches(),
+            None => true,
+        }
+    }
+
+    /// Returns an index in the first line that may have a match, or that of the byte that ends the
+    /// line. The lines before it have none.
+    pub fn find(&self, lines: &[u8]) -> Option<usize> {
+        if let Some(literals) = &self.literals {
+            return literals.find(lines);
+        }
+        let Some(dfa) = &self.dfa else { return None };
+        // A match behind the last line would be in none.
+        let text = match lines {
+            [text @ .., last] if *last == self.terminator => text,
+            _ => lines,
+        };
+        let found = dfa.search_input(&Input::new(text))?;
+        Some(found.offset)
+    }
+
+    /// Returns whether a line has a match.
+    pub fn is_match(&mut self, line: &[u8]) -> Result<bool, AllocError> {
+        let input = Input::new(line);
+        match &self.dfa {
+            Some(dfa) => Ok(dfa.is_match(&input)),
+            None => self.matcher.is_match(&input),
+        }
+    }
+
+    /// Returns all matches of a line, in linear time if it is long, but not too long.
+    pub fn matches(&mut self, line: &[u8]) -> Result<Vec<Match>, AllocError> {
+        let input = Input::new(line);
+        if line.len() >= LONG && line.len() < TOO_LONG {
+            self.matcher.find_all_linear(self.alloc, &input)
+        } else {
+            self.matcher.find_all(self.alloc, &input)
+        }
+    }
+}
+
+/// Returns whether each of the patterns is local.
+#[cycle(local)]
+fn are_local(patterns: &[Pattern], terminator: u8) -> bool {
+    for i in 0..patterns.len() {
+        if !is_local(&patterns[i], terminator) {
+            return false;
+        }
+    }
+    true
+}
+
+/// Returns whether the matches of a pattern in several lines are those in each of them: none has
+/// the byte that ends a line, and no assertion tells that byte from the end of a text.
+#[cycle(local)]
+fn is_local(pattern: &Pattern, terminator: u8) -> bool {
+    match pattern {
+        Pattern::Empty => true,
+        Pattern::Literal(bytes) => !bytes.contains(&terminator),
+        Pattern::Class(class) => !is_in(class.ranges(), terminator),
+        Pattern::Look(look) => is_about_words(*look),
+        Pattern::Capture(sub) => is_local(sub, terminator),
+        Pattern::Repetition { sub, .. } => is_local(sub, terminator),
+        Pattern::Concat(subs) | Pattern::Alternation(subs) => are_local(subs, terminator),
+    }
+}
+
+/// Returns whether a byte is in one of the ranges.
+fn is_in(ranges: &[ClassBytesRange], byte: u8) -> bool {
+    for range in ranges {
+        if range.contains(byte) {
+            return true;
+        }
+    }
+    false
+}
+
+/// Returns whether an assertion holds at the end of a line as it does at the end of a text: whether
+/// it is about words. A byte that is a letter ends no line.
+fn is_about_words(look: Look) -> bool {
+    !matches!(
+        look,
+        Look::Start | Look::End | Look::StartLF | Look::EndLF | Look::StartCRLF | Look::EndCRLF
+    )
+}
