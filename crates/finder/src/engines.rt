@@ -10,11 +10,13 @@ use std::alloc::{AllocError, Global};
 /// The most states of a cache of the regex, as `RegexConfig` has it.
 const CACHE_LIMIT: usize = 10_000;
 
-/// The number of bytes after which a whole DFA is built, so that a small file is searched at once.
-const MUCH: usize = 1 << 20;
+/// The numbers of bytes after which a whole DFA is built, until one is: a small file is searched at
+/// once, and where much is searched, more states may be built.
+const MUCH: [usize; 3] = [1 << 20, 1 << 22, 1 << 24];
 
-/// The most states of a whole DFA.
-const MOST_STATES: usize = 1 << 12;
+/// The number of bytes that are searched for each state of a whole DFA, so that it takes less time
+/// to build it than to search.
+const BYTES_A_STATE: usize = 1 << 10;
 
 /// The length from which on a line is long. `find_all` takes a time that may grow with the square
 /// of the length; `find_all_linear` does not, but takes longer for most patterns.
@@ -34,12 +36,11 @@ pub struct Engines<'r> {
     terminator: u8,
     /// The whole DFA, if it is built and has few states.
     dfa: Option<Dfa<&'r NFA>>,
-    /// What each match contains, if only lines with a match are sought.
+    /// What each match contains.
     literals: Option<Literals>,
-    /// Whether only lines with a match are sought, and those of several lines are the matches of
-    /// each.
+    /// Whether the matches of several lines are those of each.
     is_local: bool,
-    /// The number of bytes that were searched, until there are many.
+    /// The number of bytes that were searched.
     searched: usize,
 }
 
@@ -51,19 +52,14 @@ impl<'r> Engines<'r> {
         settings: &Settings,
     ) -> Result<Engines<'r>, AllocError> {
         let (patterns, terminator) = (regex.patterns(), settings.terminator);
-        let seeks = !settings.inverts && !settings.separates();
         Ok(Engines {
             alloc,
             matcher: regex.matcher(alloc, CACHE_LIMIT),
             nfa: regex.nfa(),
             terminator,
             dfa: None,
-            literals: if seeks {
-                Literals::of(alloc, patterns, terminator)?
-            } else {
-                None
-            },
-            is_local: seeks && are_local(patterns, terminator),
+            literals: Literals::of(alloc, patterns, terminator)?,
+            is_local: are_local(patterns, terminator),
             searched: 0,
         })
     }
@@ -71,23 +67,25 @@ impl<'r> Engines<'r> {
     /// Builds the whole DFA, if these bytes make those that were searched many. If it has too many
     /// states, or not enough memory, the regex finds all matches as before.
     pub fn prepare(&mut self, bytes: usize) {
-        if self.searched >= MUCH {
-            return;
+        let before = self.searched;
+        self.searched = before.saturating_add(bytes);
+        for much in MUCH {
+            if before < much && self.searched >= much && self.dfa.is_none() {
+                self.build(much / BYTES_A_STATE);
+            }
         }
-        self.searched = self.searched.saturating_add(bytes);
-        if self.searched < MUCH {
-            return;
-        }
-        let built = Dfa::build(self.alloc, self.nfa, MatchKind::LeftmostFirst, MOST_STATES);
-        if let Ok(dfa) = built {
+    }
+
+    /// Builds the whole DFA, if it has at most so many states.
+    fn build(&mut self, limit: usize) {
+        if let Ok(dfa) = Dfa::build(self.alloc, self.nfa, MatchKind::LeftmostFirst, limit) {
             self.dfa = Some(dfa);
         }
     }
 
-    /// Returns whether `find` finds lines: of a binary text only by what each match contains, since
-    /// there a zero byte ends a line too.
-    pub fn can_find(&self, is_binary: bool) -> bool {
-        self.literals.is_some() || (self.dfa.is_some() && self.is_local && !is_binary)
+    /// Returns whether `find` finds lines.
+    pub fn can_find(&self) -> bool {
+        self.literals.is_some() || (self.dfa.is_some() && self.is_local)
     }
 
     /// Returns whether each line that `find` finds has a match.

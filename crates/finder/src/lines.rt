@@ -185,7 +185,8 @@ impl<'a, W: Write + Drop> Lines<'a, W> {
     /// Takes the lines of a block.
     fn take_block(&mut self, text: &mut Text<'_>, block: &[u8]) -> Result<Next, SearchError> {
         self.engines.prepare(block.len());
-        if self.engines.can_find(text.is_binary) {
+        // In a binary text a line without a match may be several, which count with `-v`.
+        if self.engines.can_find() && !(text.is_binary && self.settings.inverts) {
             self.take_found(text, block)
         } else {
             self.take_all(text, block)
@@ -220,7 +221,9 @@ impl<'a, W: Write + Drop> Lines<'a, W> {
                 break;
             };
             let (passed, found) = self.split_before(rest, at);
-            self.pass_lines(&mut text.place, passed);
+            if self.take_others(text, passed)? == Next::Stop {
+                return Ok(Next::Stop);
+            }
             let (line, after) = self.split_line(found);
             if self.take_one_found(text, line)? == Next::Stop {
                 return Ok(Next::Stop);
@@ -228,17 +231,37 @@ impl<'a, W: Write + Drop> Lines<'a, W> {
             text.place.pass(1, found.len().saturating_sub(after.len()));
             rest = after;
         }
-        self.pass_lines(&mut text.place, rest);
-        Ok(Next::Read)
+        self.take_others(text, rest)
     }
 
     /// Takes a line that was found. In a binary text its parts may have no match.
     fn take_one_found(&mut self, text: &mut Text<'_>, line: &[u8]) -> Result<Next, SearchError> {
         if self.engines.finds_matches() && !text.is_binary {
-            self.take_selected(text, line)
+            self.take_known(text, line, true)
         } else {
             self.take(text, line)
         }
+    }
+
+    /// Takes lines without a match. If none of them can be printed, they are only counted.
+    fn take_others(&mut self, text: &mut Text<'_>, lines: &[u8]) -> Result<Next, SearchError> {
+        if !self.settings.inverts && !self.settings.separates() {
+            self.pass_lines(&mut text.place, lines);
+            return Ok(Next::Read);
+        }
+        let mut rest = lines;
+        for _ in 0..lines.len() {
+            if rest.is_empty() {
+                break;
+            }
+            let (line, after) = self.split_line(rest);
+            if self.take_known(text, line, false)? == Next::Stop {
+                return Ok(Next::Stop);
+            }
+            text.place.pass(1, rest.len().saturating_sub(after.len()));
+            rest = after;
+        }
+        Ok(Next::Read)
     }
 
     /// Passes lines without a match. They are counted if numbers are printed.
@@ -287,10 +310,22 @@ impl<'a, W: Write + Drop> Lines<'a, W> {
 
     /// Counts and prints a line if it is selected, and prints it if it is near one that is.
     fn take_line(&mut self, text: &mut Text<'_>, line: &[u8]) -> Result<Next, SearchError> {
-        if text.selected >= self.settings.max_count || !self.selects(line)? {
-            return self.pass(text, line);
+        let has_match = self.engines.is_match(line)?;
+        self.take_known(text, line, has_match)
+    }
+
+    /// Counts and prints a line of which it is known whether it has a match.
+    fn take_known(
+        &mut self,
+        text: &mut Text<'_>,
+        line: &[u8],
+        has_match: bool,
+    ) -> Result<Next, SearchError> {
+        if has_match != self.settings.inverts {
+            self.take_selected(text, line)
+        } else {
+            self.pass(text, line)
         }
-        self.take_selected(text, line)
     }
 
     /// Counts and prints a line that is selected, unless enough were.
@@ -312,12 +347,6 @@ impl<'a, W: Write + Drop> Lines<'a, W> {
         } else {
             Next::Read
         })
-    }
-
-    /// Returns whether a line is selected.
-    fn selects(&mut self, line: &[u8]) -> Result<bool, AllocError> {
-        let has_match = self.engines.is_match(line)?;
-        Ok(has_match != self.settings.inverts)
     }
 
     /// Returns whether the lines of a text are printed. One with a zero byte makes it binary.
