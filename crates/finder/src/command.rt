@@ -317,25 +317,41 @@ impl Settings {
 
     /// Sets how binary files are searched. Returns whether there is a way of this name.
     fn set_binary(&mut self, name: &[u8]) -> bool {
-        match name {
-            b"binary" => self.binary = Binary::Noted,
-            b"text" => self.binary = Binary::Text,
-            b"without-match" => self.binary = Binary::Skipped,
-            _ => return false,
+        if is_among(name, b"binary") {
+            self.binary = Binary::Noted;
+        } else if is_among(name, b"text") {
+            self.binary = Binary::Text;
+        } else if is_among(name, b"without-match") {
+            self.binary = Binary::Skipped;
+        } else {
+            return false;
         }
         true
     }
 
     /// Sets when colors are printed. Returns whether the name is one of these.
     fn set_colors(&mut self, name: &[u8]) -> bool {
-        match name {
-            b"always" | b"yes" | b"force" => self.colors = Colors::Always,
-            b"never" | b"no" | b"none" => self.colors = Colors::Never,
-            b"auto" | b"tty" | b"if-tty" => self.colors = Colors::IfTerminal,
-            _ => return false,
+        if is_among(name, b"always yes force") {
+            self.colors = Colors::Always;
+        } else if is_among(name, b"never no none") {
+            self.colors = Colors::Never;
+        } else if is_among(name, b"auto tty if-tty") {
+            self.colors = Colors::IfTerminal;
+        } else {
+            return false;
         }
         true
     }
+}
+
+/// Returns whether a name is one of these, which have spaces between them.
+fn is_among(name: &[u8], names: &[u8]) -> bool {
+    for other in names.split(|byte| *byte == b' ') {
+        if other == name {
+            return true;
+        }
+    }
+    false
 }
 
 /// Returns the number that a text is, or the greatest one if it is too great.

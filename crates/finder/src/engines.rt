@@ -1,10 +1,10 @@
 //! What finds the matches of patterns: a regex and, once much was searched, a whole DFA.
 
-use crate::literals::Literals;
+use crate::literals::{Literals, has_byte};
 use crate::options::Settings;
 use determinize_below::MatchKind;
 use determinize_dense::Dfa;
-use determinize_regex::{ClassBytesRange, Input, Look, Match, Matcher, NFA, Pattern, Regex};
+use determinize_regex::{Input, Look, Match, Matcher, NFA, Pattern, Regex};
 use std::alloc::{AllocError, Global};
 
 /// The most states of a cache of the regex, as `RegexConfig` has it.
@@ -150,22 +150,12 @@ fn is_local(pattern: &Pattern, terminator: u8) -> bool {
     match pattern {
         Pattern::Empty => true,
         Pattern::Literal(bytes) => !bytes.contains(&terminator),
-        Pattern::Class(class) => !is_in(class.ranges(), terminator),
+        Pattern::Class(class) => !has_byte(class, terminator),
         Pattern::Look(look) => is_about_words(*look),
         Pattern::Capture(sub) => is_local(sub, terminator),
         Pattern::Repetition { sub, .. } => is_local(sub, terminator),
         Pattern::Concat(subs) | Pattern::Alternation(subs) => are_local(subs, terminator),
     }
-}
-
-/// Returns whether a byte is in one of the ranges.
-fn is_in(ranges: &[ClassBytesRange], byte: u8) -> bool {
-    for range in ranges {
-        if range.contains(byte) {
-            return true;
-        }
-    }
-    false
 }
 
 /// Returns whether an assertion holds at the end of a line as it does at the end of a text: whether

@@ -1,4 +1,4 @@
-//! Globs, which say by their names what files are searched.
+//! Globs of the names of files that are searched or skipped.
 
 use std::alloc::{AllocError, Global};
 

@@ -120,8 +120,18 @@ impl<'a, W: Write + Drop> Lines<'a, W> {
         size: Option<u64>,
         input: R,
     ) -> Result<Found, SearchError> {
+        let mut blocks = Blocks::new(self.alloc, input, self.settings.terminator)?;
+        self.search_blocks(name, size, &mut blocks)
+    }
+
+    /// Searches a text of which nothing is read yet.
+    fn search_blocks<R: Read + Drop>(
+        &mut self,
+        name: Option<&str>,
+        size: Option<u64>,
+        blocks: &mut Blocks<R>,
+    ) -> Result<Found, SearchError> {
         let settings = self.settings;
-        let mut blocks = Blocks::new(self.alloc, input, settings.terminator)?;
         self.printer.flush()?;
         let has_lines = blocks.advance()?;
         let is_binary = self.may_be_binary() && self.has_zero(blocks.first_bytes());
@@ -139,7 +149,7 @@ impl<'a, W: Write + Drop> Lines<'a, W> {
             printed: None,
         };
         if has_lines {
-            self.read_lines(&mut text, &mut blocks)?;
+            self.read_lines(&mut text, blocks)?;
         }
         Ok(Found {
             selected: text.selected,
@@ -264,18 +274,14 @@ impl<'a, W: Write + Drop> Lines<'a, W> {
         Ok(Next::Read)
     }
 
-    /// Passes lines without a match. They are counted if numbers are printed.
+    /// Passes lines that are not printed. They are counted if numbers are printed.
     fn pass_lines(&self, place: &mut Place, lines: &[u8]) {
-        let mut count = 0_u64;
-        let mut rest = lines;
-        for _ in 0..lines.len() {
-            if rest.is_empty() || !self.settings.numbers {
-                break;
-            }
-            (_, rest) = self.split_line(rest);
-            count = count.saturating_add(1);
-        }
-        place.pass(count, lines.len());
+        let count = if self.settings.numbers {
+            self.ends.count(lines, 0, lines.len())
+        } else {
+            0
+        };
+        place.pass(count as u64, lines.len());
     }
 
     /// Returns the lines before the one with the byte at an index, and the others.
@@ -456,8 +462,7 @@ impl<'a, W: Write + Drop> Lines<'a, W> {
             return 0;
         }
         let greatest = size.unwrap_or(i64::MAX.cast_unsigned());
-        let is_counted = self.settings.numbers && size.is_some();
-        digits(greatest.saturating_add(if is_counted { 1 } else { 0 }))
+        digits(greatest.saturating_add(u64::from(self.settings.numbers)))
     }
 
     /// Prints each match of a line as a line, unless it is empty.
@@ -493,18 +498,7 @@ impl<'a, W: Write + Drop> Lines<'a, W> {
 
     /// Prints a line with its matches marked.
     fn print_marked(&mut self, head: &Head<'_>, line: &[u8]) -> Result<(), SearchError> {
-        self.printer.head(head, line.is_empty())?;
-        let mut done = 0;
-        for found in &self.engines.matches(line)? {
-            if found.is_empty() {
-                continue;
-            }
-            self.printer
-                .bytes(line.get(done..found.start).unwrap_or(&[]))?;
-            self.printer.matched(found.bytes(line).unwrap_or(&[]))?;
-            done = found.end;
-        }
-        self.printer.bytes(line.get(done..).unwrap_or(&[]))?;
-        Ok(self.printer.end_line()?)
+        let matches = self.engines.matches(line)?;
+        Ok(self.printer.marked_line(head, line, matches.as_slice())?)
     }
 }

@@ -1,7 +1,9 @@
-//! Texts that the matches of patterns contain, by the form of the patterns.
+//! Texts that the matches of patterns contain, by the form of the patterns. At each place a text has
+//! one byte or one of a few, as the two cases of a letter.
 
+use crate::blocks::set_of;
 use byte_set::ByteSet;
-use determinize_regex::Pattern;
+use determinize_regex::{ClassBytes, Pattern};
 use std::alloc::{AllocError, Global};
 use std::mem;
 
@@ -14,11 +16,14 @@ const IN_MOST_LINES: usize = 12;
 /// The most texts that are sought at once.
 const MOST: usize = 4;
 
+/// The most bytes of a place.
+const FEW: usize = 4;
+
 /// Texts of which each match contains one.
 #[derive(Drop)]
 pub struct Literals {
     literals: Vec<Literal>,
-    /// The rarest byte of each.
+    /// The bytes of the rarest place of each.
     rarest: ByteSet,
     /// Whether each of the texts is a match, wherever it occurs.
     are_matches: bool,
@@ -27,21 +32,29 @@ pub struct Literals {
 /// A text that each match of a branch contains.
 #[derive(Drop)]
 struct Literal {
-    bytes: Vec<u8>,
-    /// Its rarest byte, and where that is.
-    rarest: u8,
-    offset: usize,
+    places: Vec<Place>,
+    /// The index of its rarest place.
+    rarest: usize,
     /// Whether it is a match, wherever it occurs.
     is_match: bool,
+}
+
+/// A place in a text.
+#[derive(Drop)]
+struct Place {
+    /// The bytes that it may have.
+    bytes: ByteSet,
+    /// How rare the most frequent one is.
+    rank: usize,
 }
 
 /// A walk through a branch, from left to right.
 #[derive(Drop)]
 struct Walk {
-    /// Bytes that each match contains in a row, the last one where the walk is.
-    run: Vec<u8>,
+    /// Places that each match contains in a row, the last one where the walk is.
+    run: Vec<Place>,
     /// The longest row that has ended.
-    longest: Vec<u8>,
+    longest: Vec<Place>,
     /// Whether the row is a match of what was walked through, wherever it occurs.
     is_match: bool,
 }
@@ -72,7 +85,7 @@ impl Literals {
         self.are_matches
     }
 
-    /// Returns the index of a byte of the first of the texts in a block, if there is one.
+    /// Returns the first index in a block at which one of the texts has its rarest place.
     pub fn find(&self, block: &[u8]) -> Option<usize> {
         let mut from = 0;
         for _ in 0..block.len() {
@@ -99,43 +112,92 @@ impl Literals {
     }
 }
 
+impl Place {
+    /// Returns the place of a byte.
+    fn of_byte(byte: u8) -> Place {
+        Place {
+            bytes: set_of(byte),
+            rank: rank(byte),
+        }
+    }
+
+    /// Returns the place of a class, if it has few bytes.
+    fn of_class(class: &ClassBytes) -> Option<Place> {
+        let mut members = [false; 256];
+        let (mut count, mut lowest) = (0_usize, FREQUENT.len());
+        for byte in 0..=u8::MAX {
+            if has_byte(class, byte) {
+                members[usize::from(byte)] = true;
+                lowest = lowest.min(rank(byte));
+                count = count.saturating_add(1);
+            }
+        }
+        if count == 0 || count > FEW {
+            return None;
+        }
+        Some(Place {
+            bytes: ByteSet::new(&members),
+            rank: lowest,
+        })
+    }
+}
+
 impl Literal {
-    /// Returns the text of these bytes.
-    fn new(bytes: Vec<u8>, is_match: bool) -> Literal {
-        let (mut rarest, mut offset, mut highest) = (b' ', 0, 0);
-        for (index, byte) in bytes.iter().enumerate() {
-            let rank = rank(*byte);
-            if rank > highest {
-                (rarest, offset, highest) = (*byte, index, rank);
+    /// Returns the text of these places.
+    fn new(places: Vec<Place>, is_match: bool) -> Literal {
+        let (mut rarest, mut highest) = (0, 0);
+        for (index, place) in places.iter().enumerate() {
+            if place.rank > highest {
+                (rarest, highest) = (index, place.rank);
             }
         }
         Literal {
-            bytes,
+            places,
             rarest,
-            offset,
             is_match,
         }
     }
 
-    /// Returns whether a search for the text passes most lines: whether it has several bytes, or a
+    /// Returns whether a search for the text passes most lines: whether it has several places, or a
     /// rare one.
     fn is_rare(&self) -> bool {
-        self.bytes.len() > 1 || rank(self.rarest) >= IN_MOST_LINES
+        match self.places.as_slice() {
+            [place] => place.rank >= IN_MOST_LINES,
+            places => !places.is_empty(),
+        }
     }
 
-    /// Returns whether the text is in a block, its rarest byte at an index.
+    /// Returns whether the text may have a byte.
+    fn may_have(&self, byte: u8) -> bool {
+        for place in &self.places {
+            if place.bytes.contains(byte) {
+                return true;
+            }
+        }
+        false
+    }
+
+    /// Returns whether the text is in a block, its rarest place at an index.
     fn is_at(&self, block: &[u8], at: usize) -> bool {
-        let Some(start) = at.checked_sub(self.offset) else {
+        let Some(start) = at.checked_sub(self.rarest) else {
             return false;
         };
         let text = block.get(start..).unwrap_or(&[]);
-        text.starts_with(&self.bytes)
+        if text.len() < self.places.len() {
+            return false;
+        }
+        for (place, byte) in self.places.iter().zip(text) {
+            if !place.bytes.contains(*byte) {
+                return false;
+            }
+        }
+        true
     }
 }
 
 impl Walk {
     /// Returns the longest row that has ended.
-    fn into_longest(self) -> Vec<u8> {
+    fn into_longest(self) -> Vec<Place> {
         self.longest
     }
 
@@ -147,10 +209,10 @@ impl Walk {
             Pattern::Empty => {}
             // The same, but there may be no match where the row occurs.
             Pattern::Look(_) => self.is_match = false,
-            Pattern::Literal(bytes) => self.run.extend_from_slice(bytes)?,
-            // One byte is known only if the class has one.
-            Pattern::Class(class) => match class.single() {
-                Some(byte) => self.run.push(byte)?,
+            Pattern::Literal(bytes) => self.pass_bytes(bytes)?,
+            // Little is known of a byte if the class has many.
+            Pattern::Class(class) => match Place::of_class(class) {
+                Some(place) => self.run.push(place)?,
                 None => self.end(),
             },
             Pattern::Capture(sub) => self.pass(sub)?,
@@ -172,6 +234,14 @@ impl Walk {
     fn pass_all(&mut self, patterns: &[Pattern]) -> Result<(), AllocError> {
         for i in 0..patterns.len() {
             self.pass(&patterns[i])?;
+        }
+        Ok(())
+    }
+
+    /// Walks through these bytes.
+    fn pass_bytes(&mut self, bytes: &[u8]) -> Result<(), AllocError> {
+        for byte in bytes {
+            self.run.push(Place::of_byte(*byte))?;
         }
         Ok(())
     }
@@ -202,7 +272,7 @@ fn push_texts(
     }
 }
 
-/// Adds the texts of each of the patterns.
+/// Adds the texts of each of the patterns, until there are more than are sought.
 #[cycle(branches)]
 fn push_all(
     alloc: Global,
@@ -210,6 +280,9 @@ fn push_all(
     literals: &mut Vec<Literal>,
 ) -> Result<(), AllocError> {
     for i in 0..patterns.len() {
+        if literals.len() > MOST {
+            break;
+        }
         push_texts(alloc, &patterns[i], literals)?;
     }
     Ok(())
@@ -218,18 +291,24 @@ fn push_all(
 /// Returns whether texts are few, rare, and without the byte that ends a line.
 fn are_sought(literals: &[Literal], terminator: u8) -> bool {
     for literal in literals {
-        if !literal.is_rare() || literal.bytes.contains(&terminator) {
+        if !literal.is_rare() || literal.may_have(terminator) {
             return false;
         }
     }
     !literals.is_empty() && literals.len() <= MOST
 }
 
-/// Returns the set of the rarest byte of each text.
+/// Returns the set of the bytes of the rarest place of each text.
 fn rarest_of(literals: &[Literal]) -> ByteSet {
     let mut members = [false; 256];
     for literal in literals {
-        members[usize::from(literal.rarest)] = true;
+        if let Some(place) = literal.places.get(literal.rarest) {
+            for byte in 0..=u8::MAX {
+                if place.bytes.contains(byte) {
+                    members[usize::from(byte)] = true;
+                }
+            }
+        }
     }
     ByteSet::new(&members)
 }
@@ -265,4 +344,14 @@ fn rank(byte: u8) -> usize {
         }
     }
     FREQUENT.len()
+}
+
+/// Returns whether a class has a byte.
+pub fn has_byte(class: &ClassBytes, byte: u8) -> bool {
+    for range in class.ranges() {
+        if range.contains(byte) {
+            return true;
+        }
+    }
+    false
 }

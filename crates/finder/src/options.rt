@@ -12,7 +12,7 @@ pub struct Options {
     pub files: Vec<Vec<u8>>,
     /// Which files and directories are searched, by their names.
     pub globs: Globs,
-    /// The name of standard input, if it is another than the usual one.
+    /// The name of standard input, if it is not the usual one.
     pub label: Option<String>,
     /// What is printed between groups of lines, if anything is.
     pub separator: Option<Vec<u8>>,

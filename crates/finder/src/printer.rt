@@ -1,6 +1,7 @@
 //! What is printed: names, numbers, lines, and the marks around them.
 
 use crate::error::OutputError;
+use determinize_regex::Match;
 use std::alloc::Global;
 use std::io::{self, BufWriter, Write};
 
@@ -39,7 +40,7 @@ pub struct Head<'a> {
     pub pattern: Option<usize>,
     /// The sign: a colon, or a hyphen where no line is selected.
     pub sign: Sign,
-    /// The least width of the number and of the offset.
+    /// The least width of each of these numbers.
     pub width: usize,
 }
 
@@ -74,7 +75,10 @@ impl Color {
 impl Head<'_> {
     /// Returns whether anything is before the line.
     fn has_some(&self) -> bool {
-        self.name.is_some() || self.number.is_some() || self.offset.is_some()
+        self.name.is_some()
+            || self.number.is_some()
+            || self.offset.is_some()
+            || self.pattern.is_some()
     }
 }
 
@@ -105,22 +109,33 @@ impl<W: Write + Drop> Printer<W> {
     /// Prints a match as a line.
     pub fn matched_line(&mut self, head: &Head<'_>, line: &[u8]) -> Result<(), OutputError> {
         self.head(head, line.is_empty())?;
-        self.matched(line)?;
+        self.colored(Color::Match, line)?;
         self.end_line()
     }
 
-    /// Prints bytes of a line that are no match.
-    pub fn bytes(&mut self, bytes: &[u8]) -> Result<(), OutputError> {
-        Ok(self.out.write_all(bytes)?)
-    }
-
-    /// Prints a match, marked.
-    pub fn matched(&mut self, bytes: &[u8]) -> Result<(), OutputError> {
-        Ok(self.colored(Color::Match, bytes)?)
+    /// Prints a line with its matches marked.
+    pub fn marked_line(
+        &mut self,
+        head: &Head<'_>,
+        line: &[u8],
+        matches: &[Match],
+    ) -> Result<(), OutputError> {
+        self.head(head, line.is_empty())?;
+        let mut done = 0;
+        for found in matches {
+            if !found.is_empty() {
+                self.out
+                    .write_all(line.get(done..found.start).unwrap_or(&[]))?;
+                self.colored(Color::Match, found.bytes(line).unwrap_or(&[]))?;
+                done = found.end;
+            }
+        }
+        self.out.write_all(line.get(done..).unwrap_or(&[]))?;
+        self.end_line()
     }
 
     /// Ends a line.
-    pub fn end_line(&mut self) -> Result<(), OutputError> {
+    fn end_line(&mut self) -> Result<(), OutputError> {
         self.end_with(self.style.terminator)
     }
 
@@ -154,8 +169,8 @@ impl<W: Write + Drop> Printer<W> {
         self.end_with(b'\n')
     }
 
-    /// Prints what is before a line.
-    pub fn head(&mut self, head: &Head<'_>, is_empty: bool) -> Result<(), OutputError> {
+    /// Prints what is before a line, without a tab if the line is empty.
+    fn head(&mut self, head: &Head<'_>, is_empty: bool) -> Result<(), OutputError> {
         if let Some(name) = head.name {
             self.name_before(name, head.sign)?;
         }
