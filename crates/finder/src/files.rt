@@ -347,25 +347,19 @@ impl<'a, W: Write + Drop> Files<'a, W> {
     /// out, and is an error.
     fn list(&self, path: &str, id: FileId, tree: &mut Tree) -> io::Result<()> {
         tree.around.push(id)?;
-        let depth = tree.around.len();
         let mut paths = Vec::new(self.rt.alloc());
-        let result = self.push_paths(path, &mut paths);
-        paths.sort()?;
-        for _ in 0..paths.len() {
-            if let Some(path) = paths.pop() {
-                tree.pending.push(Entry { path, depth })?;
-            }
-        }
-        result
-    }
-
-    /// Adds the paths of the entries of a directory.
-    fn push_paths(&self, path: &str, paths: &mut Vec<String>) -> io::Result<()> {
         let mut result = Ok(());
         for entry in fs::read_dir(self.rt, path)? {
             match entry {
                 Ok(entry) => paths.push(String::from_str(self.rt.alloc(), entry.path().as_str())?)?,
                 Err(error) => result = Err(error),
+            }
+        }
+        paths.sort()?;
+        let depth = tree.around.len();
+        for _ in 0..paths.len() {
+            if let Some(path) = paths.pop() {
+                tree.pending.push(Entry { path, depth })?;
             }
         }
         result

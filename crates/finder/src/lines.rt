@@ -120,18 +120,8 @@ impl<'a, W: Write + Drop> Lines<'a, W> {
         size: Option<u64>,
         input: R,
     ) -> Result<Found, SearchError> {
-        let mut blocks = Blocks::new(self.alloc, input, self.settings.terminator)?;
-        self.search_blocks(name, size, &mut blocks)
-    }
-
-    /// Searches a text of which nothing is read yet.
-    fn search_blocks<R: Read + Drop>(
-        &mut self,
-        name: Option<&str>,
-        size: Option<u64>,
-        blocks: &mut Blocks<R>,
-    ) -> Result<Found, SearchError> {
         let settings = self.settings;
+        let mut blocks = Blocks::new(self.alloc, input, settings.terminator)?;
         self.printer.flush()?;
         let has_lines = blocks.advance()?;
         let is_binary = self.may_be_binary() && self.has_zero(blocks.first_bytes());
@@ -149,7 +139,7 @@ impl<'a, W: Write + Drop> Lines<'a, W> {
             printed: None,
         };
         if has_lines {
-            self.read_lines(&mut text, blocks)?;
+            self.read_lines(&mut text, &mut blocks)?;
         }
         Ok(Found {
             selected: text.selected,

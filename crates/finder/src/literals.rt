@@ -1,5 +1,5 @@
-//! Texts that the matches of patterns contain, by the form of the patterns. At each place a text has
-//! one byte or one of a few, as the two cases of a letter.
+//! Texts that the matches of patterns contain, by the form of the patterns. At each place of a text
+//! is one byte or one of a few, as the two cases of a letter.
 
 use crate::blocks::set_of;
 use byte_set::ByteSet;
