@@ -76,7 +76,7 @@ impl<'r> Engines<'r> {
         }
     }
 
-    /// Builds the whole DFA, if it has at most so many states.
+    /// Builds the whole DFA, if it has at most `limit` states.
     fn build(&mut self, limit: usize) {
         if let Ok(dfa) = Dfa::build(self.alloc, self.nfa, MatchKind::LeftmostFirst, limit) {
             self.dfa = Some(dfa);
@@ -144,7 +144,7 @@ fn are_local(patterns: &[Pattern], terminator: u8) -> bool {
 }
 
 /// Returns whether the matches of a pattern in several lines are those in each of them: none has
-/// the byte that ends a line, and no assertion tells that byte from the end of a text.
+/// the byte that ends a line, and no assertion distinguishes that byte from the end of a text.
 #[cycle(local)]
 fn is_local(pattern: &Pattern, terminator: u8) -> bool {
     match pattern {
