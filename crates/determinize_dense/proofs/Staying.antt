@@ -2,9 +2,9 @@
 -- Main statements: none-stays, stays-on, staying-all, staying-at, each-at.
 -- Used by: `leaving`, `all_leaving` and `scan`.
 -- Idea: a byte that is not in the set of a row leads the row to itself.
-use Rattle.determinize_dense.proofs.Common.{All, ap, arith, by_cases, cases_lt, get_or, get_or_from_slice_get, IsUnit, List}
+use Rattle.determinize_dense.proofs.Common.{All, arith, by_cases, cases_lt, get_or, get_or_from_slice_get, IsUnit, List}
 use Rattle.determinize_dense.proofs.Common.{Bool, false, length, refl, slice_get_within, Some, StaysOver, sym, Table, Text}
-use Rattle.determinize_dense.proofs.Common.{slice_get, units, [], ℕ, ◌+◌, ◌-◌, ◌<◌, ◌∙◌, ◌≡◌, ◌≤◌}
+use Rattle.determinize_dense.proofs.Common.{units, [], ℕ, ◌+◌, ◌-◌, ◌<◌, ◌∙◌, ◌≡◌, ◌≤◌}
 use Rattle.determinize_dense.proofs.Common.{cases_eq, get_or-replicate, replicate, suc, true, ◌∷◌}
 use Rattle.byte_set.specs.Sets.{HasNone, is_member}
 use Rattle.determinize_dense.proofs.Offsets.{same-offset}

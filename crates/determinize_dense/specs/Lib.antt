@@ -1,3 +1,4 @@
+pub mod Automaton
 pub mod Bytes
 pub mod Dfa
 pub mod Least

@@ -5,13 +5,14 @@
 //! serves any number of searches. The matches are those of `determinize_lazy::Lazy`.
 //!
 //! - `dfa`: the type, and its table. `build`: its construction, with `error`. `rows`: the rows
-//!   until they are in order. `search`: searches, with `scans`. `reading`: steps by hand, and
-//!   `walker` faster ones. `overlapping`: all patterns at each position. `bytes`: a DFA as bytes.
-//!   `minimize`: the fewest rows, by `partition`. `laws`: what a DFA lists where a text ends, that
-//!   no table which lists the same along all units has fewer rows, and that the number of states is
-//!   one.
+//!   until they are in order. `search`: searches, with `scans`. `automaton`: what a DFA has in
+//!   common with one in the bytes of a file, which `reading` gives. `walker`: faster steps.
+//!   `overlapping`: all patterns at each position. `bytes`: a DFA as bytes. `minimize`: the fewest
+//!   rows, by `partition`. `laws`: what a DFA lists where a text ends, that no table that lists the
+//!   same along all units has fewer rows, and that the number of states is one.
 #![tactic(auto)]
 
+pub mod automaton;
 mod build;
 pub mod bytes;
 pub mod dfa;
@@ -26,6 +27,7 @@ mod scans;
 mod search;
 pub mod walker;
 
+pub use crate::automaton::{Automaton, RowPatterns};
 pub use crate::dfa::Dfa;
 pub use crate::error::DfaError;
 pub use crate::overlapping::Overlapping;

@@ -1,23 +1,16 @@
-//! Reading a whole DFA: its rows, which row follows over a unit, and what each row lists.
-//!
-//! A [`RowId`] is the number of a row. Every call takes any id: one that is no row of the DFA, as
-//! one of a larger DFA may be, lists no patterns, and the dead row follows it.
+//! Reading a whole DFA in memory, as an [`Automaton`]: the numbers of its rows, which row follows
+//! over a unit, and what each row lists.
 
-ghost use Rattle.std.specs.Prelude.{◌≡◌, ◌-◌, ℕ, List, None, Some, decimal, length, nat_eq, slice_get, true};
+ghost use Rattle.std.specs.Prelude.{◌≡◌, ◌-◌, ℕ, List, Some, decimal, nat_eq, true};
 ghost use Rattle.std.specs.List.{range_with_len};
 ghost use Rattle.std.specs.Iterator.{YieldsFirst, item_count};
-ghost use Rattle.determinize_below.specs.Nfa.{IsAccepted};
-ghost use Rattle.determinize_below.specs.Search.{is_anchored};
-ghost use Rattle.determinize_engine.specs.Searches.{has_start};
-ghost use Rattle.determinize_state.specs.Value.{is_nonempty};
-ghost use Rattle.determinize_start.specs.StartKinds.{byte_before};
-ghost use Rattle.determinize_dense.specs.Dfa.{IsDfaOf};
+ghost use Rattle.determinize_dense.specs.Bytes.{stored_of};
 ghost use Rattle.determinize_dense.specs.Reading.{IsDead};
-ghost use Rattle.determinize_dense.specs.Table.{patterns_at, row_over, start_row};
+ghost use Rattle.determinize_dense.specs.Table.{patterns_at};
 
+use crate::automaton::Automaton;
 use crate::dfa::Dfa;
-use determinize_below::{AsNfa, Input, PatternID};
-use determinize_core::start::Config;
+use determinize_below::{AsNfa, PatternID};
 use std::alloc::{AllocError, Allocator};
 use std::fmt;
 use std::marker::Model;
@@ -121,64 +114,6 @@ impl Iterator for RowIds {
 }
 
 impl<R: AsNfa, A: Allocator + Copy> Dfa<R, A> {
-    /// Returns the row of the start state of a configuration: its anchored mode, and the byte
-    /// before the start. `Anchored::Pattern` has no start state and is not accepted.
-    pub fn start_state(&self, config: &Config) -> RowId
-        requires { has_start config.now.anchored ≡ true }
-        ensures value { result ≡ start_row self.now.nfa self.now.table
-            (is_anchored config.now.anchored) config.now.look_behind }
-        ensures means { IsDfaOf self.now.nfa self.now.kind self.now.table }
-        ensures dead { IsDead self.now.table 0 }
-        ensures accepted { IsAccepted self.now.nfa }
-    {
-        let is_anchored = config.get_anchored().is_anchored();
-        let offset = self.start_row(is_anchored, config.get_look_behind());
-        RowId(self.row_number(offset))
-    }
-
-    /// Returns the row of the start state of a search of an input that reads forward.
-    /// `Anchored::Pattern` has no start state and is not accepted.
-    pub fn start_state_forward(&self, input: &Input<'_>) -> RowId
-        requires { has_start input.now.anchored ≡ true }
-        ensures value { result ≡ start_row self.now.nfa self.now.table
-            (is_anchored input.now.anchored)
-            (byte_before input.now.haystack input.now.start) }
-        ensures means { IsDfaOf self.now.nfa self.now.kind self.now.table }
-        ensures dead { IsDead self.now.table 0 }
-        ensures accepted { IsAccepted self.now.nfa }
-    {
-        self.start_state(&Config::from_input_forward(input))
-    }
-
-    /// Returns the row after a row over a byte or, for `None`, over the end of input (EOI).
-    #[inline(always)]
-    pub(crate) fn next_row(&self, row: RowId, unit: Option<u8>) -> RowId
-        ensures { result ≡ row_over self.now.table row unit }
-    {
-        let columns = self.classes.alphabet_len();
-        let number = row.as_usize();
-        if number >= self.len() {
-            return RowId::DEAD;
-        }
-        RowId(self.row_number(self.row_over(number * columns, unit)))
-    }
-
-    /// Returns the row after a row over a byte.
-    #[inline(always)]
-    pub fn next_state(&self, row: RowId, byte: u8) -> RowId
-        ensures { result ≡ row_over self.now.table row (Some byte) }
-    {
-        self.next_row(row, Some(byte))
-    }
-
-    /// Returns the row after a row over the end of input (EOI).
-    #[inline(always)]
-    pub fn next_eoi_state(&self, row: RowId) -> RowId
-        ensures { result ≡ row_over self.now.table row None }
-    {
-        self.next_row(row, None)
-    }
-
     /// Returns the patterns that a row lists, most preferred first.
     ///
     /// Matches are delayed by one unit: these are the patterns with a match that ends before the
@@ -193,41 +128,47 @@ impl<R: AsNfa, A: Allocator + Copy> Dfa<R, A> {
             &[]
         }
     }
+}
 
-    /// Returns the number of patterns that a row lists.
-    pub fn match_len(&self, row: RowId) -> usize
-        ensures { result ≡ length (patterns_at self.now.table row) }
-    {
+impl<R: AsNfa, A: Allocator + Copy> Automaton for Dfa<R, A> {
+    ghost stored = { λ d. stored_of d };
+
+    ghost is_of = { λ d nfa. d.nfa ≡ nfa };
+
+    fn len(&self) -> usize {
+        self.patterns.len()
+    }
+
+    #[inline(always)]
+    fn first_row(&self, is_anchored: bool, look_behind: Option<u8>) -> RowId {
+        RowId(self.row_number(self.start_row(is_anchored, look_behind)))
+    }
+
+    #[inline(always)]
+    fn next_row(&self, row: RowId, unit: Option<u8>) -> RowId {
+        let columns = self.classes.alphabet_len();
+        let number = row.as_usize();
+        if number >= self.len() {
+            return RowId::DEAD;
+        }
+        RowId(self.row_number(self.row_over(number * columns, unit)))
+    }
+
+    #[inline(always)]
+    fn match_len(&self, row: RowId) -> usize {
         self.match_patterns(row).len()
     }
 
-    /// Returns the pattern at an index of the list of a row, or `None` if the list ends before.
-    pub fn match_pattern(&self, row: RowId, index: usize) -> Option<PatternID>
-        ensures { result ≡ slice_get (patterns_at self.now.table row) index }
-    {
+    #[inline(always)]
+    fn match_pattern(&self, row: RowId, index: usize) -> Option<PatternID> {
         self.match_patterns(row).get(index).copied()
     }
 
-    /// Returns whether a row lists a pattern.
     #[inline(always)]
-    pub fn is_match_state(&self, row: RowId) -> bool
-        ensures { result ≡ is_nonempty (patterns_at self.now.table row) }
+    fn is_dead_state(&self, row: RowId) -> bool
+        ensures value { result ≡ nat_eq row 0 }
+        ensures dead { result ≡ true → IsDead self.now.table row }
     {
-        !self.match_patterns(row).is_empty()
-    }
-
-    /// Returns whether a row is that of the dead state, which no match follows.
-    #[inline(always)]
-    pub fn is_dead_state(&self, row: RowId) -> bool
-        ensures { result ≡ nat_eq row 0 }
-    {
-        row == RowId::DEAD
-    }
-
-    /// Returns an iterator over all rows, from that of the dead state on.
-    pub fn rows(&self) -> RowIds
-        ensures { result ≡ range_with_len 0 (length self.now.table.patterns) }
-    {
-        RowIds::new(self.len())
+        row.as_usize() < self.patterns.len() && row == RowId::DEAD
     }
 }

@@ -1,10 +1,7 @@
 //! The graph of a whole DFA.
 
 use crate::targets::{NO_BYTE, Targets, UNITS, write_edges, write_head};
-use determinize_below::{Anchored, AsNfa, PatternID};
-use determinize_core::start::Config;
-use determinize_dense::{Dfa, RowId};
-use std::alloc::{Allocator, Global};
+use determinize_dense::{Automaton, RowId, RowPatterns};
 use std::fmt;
 
 /// The graph of a whole DFA, which `Display` writes.
@@ -15,18 +12,18 @@ use std::fmt;
 /// depends on the byte behind the start, their labels have the bytes. The dead row and the edges to
 /// it are left out.
 #[derive(Clone, Copy)]
-pub struct DfaGraph<'d, R: AsNfa, A: Allocator = Global> {
-    dfa: &'d Dfa<R, A>,
+pub struct DfaGraph<'d, D: Automaton> {
+    dfa: &'d D,
 }
 
-impl<'d, R: AsNfa, A: Allocator> DfaGraph<'d, R, A> {
+impl<'d, D: Automaton> DfaGraph<'d, D> {
     /// Returns the graph of a DFA.
-    pub fn new(dfa: &'d Dfa<R, A>) -> DfaGraph<'d, R, A> {
+    pub fn new(dfa: &'d D) -> DfaGraph<'d, D> {
         DfaGraph { dfa }
     }
 }
 
-impl<'d, R: AsNfa, A: Allocator + Copy> fmt::Display for DfaGraph<'d, R, A> {
+impl<'d, D: Automaton> fmt::Display for DfaGraph<'d, D> {
     fn fmt<W: fmt::Write>(&self, f: &mut fmt::Formatter<W>) -> fmt::Result {
         write_head(f, "dfa")?;
         write_starts(f, self.dfa, true)?;
@@ -39,7 +36,7 @@ impl<'d, R: AsNfa, A: Allocator + Copy> fmt::Display for DfaGraph<'d, R, A> {
 }
 
 /// Returns the number of a row, or `None` for the dead row.
-fn number<R: AsNfa, A: Allocator + Copy>(dfa: &Dfa<R, A>, row: RowId) -> Option<usize> {
+fn number<D: Automaton>(dfa: &D, row: RowId) -> Option<usize> {
     if dfa.is_dead_state(row) {
         None
     } else {
@@ -48,7 +45,7 @@ fn number<R: AsNfa, A: Allocator + Copy>(dfa: &Dfa<R, A>, row: RowId) -> Option<
 }
 
 /// Returns the rows after a row.
-fn targets<R: AsNfa, A: Allocator + Copy>(dfa: &Dfa<R, A>, row: RowId) -> Targets {
+fn targets<D: Automaton>(dfa: &D, row: RowId) -> Targets {
     let mut targets = [None; UNITS];
     for byte in 0..=u8::MAX {
         targets[usize::from(byte)] = number(dfa, dfa.next_state(row, byte));
@@ -57,34 +54,20 @@ fn targets<R: AsNfa, A: Allocator + Copy>(dfa: &Dfa<R, A>, row: RowId) -> Target
     targets
 }
 
-/// Returns the row where anchored searches start, or unanchored ones, behind a byte or nothing.
-pub(crate) fn start<R: AsNfa, A: Allocator + Copy>(
-    dfa: &Dfa<R, A>,
-    is_anchored: bool,
-    look_behind: Option<u8>,
-) -> RowId {
-    let config = Config::new().look_behind(look_behind);
-    if is_anchored {
-        dfa.start_state(&config.anchored(Anchored::Yes))
-    } else {
-        dfa.start_state(&config.anchored(Anchored::No))
-    }
-}
-
 /// Returns the rows where searches start, behind each byte and behind nothing.
-fn starts<R: AsNfa, A: Allocator + Copy>(dfa: &Dfa<R, A>, is_anchored: bool) -> Targets {
+fn starts<D: Automaton>(dfa: &D, is_anchored: bool) -> Targets {
     let mut targets = [None; UNITS];
     for byte in 0..=u8::MAX {
-        targets[usize::from(byte)] = number(dfa, start(dfa, is_anchored, Some(byte)));
+        targets[usize::from(byte)] = number(dfa, dfa.first_row(is_anchored, Some(byte)));
     }
-    targets[NO_BYTE] = number(dfa, start(dfa, is_anchored, None));
+    targets[NO_BYTE] = number(dfa, dfa.first_row(is_anchored, None));
     targets
 }
 
 /// Writes the edges to the rows where searches start, from the name of the anchored mode.
-pub(crate) fn write_starts<R: AsNfa, A: Allocator + Copy, W: fmt::Write>(
+pub(crate) fn write_starts<D: Automaton, W: fmt::Write>(
     f: &mut fmt::Formatter<W>,
-    dfa: &Dfa<R, A>,
+    dfa: &D,
     is_anchored: bool,
 ) -> fmt::Result {
     let name = if is_anchored {
@@ -105,32 +88,32 @@ pub(crate) fn write_starts<R: AsNfa, A: Allocator + Copy, W: fmt::Write>(
 }
 
 /// Writes a row and the edges that leave it, unless it is the dead row.
-pub(crate) fn write_row<R: AsNfa, A: Allocator + Copy, W: fmt::Write>(
+pub(crate) fn write_row<D: Automaton, W: fmt::Write>(
     f: &mut fmt::Formatter<W>,
-    dfa: &Dfa<R, A>,
+    dfa: &D,
     row: RowId,
 ) -> fmt::Result {
     if dfa.is_dead_state(row) {
         return Ok(());
     }
-    write_node(f, row, dfa.match_patterns(row))?;
+    write_node(f, row, RowPatterns::new(dfa, row))?;
     write_edges(f, &row, &targets(dfa, row), "", "EOI")
 }
 
 /// Writes the node of a row, with the patterns that it lists.
-fn write_node<W: fmt::Write>(
+fn write_node<D: Automaton, W: fmt::Write>(
     f: &mut fmt::Formatter<W>,
     row: RowId,
-    patterns: &[PatternID],
+    mut patterns: RowPatterns<'_, D>,
 ) -> fmt::Result {
-    let Some((first, others)) = patterns.split_first() else {
+    let Some(first) = patterns.next() else {
         return write!(f, "  {row};\n");
     };
     write!(
         f,
         "  {row} [shape=doublecircle, label=\"{row}\\nmatch {first}"
     )?;
-    for pattern in others {
+    for pattern in patterns {
         write!(f, ", {pattern}")?;
     }
     write!(f, "\"];\n")

@@ -3,31 +3,31 @@
 ghost use Rattle.std.specs.Prelude.{◌≡◌, true};
 ghost use Rattle.determinize_engine.specs.Searches.{has_start};
 
-use crate::dfa::{start, write_row, write_starts};
+use crate::dfa::{write_row, write_starts};
 use crate::targets::write_head;
-use determinize_below::{Anchored, AsNfa};
-use determinize_dense::{Dfa, RowId};
+use determinize_below::Anchored;
+use determinize_dense::{Automaton, RowId};
 use std::alloc::{AllocError, Allocator, Global};
 use std::fmt;
 
 /// The graph of the rows that anchored searches enter, or unanchored ones, which `Display` writes
 /// as a `DfaGraph` does.
 #[derive(Drop)]
-pub struct SearchGraph<'d, R: AsNfa, A: Allocator = Global> {
-    dfa: &'d Dfa<R, A>,
+pub struct SearchGraph<'d, D: Automaton, A: Allocator = Global> {
+    dfa: &'d D,
     is_anchored: bool,
     /// Whether searches enter each row.
     entered: Vec<bool, A>,
 }
 
-impl<'d, R: AsNfa, A: Allocator + Copy> SearchGraph<'d, R, A> {
+impl<'d, D: Automaton, A: Allocator + Copy> SearchGraph<'d, D, A> {
     /// Returns the graph of the rows that follow the starts of an anchored mode.
     /// `Anchored::Pattern` has no start state and is not accepted.
     pub fn new(
         alloc: A,
-        dfa: &'d Dfa<R, A>,
+        dfa: &'d D,
         anchored: Anchored,
-    ) -> Result<SearchGraph<'d, R, A>, AllocError>
+    ) -> Result<SearchGraph<'d, D, A>, AllocError>
         requires { has_start anchored ≡ true }
     {
         let is_anchored = anchored.is_anchored();
@@ -40,7 +40,7 @@ impl<'d, R: AsNfa, A: Allocator + Copy> SearchGraph<'d, R, A> {
     }
 }
 
-impl<'d, R: AsNfa, A: Allocator + Copy> fmt::Display for SearchGraph<'d, R, A> {
+impl<'d, D: Automaton, A: Allocator> fmt::Display for SearchGraph<'d, D, A> {
     fn fmt<W: fmt::Write>(&self, f: &mut fmt::Formatter<W>) -> fmt::Result {
         write_head(f, "dfa")?;
         write_starts(f, self.dfa, self.is_anchored)?;
@@ -69,20 +69,17 @@ fn enter<A: Allocator>(
 }
 
 /// Returns whether searches enter each row.
-fn entered<R: AsNfa, A: Allocator + Copy>(
+fn entered<D: Automaton, A: Allocator + Copy>(
     alloc: A,
-    dfa: &Dfa<R, A>,
+    dfa: &D,
     is_anchored: bool,
 ) -> Result<Vec<bool, A>, AllocError> {
     let mut entered = vec![in alloc; false; dfa.len()]?;
     let mut left = Vec::new(alloc);
-    enter(
-        entered.as_mut_slice(),
-        &mut left,
-        start(dfa, is_anchored, None),
-    )?;
+    let first = dfa.first_row(is_anchored, None);
+    enter(entered.as_mut_slice(), &mut left, first)?;
     for byte in 0..=u8::MAX {
-        let row = start(dfa, is_anchored, Some(byte));
+        let row = dfa.first_row(is_anchored, Some(byte));
         enter(entered.as_mut_slice(), &mut left, row)?;
     }
     // Each row is added to the list once.
@@ -90,12 +87,9 @@ fn entered<R: AsNfa, A: Allocator + Copy>(
         let Some(row) = left.pop() else {
             break;
         };
-        for byte in dfa.byte_classes().representatives() {
-            enter(
-                entered.as_mut_slice(),
-                &mut left,
-                dfa.next_state(row, *byte),
-            )?;
+        for byte in 0..=u8::MAX {
+            let next = dfa.next_state(row, byte);
+            enter(entered.as_mut_slice(), &mut left, next)?;
         }
         enter(entered.as_mut_slice(), &mut left, dfa.next_eoi_state(row))?;
     }

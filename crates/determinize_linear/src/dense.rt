@@ -38,7 +38,7 @@ use crate::row_marks::RowMarks;
 use crate::starts::{begin_alike, start_at};
 use crate::tries::{Counter, Tries};
 use determinize_below::{AsNfa, HalfMatch, Input, Match, NFA};
-use determinize_dense::{Dfa, RowId, Walker};
+use determinize_dense::{Automaton, Dfa, RowId, Walker};
 use determinize_engine::text::Text;
 use std::alloc::{AllocError, Allocator, Global};
 use std::convert::Infallible;

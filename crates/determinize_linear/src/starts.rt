@@ -42,7 +42,7 @@ fn row_behind<R: AsNfa, M: Allocator + Copy>(dfa: &Dfa<R, M>, behind: Option<u8>
     ensures unit { IsUnit behind }
 {
     let start = Config::new().anchored(Anchored::Yes).look_behind(behind);
-    dfa.start_state(&start).as_usize()
+    dfa.walker(&start).row().as_usize()
 }
 
 /// Returns `true` only if anchored walks from all positions of a text begin in one row. For a text

@@ -8,8 +8,6 @@ use Rattle.determinize_core.proofs.Common.{slice_get, slice_index, Some, subst, 
 use Rattle.determinize_core.proofs.Common.{ℕ, ◌*◌, ◌+◌, ◌<◌, ◌∙◌, ◌∷◌, ◌≡◌, ◌≤◌}
 use Rattle.std.specs.Option.{option_map, option_or}
 use Rattle.std.specs.Prelude.{All, cond, Decides, drop, take}
-use Rattle.std.proofs.lemmas.List.{drop_all, drop_more}
-use Rattle.std.proofs.lemmas.Option.{get_or_from_slice_get, slice_get_within}
 use Rattle.std.proofs.lemmas.List.Elements.{All-drop, All-head, All-tail, All-take}
 use Rattle.determinize_below.specs.Nfa.{IsAccepted}
 use Rattle.determinize_below.specs.Search.{Asked, is_anchored, is_done}
@@ -20,7 +18,6 @@ use Rattle.determinize_core.proofs.Common.{Bool}
 use Rattle.determinize_core.specs.Chain.{chain}
 use Rattle.determinize_dense.proofs.Along.{along_text, last_listed-dead, last_listed-done, last_listed-more, start_is}
 use Rattle.ordered_reach.proofs.lists.Pieces.{option_or-assoc}
-use Rattle.determinize_dense.specs.Dfa.{start_in}
 use Rattle.determinize_dense.specs.Table.{start_row}
 use Rattle.determinize_engine.proofs.TextUnits.{text_units}
 use Rattle.determinize_engine.specs.Searches.{in_haystack, last_in, start_for, text_of}
@@ -32,7 +29,8 @@ use Rattle.determinize_core.specs.Walk.{last_listed}
 use Rattle.determinize_dense.specs.Bytes.{IsWhole, Stored}
 use Rattle.determinize_dense.specs.Reading.{IsDead, lists_along}
 use Rattle.determinize_dense.specs.Table.{column_of, patterns_at, row_after, row_over, Table}
-use Rattle.determinize_stored.specs.Reading.{HasDeadRow, IsStoredOf, first_row, last_along, last_found}
+use Rattle.determinize_dense.specs.Automaton.{first_row, IsStoredOf}
+use Rattle.determinize_stored.specs.Reading.{HasDeadRow, last_along, last_found}
 
 -- a column is one of a row
 pub column-below : (s : Stored) → IsWhole s → (u : Option ℕ) → IsUnit u → column_of s.table u < s.table.class_count + 1

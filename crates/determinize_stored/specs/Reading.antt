@@ -1,24 +1,17 @@
 -- What a search by a table finds.
-use Rattle.std.specs.Prelude.{◌≡◌, ◌<◌, ◌+◌, ℕ, [], All, Bool, cond, None, Option, option_map}
-use Rattle.std.specs.Prelude.{slice_index, take, true}
+use Rattle.std.specs.Prelude.{◌≡◌, ◌<◌, ◌+◌, [], All, Bool, cond, None, Option, option_map}
+use Rattle.std.specs.Prelude.{take, true}
 use Rattle.determinize_below.specs.Nfa.{IsAccepted}
 use Rattle.determinize_below.specs.Search.{Asked, is_anchored, is_done}
 use Rattle.determinize_below.specs.Semantics.{Nfa, Text}
 use Rattle.determinize_below.specs.declared.search.HalfMatch.{HalfMatch}
 use Rattle.determinize_core.specs.Chain.{units}
 use Rattle.determinize_core.specs.Walk.{last_listed}
-use Rattle.determinize_start.specs.StartKinds.{start_kind_of}
-use Rattle.determinize_start.specs.StartSlots.{slot_number, slot_of}
 use Rattle.determinize_engine.specs.Searches.{has_start, in_haystack, last_in, text_of}
+use Rattle.determinize_dense.specs.Automaton.{IsStoredOf, first_row}
 use Rattle.determinize_dense.specs.Bytes.{Stored}
-use Rattle.determinize_dense.specs.Dfa.{IsDfaOf}
 use Rattle.determinize_dense.specs.Reading.{lists_along}
 use Rattle.determinize_dense.specs.Table.{Table, patterns_at}
-
--- the row of a start behind a byte or behind nothing
-abbrev pub first_row : Stored → Bool → Option ℕ → ℕ
-first_row s anchored p = slice_index s.table.starts
-    (slot_number (slot_of anchored (start_kind_of s.terminator p)))
 
 -- the first pattern of the last row along a text that lists one, and the number of bytes before
 -- the unit over which the row is entered
@@ -35,12 +28,6 @@ last_found s asked = cond (is_done asked) None (option_map (in_haystack s.revers
 pub record HasDeadRow (d : Table) : Type 0 where
   pub lists : patterns_at d 0 ≡ []
   pub stays : All (λ r. r ≡ 0) (take (d.class_count + 1) d.next)
-
--- what is stored is of a DFA of this NFA
-pub record IsStoredOf (nfa : Nfa) (s : Stored) : Type 0 where
-  pub means : IsDfaOf nfa s.kind s.table
-  pub reverse : s.reverse ≡ nfa.reverse
-  pub terminator : s.terminator ≡ nfa.terminator
 
 -- a search of what is stored of a DFA finds the last match of the walk
 abbrev pub FindsAll : Type 0

@@ -8,6 +8,7 @@ ghost use Rattle.determinize_stored.specs.Reading.{last_along, last_found};
 
 use crate::stored::StoredDfa;
 use determinize_below::{HalfMatch, Input};
+use determinize_dense::Automaton;
 use determinize_engine::text::{Text, in_haystack};
 
 impl<'b> StoredDfa<'b> {

@@ -1,26 +1,22 @@
 //! The type of a stored DFA, and how its rows are read.
 //!
-//! Rows are read as those of a `Dfa` are, and every call takes any id: one that is no row lists no
-//! patterns, and row 0 follows it.
+//! A stored DFA is an [`Automaton`]: it is stepped, drawn and asked for its lists as a `Dfa` is.
 
-ghost use Rattle.std.specs.Prelude.{All, Decides, ◌≡◌, ◌≤◌, IfOk, IsOkAnd, Some, None, length, slice_get, true};
-ghost use Rattle.std.specs.List.{range_with_len};
-ghost use Rattle.determinize_below.specs.Search.{is_anchored};
-ghost use Rattle.determinize_state.specs.Value.{is_nonempty};
-ghost use Rattle.determinize_start.specs.StartKinds.{byte_before};
-ghost use Rattle.determinize_engine.specs.Searches.{has_start};
+ghost use Rattle.std.specs.Prelude.{All, Decides, ◌≡◌, ◌≤◌, IfOk, IsOkAnd, length, true};
+ghost use Rattle.determinize_below.specs.Nfa.{IsAccepted};
+ghost use Rattle.determinize_dense.specs.Automaton.{IsStoredOf};
 ghost use Rattle.determinize_dense.specs.Bytes.{IsWhole, Stored, file_of};
 ghost use Rattle.determinize_dense.specs.Reading.{IsDead};
-ghost use Rattle.determinize_dense.specs.Table.{column_of, patterns_at, row_over};
+ghost use Rattle.determinize_dense.specs.Table.{column_of, patterns_at};
 ghost use Rattle.determinize_below.specs.declared.primitives.TheConstants.{MAX_ID};
-ghost use Rattle.determinize_stored.specs.Reading.{HasDeadRow, first_row};
+ghost use Rattle.determinize_stored.specs.Reading.{HasDeadRow};
 
 use crate::error::{FormatError, FormatErrorKind};
 use crate::format::{Head, Parts};
 use crate::words::Words;
-use determinize_below::{Input, MatchKind, PatternID};
-use determinize_core::start::{Config, StartSlot, start_kind_of};
-use determinize_dense::{RowId, RowIds};
+use determinize_below::{MatchKind, PatternID};
+use determinize_core::start::{StartSlot, start_kind_of};
+use determinize_dense::{Automaton, RowId};
 use std::fmt;
 use std::marker::Model;
 
@@ -94,36 +90,6 @@ impl<'b> StoredDfa<'b> {
         self.head.rows
     }
 
-    /// Returns the row of a start behind a byte, or behind nothing.
-    pub(crate) fn first_row(&self, is_anchored: bool, look_behind: Option<u8>) -> RowId
-        ensures { result ≡ first_row self.now is_anchored look_behind }
-    {
-        let kind = start_kind_of(self.head.line_terminator, look_behind);
-        let slot = StartSlot { is_anchored, kind };
-        RowId::new(self.parts.starts.get(slot.as_usize()) as usize)
-    }
-
-    /// Returns the row of the start state of a configuration: its anchored mode, and the byte
-    /// behind the start. `Anchored::Pattern` has no start state and is not accepted.
-    pub fn start_state(&self, config: &Config) -> RowId
-        requires { has_start config.now.anchored ≡ true }
-        ensures { result ≡ first_row self.now (is_anchored config.now.anchored)
-            config.now.look_behind }
-    {
-        let is_anchored = config.get_anchored().is_anchored();
-        self.first_row(is_anchored, config.get_look_behind())
-    }
-
-    /// Returns the row of the start state of a search of an input that reads forward.
-    /// `Anchored::Pattern` has no start state and is not accepted.
-    pub fn start_state_forward(&self, input: &Input<'_>) -> RowId
-        requires { has_start input.now.anchored ≡ true }
-        ensures { result ≡ first_row self.now (is_anchored input.now.anchored)
-            (byte_before input.now.haystack input.now.start) }
-    {
-        self.start_state(&Config::from_input_forward(input))
-    }
-
     /// Returns the column of a unit.
     #[inline(always)]
     fn column(&self, unit: Option<u8>) -> usize
@@ -134,35 +100,6 @@ impl<'b> StoredDfa<'b> {
             Some(byte) => self.parts.classes.get(usize::from(byte)) as usize,
             None => self.head.class_count,
         }
-    }
-
-    /// Returns the row after a row over a byte or, for `None`, over the end of input (EOI).
-    #[inline(always)]
-    pub(crate) fn next_row(&self, row: RowId, unit: Option<u8>) -> RowId
-        ensures { result ≡ row_over self.now.table row unit }
-    {
-        let row = row.as_usize();
-        if row >= self.head.rows {
-            return RowId::DEAD;
-        }
-        let entry = row * (self.head.class_count + 1) + self.column(unit);
-        RowId::new(self.parts.next.get(entry) as usize)
-    }
-
-    /// Returns the row after a row over a byte.
-    #[inline(always)]
-    pub fn next_state(&self, row: RowId, byte: u8) -> RowId
-        ensures { result ≡ row_over self.now.table row (Some byte) }
-    {
-        self.next_row(row, Some(byte))
-    }
-
-    /// Returns the row after a row over the end of input (EOI).
-    #[inline(always)]
-    pub fn next_eoi_state(&self, row: RowId) -> RowId
-        ensures { result ≡ row_over self.now.table row None }
-    {
-        self.next_row(row, None)
     }
 
     /// Returns the patterns that a row lists.
@@ -178,19 +115,40 @@ impl<'b> StoredDfa<'b> {
             self.parts.patterns.range(0, 0)
         }
     }
+}
 
-    /// Returns the number of patterns that a row lists.
-    pub fn match_len(&self, row: RowId) -> usize
-        ensures { result ≡ length (patterns_at self.now.table row) }
-    {
+impl<'b> Automaton for StoredDfa<'b> {
+    ghost stored = { λ s. s };
+
+    ghost is_of = { λ s nfa. IsAccepted nfa × IsStoredOf nfa s };
+
+    fn len(&self) -> usize {
+        self.head.rows
+    }
+
+    fn first_row(&self, is_anchored: bool, look_behind: Option<u8>) -> RowId {
+        let kind = start_kind_of(self.head.line_terminator, look_behind);
+        let slot = StartSlot { is_anchored, kind };
+        RowId::new(self.parts.starts.get(slot.as_usize()) as usize)
+    }
+
+    #[inline(always)]
+    fn next_row(&self, row: RowId, unit: Option<u8>) -> RowId {
+        let row = row.as_usize();
+        if row >= self.head.rows {
+            return RowId::DEAD;
+        }
+        let entry = row * (self.head.class_count + 1) + self.column(unit);
+        RowId::new(self.parts.next.get(entry) as usize)
+    }
+
+    #[inline(always)]
+    fn match_len(&self, row: RowId) -> usize {
         self.list(row).len()
     }
 
-    /// Returns the pattern at an index of the list of a row, or `None` if the list ends before.
     #[inline(always)]
-    pub fn match_pattern(&self, row: RowId, index: usize) -> Option<PatternID>
-        ensures { result ≡ slice_get (patterns_at self.now.table row) index }
-    {
+    fn match_pattern(&self, row: RowId, index: usize) -> Option<PatternID> {
         let list = self.list(row);
         if index >= list.len() {
             return None;
@@ -198,29 +156,14 @@ impl<'b> StoredDfa<'b> {
         Some(PatternID::must(list.get(index) as usize))
     }
 
-    /// Returns whether a row lists a pattern.
-    #[inline(always)]
-    pub fn is_match_state(&self, row: RowId) -> bool
-        ensures { result ≡ is_nonempty (patterns_at self.now.table row) }
-    {
-        self.match_len(row) > 0
-    }
-
     /// Returns whether a row is row 0 and no match follows it: it lists no pattern, and row 0
     /// follows it over each unit. It is in the tests of what a `Dfa` wrote.
     #[inline(always)]
-    pub fn is_dead_state(&self, row: RowId) -> bool
+    fn is_dead_state(&self, row: RowId) -> bool
         ensures value { Decides result ((row ≡ 0) × HasDeadRow self.now.table) }
         ensures dead { result ≡ true → IsDead self.now.table row }
     {
         self.has_dead_row && row == RowId::DEAD
-    }
-
-    /// Returns an iterator over all rows, from row 0 on.
-    pub fn rows(&self) -> RowIds
-        ensures { result ≡ range_with_len 0 (length self.now.table.patterns) }
-    {
-        RowIds::new(self.len())
     }
 }
 

@@ -5,9 +5,9 @@ ghost use Rattle.determinize_below.specs.Semantics.{between};
 ghost use Rattle.determinize_below.specs.declared.search.MatchKind.TheVariants as kinds;
 ghost use Rattle.determinize_core.specs.Walk.{ListsAccepted};
 
-use determinize_below::{Anchored, AsNfa, HalfMatch, NFA, PatternID};
+use determinize_below::{Anchored, AsNfa, HalfMatch, PatternID};
 use determinize_core::start::Config;
-use determinize_dense::Dfa;
+use determinize_dense::{Automaton, Dfa, Overlapping};
 use std::alloc::{AllocError, Allocator, Global};
 
 /// Returns the patterns that match a whole text, most preferred first.
@@ -26,19 +26,18 @@ pub fn patterns_of<'d, R: AsNfa, A: Allocator + Copy>(
     dfa.match_patterns(dfa.next_eoi_state(row))
 }
 
-/// Returns the ends of all matches in a haystack, with their patterns, wherever they begin.
-pub fn all_ends(
+/// Returns the ends of all matches in a haystack, with their patterns, wherever they begin: by a
+/// DFA in memory, or one in the bytes of a file.
+pub fn all_ends<D: Automaton>(
     alloc: Global,
-    dfa: &Dfa<&NFA>,
+    dfa: &D,
     haystack: &[u8],
 ) -> Result<Vec<HalfMatch>, AllocError> {
     let mut ends = Vec::new(alloc);
-    for (offset, patterns) in dfa
-        .overlapping(Anchored::No, None, haystack, None)
-        .enumerate()
-    {
+    let lists = Overlapping::new(dfa, Anchored::No, None, haystack, None);
+    for (offset, patterns) in lists.enumerate() {
         for pattern in patterns {
-            ends.push(HalfMatch::new(*pattern, offset))?;
+            ends.push(HalfMatch::new(pattern, offset))?;
         }
     }
     Ok(ends)

@@ -4,7 +4,7 @@
 use crate::dfa::smallest;
 use determinize_below::{Anchored, MatchKind, NFA, PatternID};
 use determinize_core::start::Config as Start;
-use determinize_dense::{Dfa, DfaError};
+use determinize_dense::{Automaton, Dfa, DfaError};
 use determinize_draw::DfaGraph;
 use determinize_pattern::{CompileError, Config, Pattern, compile};
 use determinize_stored::{FormatError, StoredDfa};

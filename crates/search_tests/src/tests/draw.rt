@@ -1,9 +1,10 @@
-//! The texts of two graphs, written by hand.
+//! The texts of two graphs, written by hand. That of a DFA is also that of its bytes.
 
 use crate::tests::dense::nfa;
 use crate::tests::expect_text;
 use determinize_below::{MatchKind, StateID};
 use determinize_draw::{DfaGraph, NfaGraph};
+use determinize_stored::StoredDfa;
 use determinize_uses::dfa::smallest;
 
 /// The states of `\b[0-9]`, with one for `[a-z]` that no match follows.
@@ -46,9 +47,9 @@ fn graphs(rt: HostRuntime) {
     let nfa = nfa(&rt, DIGIT, StateID::ZERO);
     expect_text(&rt, &NfaGraph::new(&nfa), NFA_TEXT);
     let dfa = smallest(rt.alloc(), &nfa, MatchKind::All, 100);
-    expect_text(
-        &rt,
-        &DfaGraph::new(&dfa.expect(&rt, "few states")),
-        DFA_TEXT,
-    );
+    let dfa = dfa.expect(&rt, "few states");
+    expect_text(&rt, &DfaGraph::new(&dfa), DFA_TEXT);
+    let bytes = dfa.to_bytes(rt.alloc()).expect(&rt, "memory");
+    let stored = StoredDfa::from_bytes(&bytes).expect(&rt, "a DFA");
+    expect_text(&rt, &DfaGraph::new(&stored), DFA_TEXT);
 }

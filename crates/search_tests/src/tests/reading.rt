@@ -6,7 +6,7 @@ ghost use Rattle.determinize_below.specs.declared.search.MatchKind.TheVariants a
 use crate::tests::dense::{TOKENS, WORD, dfa, expect_patterns, least, nfa};
 use crate::tests::{expect_debug, expect_text, same};
 use determinize_below::{HalfMatch, MatchKind, NFA, PatternID, StateID};
-use determinize_dense::{Dfa, RowId};
+use determinize_dense::{Automaton, Dfa, RowId};
 use determinize_uses::steps::{all_ends, patterns_of};
 use std::process::Abort;
 

@@ -3,7 +3,8 @@
 use crate::tests::dense::{dfa, nfa};
 use crate::tests::dfa::expect_end;
 use crate::tests::{holds, same};
-use determinize_below::{Input, MatchKind, StateID};
+use determinize_below::{Anchored, Input, MatchKind, StateID};
+use determinize_dense::{Automaton, Overlapping};
 use determinize_stored::{FormatError, FormatErrorKind, StoredDfa};
 use std::mem;
 use std::process::Abort;
@@ -96,6 +97,17 @@ fn a_file_is_searched(rt: HostRuntime) {
     same(&rt, dfa.match_len(last), 1);
     holds(&rt, dfa.is_match_state(last) && !dfa.is_dead_state(last));
     holds(&rt, dfa.is_dead_state(dfa.next_state(last, b'a')));
+}
+
+/// The match of `a` in `ab` ends at position 1.
+#[test]
+fn a_file_lists_matches(rt: HostRuntime) {
+    let bytes = file(&rt);
+    let dfa = StoredDfa::from_bytes(&bytes).expect(&rt, "a DFA");
+    let lists = Overlapping::new(&dfa, Anchored::Yes, None, b"ab", None);
+    for (at, mut patterns) in lists.enumerate() {
+        same(&rt, patterns.next().is_some(), at == 1);
+    }
 }
 
 #[test]

@@ -7,6 +7,6 @@ returns-then-self-len-clause-steps g c =
     let all : length (units c.self.inside.text) ≤ c.self.inside.read =
     all_read c.self.inside.text c.if-self-len.true c.len.ensures.value in
     let done : c.args.self.now ≡ [] =
-    sym c.self.view_is ∙ lists_along-done c.self.inside.dfa.now.table c.self.inside.row c.self.inside.read
-    (units c.self.inside.text) all in
+    sym c.self.view_is ∙ lists_along-done (g.D.Automaton.stored c.self.inside.automaton.now).table c.self.inside.row
+    c.self.inside.read (units c.self.inside.text) all in
     (done, done)

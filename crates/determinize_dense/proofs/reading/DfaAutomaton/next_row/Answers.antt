@@ -1,7 +1,7 @@
 use Rattle.determinize_dense.proofs.Common.{arith, IsRowAt, refl, row_over, sym, ◌*◌, ◌+◌, ◌∙◌, ◌≡◌}
 use Rattle.determinize_dense.proofs.Offsets.{same-offset}
-use Rattle.determinize_dense.proofs.dfa.Dfa.next_row.Goals.{After-row_over}
-use Rattle.determinize_dense.proofs.dfa.Dfa.next_row.Goals as goal
+use Rattle.determinize_dense.proofs.reading.DfaAutomaton.next_row.Goals.{After-row_over}
+use Rattle.determinize_dense.proofs.reading.DfaAutomaton.next_row.Goals as goal
 
 -- the offset is that of the row
 at-row : (g : _) (c : After-row_over g) → IsRowAt c.args.self.now.table

@@ -3,7 +3,7 @@ use Rattle.std.specs.Prelude.{Decides}
 use Rattle.determinize_dense.specs.Bytes.{IsWhole, Stored}
 use Rattle.determinize_stored.proofs.Paths.{dead_if}
 use Rattle.determinize_stored.specs.Reading.{HasDeadRow}
-use Rattle.determinize_stored.proofs.stored.StoredDfa.is_dead_state.Goals as goal
+use Rattle.determinize_stored.proofs.stored.StoredDfaAutomaton.is_dead_state.Goals as goal
 
 pub returns-then-self-clause-dead : goal.returns-then-self-clause-dead
 returns-then-self-clause-dead c =
