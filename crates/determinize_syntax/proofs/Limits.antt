@@ -21,12 +21,12 @@ use Rattle.std.proofs.lemmas.Map.Lookups.{exact_bytes}
 use Rattle.std.proofs.lemmas.Map.Views.{All-insert_key}
 use Rattle.determinize_syntax.specs.Private.Names.{HasName, HasNames, IsRight, is_local}
 use Rattle.determinize_syntax.specs.declared.error.ErrorKind.TheVariants.{GroupNameDuplicate, NestLimitExceeded}
-use Rattle.determinize_syntax.specs.declared.error.ParseError.{ParseError}
+use Rattle.determinize_syntax.specs.declared.error.Rejection.{Rejection}
 use Rattle.determinize_syntax.specs.declared.group.Context.{Context}
 use Rattle.determinize_syntax.specs.Spells as s
 
 -- an error that is local is none of a limit
-pub local_right : (levels : ℕ) (c : Context) (a : Bytes) (e : ParseError) → is_local e.kind ≡ true
+pub local_right : (levels : ℕ) (c : Context) (a : Bytes) (e : Rejection) → is_local e.kind ≡ true
     → IsRight levels c a e
 local_right levels c a e local = record {
   nested = λ is few. (let never : is_local NestLimitExceeded ≡ true = rw is at local in absurd (cc));
@@ -110,7 +110,7 @@ passes_operator min max h part same = record {
 }
 
 -- an error after what was read
-pub right_after : {x y : Context} {a b : Bytes} {n levels : ℕ} {e : ParseError} → Passes x a n y b
+pub right_after : {x y : Context} {a b : Bytes} {n levels : ℕ} {e : Rejection} → Passes x a n y b
     → IsRight levels y b e → IsRight levels x a e
 right_after h right = record {
   nested = λ is few. (let deep = right.nested is few in let before = h.deep in omega (arith, deep, before));
@@ -118,7 +118,7 @@ right_after h right = record {
 }
 
 -- an error of the depth, if more than `levels` groups and operators begin
-pub deep_right : {levels : ℕ} {c : Context} {a : Bytes} {e : ParseError} → e.kind ≡ NestLimitExceeded
+pub deep_right : {levels : ℕ} {c : Context} {a : Bytes} {e : Rejection} → e.kind ≡ NestLimitExceeded
     → (levels ≤ NEST_LIMIT → levels < openings a) → IsRight levels c a e
 deep_right deep more = record {
   nested = λ is few. more few;
@@ -142,7 +142,7 @@ passes_whole {x} {r = r} {n = n} opening inner close same = record {
 }
 
 -- an error in a group
-pub group_right : {x y : Context} {r b : Bytes} {n levels : ℕ} {e : ParseError} → Passes x r n y b
+pub group_right : {x y : Context} {r b : Bytes} {n levels : ℕ} {e : Rejection} → Passes x r n y b
     → IsRight (levels - 1) y b e → IsRight levels x (0x28 ∷ r) e
 group_right {x} {r = r} {levels = levels} opening right = record {
   nested = λ is few. (let deep = right.nested is (omega (arith, few)) in let outer = opening.deep in
@@ -153,7 +153,7 @@ group_right {x} {r = r} {levels = levels} opening right = record {
 
 -- a call that reads a part, whose errors are local, and which adds no name
 pub local_limits : {A : Type 0} (a b : Bytes) (Q : A → Bytes → Type 0) (levels : ℕ) (x y : Context)
-    (r : Result A ParseError) → IfOk r (λ p. Part a b (Q p)) → IfErr r (λ e. is_local e.kind ≡ true)
+    (r : Result A Rejection) → IfOk r (λ p. Part a b (Q p)) → IfErr r (λ e. is_local e.kind ≡ true)
     → ((text : Bytes) → HasNames text x b → HasNames text y b)
     → MatchResult r (λ _. Passes x a 0 y b) (IsRight levels x a)
 local_limits a b Q levels x y (Ok p) part local same = passes_as (passes_part (passes_none x a) part) same

@@ -1,4 +1,5 @@
 pub mod Limits
+pub mod Places
 pub mod Private
 pub mod Spells
 pub mod Unicode

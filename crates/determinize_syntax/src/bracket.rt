@@ -18,7 +18,7 @@ ghost use Rattle.determinize_syntax.specs.declared.flags.Flags.{Flags};
 
 use crate::class::one_of;
 use crate::cursor::Cursor;
-use crate::error::{ErrorKind, ParseError};
+use crate::error::{ErrorKind, Rejection};
 use crate::escape::{Escape, pass_letters, read_escape};
 use crate::flags::Flags;
 use crate::kind::ClassKind;
@@ -60,7 +60,7 @@ pub fn bracket(
     cursor: &mut Cursor<'_>,
     start: usize,
     flags: Flags,
-) -> Result<Pattern, ParseError>
+) -> Result<Pattern, Rejection>
     ensures read { IfOk result (λ p. Reads cursor.old cursor.new
         (λ t. Atom flags (meaning p) (0x5B ∷ t))) }
     ensures whole { (k : List Flags) → FromAtom k flags (0x5B ∷ rest cursor.old)
@@ -82,7 +82,7 @@ fn inside(
     cursor: &mut Cursor<'_>,
     start: usize,
     flags: Flags,
-) -> Result<Vec<ClassUnicodeRange>, ParseError>
+) -> Result<Vec<ClassUnicodeRange>, Rejection>
     ensures read { IfOk result (λ v. Reads cursor.old cursor.new
         (IsInside flags (char_pairs v.items))) }
     ensures whole { (u : List ℕ) → Inner flags u (rest cursor.old) → knows_cases flags ≡ true
@@ -112,14 +112,14 @@ fn front(alloc: Global, cursor: &mut Cursor<'_>, start: usize) -> Result<Items, 
         ranges: Vec::new(alloc),
         before: Before::First,
         start,
-        opened: cursor.pos(),
-        last: cursor.pos(),
+        opened: cursor.left(),
+        last: cursor.left(),
     };
     if !cursor.take(b']') {
         return Ok(items);
     }
     items.add(']', ']', Before::AfterRange)?;
-    items.opened = cursor.pos();
+    items.opened = cursor.left();
     Ok(items)
 }
 
@@ -195,7 +195,7 @@ impl Items {
         alloc: Global,
         cursor: &mut Cursor<'_>,
         flags: Flags,
-    ) -> Result<(), ParseError>
+    ) -> Result<(), Rejection>
         ensures read { OnOk result (Reads cursor.old cursor.new (Extends flags self.old.before
             (char_pairs self.old.ranges.items) self.new.before
             (char_pairs self.new.ranges.items))) }
@@ -205,7 +205,7 @@ impl Items {
             → Unlimited result (λ r. Listing flags u self.new.before (rest cursor.new)) }
         ensures local { IfErr result (λ e. is_local e.kind ≡ true) }
     {
-        let place = cursor.pos();
+        let place = cursor.left();
         if cursor.take(b'-') {
             return self.hyphen(cursor, place, flags);
         }
@@ -219,7 +219,7 @@ impl Items {
     }
 
     /// Reads a literal byte or character.
-    fn plain(&mut self, cursor: &mut Cursor<'_>, flags: Flags) -> Result<(), ParseError>
+    fn plain(&mut self, cursor: &mut Cursor<'_>, flags: Flags) -> Result<(), Rejection>
         ensures read { OnOk result (Reads cursor.old cursor.new (Extends flags self.old.before
             (char_pairs self.old.ranges.items) self.new.before
             (char_pairs self.new.ranges.items))) }
@@ -229,18 +229,15 @@ impl Items {
             → Unlimited result (λ r. Listing flags u self.new.before (rest cursor.new)) }
         ensures local { IfErr result (λ e. is_local e.kind ≡ true) }
     {
-        let place = cursor.pos();
+        let place = cursor.left();
         let Some(next) = cursor.peek() else {
             return Err(self.unclosed());
         };
         let ascii = next.is_ascii();
         let character = if ascii {
             if !stands(self.before, next) {
-                return Err(ParseError::new(
-                    ErrorKind::ClassOperation,
-                    self.last,
-                    cursor.error_here(ErrorKind::ClassOperation).end,
-                ));
+                let after = cursor.after_next();
+                return Err(Rejection::new(ErrorKind::ClassOperation, self.last, after));
             }
             cursor.pass();
             char::from(next)
@@ -259,7 +256,7 @@ impl Items {
         cursor: &mut Cursor<'_>,
         place: usize,
         flags: Flags,
-    ) -> Result<(), ParseError>
+    ) -> Result<(), Rejection>
         ensures read { OnOk result (Reads cursor.old cursor.new (λ t. Extends flags
             self.old.before (char_pairs self.old.ranges.items) self.new.before
             (char_pairs self.new.ranges.items) (0x5C ∷ t))) }
@@ -295,7 +292,7 @@ impl Items {
         cursor: &mut Cursor<'_>,
         place: usize,
         flags: Flags,
-    ) -> Result<(), ParseError>
+    ) -> Result<(), Rejection>
         ensures read { OnOk result (Reads cursor.old cursor.new (λ t. Extends flags
             self.old.before (char_pairs self.old.ranges.items) self.new.before
             (char_pairs self.new.ranges.items) (0x5B ∷ t))) }
@@ -305,16 +302,16 @@ impl Items {
         ensures local { IfErr result (λ e. is_local e.kind ≡ true) }
     {
         if !cursor.take(b':') {
-            return Err(ParseError::at(ErrorKind::ClassNested, place));
+            return Err(Rejection::at(ErrorKind::ClassNested, place));
         }
         let negated = cursor.take(b'^');
         let first = *cursor;
         pass_letters(cursor);
         let Some(kind) = ClassKind::from_name(cursor.since(first)) else {
-            return Err(ParseError::at(ErrorKind::ClassNested, place));
+            return Err(Rejection::at(ErrorKind::ClassNested, place));
         };
         if !cursor.take(b':') || !cursor.take(b']') {
-            return Err(ParseError::at(ErrorKind::ClassNested, place));
+            return Err(Rejection::at(ErrorKind::ClassNested, place));
         }
         if !flags.know_cases() {
             return Err(cursor.error_since(place, ErrorKind::UnicodeCaseUnavailable));
@@ -329,7 +326,7 @@ impl Items {
         cursor: &mut Cursor<'_>,
         place: usize,
         flags: Flags,
-    ) -> Result<(), ParseError>
+    ) -> Result<(), Rejection>
         ensures read { OnOk result (Reads cursor.old cursor.new (λ t. Extends flags
             self.old.before (char_pairs self.old.ranges.items) self.new.before
             (char_pairs self.new.ranges.items) (0x2D ∷ t))) }
@@ -341,9 +338,9 @@ impl Items {
             Before::First => {
                 if cursor.peek().is_none() {
                     let start = self.start;
-                    return Err(ParseError::new(ErrorKind::ClassUnclosed, start, start));
+                    return Err(Rejection::new(ErrorKind::ClassUnclosed, start, start));
                 }
-                self.opened = cursor.pos();
+                self.opened = cursor.left();
                 self.add('-', '-', Before::First)?;
                 Ok(())
             }
@@ -365,7 +362,7 @@ impl Items {
         place: usize,
         low: char,
         flags: Flags,
-    ) -> Result<(), ParseError>
+    ) -> Result<(), Rejection>
         ensures read { (e : Bool) → OnOk result (Reads cursor.old cursor.new
             (λ t. Extends flags (AfterOne e low) (char_pairs self.old.ranges.items)
             self.new.before (char_pairs self.new.ranges.items) (0x2D ∷ t))) }
@@ -383,13 +380,13 @@ impl Items {
     }
 
     /// Reads the end of a range, whose hyphen is at `place`.
-    fn bound(&self, cursor: &mut Cursor<'_>, place: usize, flags: Flags) -> Result<char, ParseError>
+    fn bound(&self, cursor: &mut Cursor<'_>, place: usize, flags: Flags) -> Result<char, Rejection>
         ensures read { IfOk result (λ h. Reads cursor.old cursor.new (Bound flags h)) }
         ensures whole { (h : ℕ) (u : List ℕ) → AtBound flags h u (rest cursor.old)
             → Unlimited result (λ g. (g ≡ h) × (rest cursor.new ≡ u)) }
         ensures local { IfErr result (λ e. is_local e.kind ≡ true) }
     {
-        let first = cursor.pos();
+        let first = cursor.left();
         let Some(next) = cursor.peek() else {
             return Err(self.unclosed());
         };
@@ -416,20 +413,20 @@ impl Items {
     }
 
     /// Returns the error of a class before a hyphen, which is at `place`.
-    fn class_in_range(&self, cursor: &mut Cursor<'_>, place: usize, flags: Flags) -> ParseError
+    fn class_in_range(&self, cursor: &mut Cursor<'_>, place: usize, flags: Flags) -> Rejection
         ensures { is_local result.kind ≡ true }
     {
         match self.bound(cursor, place, flags) {
             Err(error) if error.kind != ErrorKind::ClassRangeLiteral => error,
-            _ => ParseError::new(ErrorKind::ClassRangeLiteral, self.last, place),
+            _ => Rejection::new(ErrorKind::ClassRangeLiteral, self.last, place),
         }
     }
 
     /// Returns the error of an assertion, which ends here.
-    fn assertion_error(&self, cursor: &mut Cursor<'_>, flags: Flags) -> ParseError
+    fn assertion_error(&self, cursor: &mut Cursor<'_>, flags: Flags) -> Rejection
         ensures { is_local result.kind ≡ true }
     {
-        let place = cursor.pos();
+        let place = cursor.left();
         match cursor.rest {
             [] | [b'-'] => self.unclosed(),
             [b'-', b']' | b'-', ..] => {
@@ -444,15 +441,15 @@ impl Items {
     }
 
     /// Returns the error of brackets that are not closed.
-    fn unclosed(&self) -> ParseError
+    fn unclosed(&self) -> Rejection
         ensures { is_local result.kind ≡ true }
     {
-        ParseError::new(ErrorKind::ClassUnclosed, self.start, self.opened)
+        Rejection::new(ErrorKind::ClassUnclosed, self.start, self.opened)
     }
 }
 
 /// Reads a character beyond ASCII, which brackets have only where `u` holds.
-fn wide(cursor: &mut Cursor<'_>, flags: Flags) -> Result<char, ParseError>
+fn wide(cursor: &mut Cursor<'_>, flags: Flags) -> Result<char, Rejection>
     ensures read { IfOk result (λ c. Reads cursor.old cursor.new
         (λ t. (flags.unicode ≡ true) × Wide c t)) }
     ensures progress { OnOk result (length (rest cursor.new) < length (rest cursor.old)) }

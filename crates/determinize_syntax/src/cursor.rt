@@ -5,15 +5,13 @@ ghost use Rattle.std.specs.Char.{len_utf8};
 ghost use Rattle.determinize_syntax.specs.Private.Reading.{IsNotAt, rest};
 ghost use Rattle.determinize_syntax.specs.Spells.{IsWide};
 
-use crate::error::{ErrorKind, ParseError};
+use crate::error::{ErrorKind, Rejection};
 
 /// The place up to which the bytes of a text were read.
 #[derive(Clone, Copy)]
 pub struct Cursor<'a> {
     /// The bytes that are still to be read.
     pub rest: &'a [u8],
-    /// The length of the whole text.
-    pub len: usize,
 }
 
 impl<'a> Cursor<'a> {
@@ -21,16 +19,22 @@ impl<'a> Cursor<'a> {
     pub fn new(text: &'a str) -> Cursor<'a>
         ensures { rest result ≡ text.now }
     {
-        let rest = text.as_bytes();
         Cursor {
-            rest,
-            len: rest.len(),
+            rest: text.as_bytes(),
         }
     }
 
-    /// Returns the number of bytes that were read.
-    pub fn pos(&self) -> usize {
-        self.len.saturating_sub(self.rest.len())
+    /// Returns the number of bytes that are left, which is how a place is kept.
+    pub fn left(&self) -> usize {
+        self.rest.len()
+    }
+
+    /// Returns the number of bytes that are left after the next character.
+    pub fn after_next(&self) -> usize {
+        match self.peek() {
+            None => 0,
+            Some(byte) => self.left().saturating_sub(width(byte)),
+        }
     }
 
     /// Returns the next byte.
@@ -105,30 +109,25 @@ impl<'a> Cursor<'a> {
         &start.rest[..len]
     }
 
-    /// Returns an error from `start` to the next byte.
-    pub fn error_since(&self, start: usize, kind: ErrorKind) -> ParseError
+    /// Returns an error from the place `start` to the next byte.
+    pub fn error_since(&self, start: usize, kind: ErrorKind) -> Rejection
         ensures { result.kind ≡ kind }
     {
-        ParseError::new(kind, start, self.pos())
+        Rejection::new(kind, start, self.left())
     }
 
     /// Returns an error at the next character, or at the end of the text.
-    pub fn error_here(&self, kind: ErrorKind) -> ParseError
+    pub fn error_here(&self, kind: ErrorKind) -> Rejection
         ensures { result.kind ≡ kind }
     {
-        let width = match self.peek() {
-            None => 0,
-            Some(byte) => width(byte),
-        };
-        let start = self.pos();
-        ParseError::new(kind, start, start.saturating_add(width))
+        Rejection::new(kind, self.left(), self.after_next())
     }
 
     /// Returns an error between this byte and the one before.
-    pub fn error_before(&self, kind: ErrorKind) -> ParseError
+    pub fn error_before(&self, kind: ErrorKind) -> Rejection
         ensures { result.kind ≡ kind }
     {
-        self.error_since(self.pos(), kind)
+        self.error_since(self.left(), kind)
     }
 }
 

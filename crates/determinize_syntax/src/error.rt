@@ -1,6 +1,7 @@
 //! Errors of the text of a pattern.
 
 ghost use Rattle.std.specs.Prelude.{◌≡◌};
+ghost use Rattle.determinize_syntax.specs.Places.{IsErrorIn};
 ghost use Rattle.determinize_syntax.specs.declared.error.ErrorKind.TheVariants as kinds;
 
 use std::alloc::{AllocError, AllocFailed};
@@ -109,13 +110,6 @@ impl ParseError {
         ParseError { kind, start, end }
     }
 
-    /// Returns the error of this kind at the ASCII character at this place.
-    pub(crate) fn at(kind: ErrorKind, start: usize) -> ParseError
-        ensures { result.kind ≡ kind }
-    {
-        ParseError::new(kind, start, start.saturating_add(1))
-    }
-
     /// Returns the error as it is written with its text: the line, carets under the place, and what
     /// is wrong.
     pub fn display(self, text: &str) -> Marked<'_> {
@@ -136,6 +130,58 @@ impl<T: Drop> From<AllocFailed<T>> for ParseError {
 
     fn from(_error: AllocFailed<T>) -> ParseError {
         ParseError::new(ErrorKind::OutOfMemory, 0, 0)
+    }
+}
+
+/// An error where a text is read: what is wrong, how many bytes are left at the beginning of its
+/// place, and how many bytes the place has.
+#[derive(Clone, Copy)]
+pub(crate) struct Rejection {
+    pub kind: ErrorKind,
+    pub left: usize,
+    pub len: usize,
+}
+
+impl Rejection {
+    /// Returns the error of this kind from where `left` bytes are left to where `after` are.
+    pub fn new(kind: ErrorKind, left: usize, after: usize) -> Rejection
+        ensures { result.kind ≡ kind }
+    {
+        let len = left.saturating_sub(after);
+        Rejection { kind, left, len }
+    }
+
+    /// Returns the error of this kind at the ASCII character at this place.
+    pub fn at(kind: ErrorKind, left: usize) -> Rejection
+        ensures { result.kind ≡ kind }
+    {
+        Rejection { kind, left, len: 1 }
+    }
+
+    /// Returns the error in its text, with the place counted from the beginning.
+    pub fn in_text(self, text: &str) -> ParseError
+        ensures kind { result.kind ≡ self.kind }
+        ensures range { IsErrorIn text.now result }
+    {
+        let start = text.len().saturating_sub(self.left);
+        let after = self.left.saturating_sub(self.len);
+        ParseError::new(self.kind, start, text.len().saturating_sub(after))
+    }
+}
+
+impl From<AllocError> for Rejection {
+    ghost from_gives = { λ _ e. e.kind ≡ kinds.OutOfMemory };
+
+    fn from(_error: AllocError) -> Rejection {
+        Rejection::new(ErrorKind::OutOfMemory, usize::MAX, usize::MAX)
+    }
+}
+
+impl<T: Drop> From<AllocFailed<T>> for Rejection {
+    ghost from_gives = { λ _ e. e.kind ≡ kinds.OutOfMemory };
+
+    fn from(_error: AllocFailed<T>) -> Rejection {
+        Rejection::new(ErrorKind::OutOfMemory, usize::MAX, usize::MAX)
     }
 }
 

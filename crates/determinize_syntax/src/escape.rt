@@ -14,7 +14,7 @@ ghost use Rattle.determinize_syntax.specs.Words as words;
 ghost use Rattle.determinize_syntax.specs.Words.{number};
 
 use crate::cursor::Cursor;
-use crate::error::{ErrorKind, ParseError};
+use crate::error::{ErrorKind, Rejection};
 use crate::flags::Flags;
 use crate::kind::ClassKind;
 use determinize_below::Look;
@@ -59,7 +59,7 @@ fn is_text_end(look: Look) -> bool
 }
 
 /// Reads an escape after its backslash, which is at `start`.
-pub fn read_escape(cursor: &mut Cursor<'_>, start: usize) -> Result<Escape, ParseError>
+pub fn read_escape(cursor: &mut Cursor<'_>, start: usize) -> Result<Escape, Rejection>
     ensures read { IfOk result (λ e.
         Reads cursor.old cursor.new (λ t. IsEscape e (0x5C ∷ t))) }
     ensures whole { (e : Escape) (u : List ℕ) → AtEscape u e (rest cursor.old) → MayPrecede e u
@@ -83,7 +83,7 @@ pub fn read_escape(cursor: &mut Cursor<'_>, start: usize) -> Result<Escape, Pars
 }
 
 /// Returns the error of an escape that has no meaning, whose byte after the backslash is `next`.
-fn unrecognized(cursor: &Cursor<'_>, start: usize, next: u8) -> ParseError
+fn unrecognized(cursor: &Cursor<'_>, start: usize, next: u8) -> Rejection
     ensures { is_local result.kind ≡ true }
 {
     let kind = match next {
@@ -91,8 +91,7 @@ fn unrecognized(cursor: &Cursor<'_>, start: usize, next: u8) -> ParseError
         b'u' | b'U' | b'p' | b'P' => ErrorKind::UnicodeNotAllowed,
         _ => ErrorKind::EscapeUnrecognized,
     };
-    let here = cursor.error_here(kind);
-    ParseError::new(kind, start, here.end)
+    Rejection::new(kind, start, cursor.after_next())
 }
 
 /// Returns the escape of a backslash and one byte, which is not `x` or `b`.
@@ -123,7 +122,7 @@ fn one_byte(byte: u8) -> Option<Escape>
 }
 
 /// Reads the rest of a boundary after `\b`.
-fn boundary(cursor: &mut Cursor<'_>) -> Result<Look, ParseError>
+fn boundary(cursor: &mut Cursor<'_>) -> Result<Look, Rejection>
     ensures read { IfOk result (λ l.
         Reads cursor.old cursor.new (λ t. words.assertion (0x62 ∷ t) ≡ Some l)) }
     ensures whole { (l : _) (u : List ℕ)
@@ -131,7 +130,7 @@ fn boundary(cursor: &mut Cursor<'_>) -> Result<Look, ParseError>
         → Unlimited result (λ m. (m ≡ l) × (rest cursor.new ≡ u)) }
     ensures local { IfErr result (λ e. is_local e.kind ≡ true) }
 {
-    let brace = cursor.pos();
+    let brace = cursor.left();
     let mut ahead = *cursor;
     if !ahead.take(b'{') {
         return Ok(Look::WordAscii);
@@ -145,14 +144,14 @@ fn boundary(cursor: &mut Cursor<'_>) -> Result<Look, ParseError>
     if name.is_empty() {
         return Ok(Look::WordAscii);
     }
-    let last = ahead.pos();
+    let last = ahead.left();
     if !ahead.take(b'}') {
         return Err(ahead.error_since(brace, ErrorKind::SpecialWordBoundaryUnclosed));
     }
     let Some(look) = boundary_of(name) else {
-        return Err(ParseError::new(
+        return Err(Rejection::new(
             ErrorKind::SpecialWordBoundaryUnrecognized,
-            first.pos(),
+            first.left(),
             last,
         ));
     };
@@ -204,37 +203,37 @@ fn boundary_of(name: &[u8]) -> Option<Look>
 }
 
 /// Reads what follows `\x`.
-fn hex(cursor: &mut Cursor<'_>) -> Result<Escape, ParseError>
+fn hex(cursor: &mut Cursor<'_>) -> Result<Escape, Rejection>
     ensures read { IfOk result (λ e.
         Reads cursor.old cursor.new (λ t. IsEscape e (0x5C ∷ 0x78 ∷ t))) }
     ensures whole { (e : Escape) (u : List ℕ) → AtNumber u e (rest cursor.old)
         → Unlimited result (λ d. (d ≡ e) × (rest cursor.new ≡ u)) }
     ensures local { IfErr result (λ e. is_local e.kind ≡ true) }
 {
-    let brace = cursor.pos();
+    let brace = cursor.left();
     if cursor.take(b'{') {
         return braces(cursor, brace);
     }
     let high = hex_digit(cursor, brace)?;
-    let place = cursor.pos();
+    let place = cursor.left();
     let low = hex_digit(cursor, place)?;
     Ok(Escape::Byte((high * 16 + low) as u8))
 }
 
 /// Reads a number after the brace of `\x{`, which is at `brace`.
-fn braces(cursor: &mut Cursor<'_>, brace: usize) -> Result<Escape, ParseError>
+fn braces(cursor: &mut Cursor<'_>, brace: usize) -> Result<Escape, Rejection>
     ensures read { IfOk result (λ e.
         Reads cursor.old cursor.new (λ t. IsEscape e (0x5C ∷ 0x78 ∷ 0x7B ∷ t))) }
     ensures whole { (e : Escape) (u : List ℕ) → AtNumber u e (0x7B ∷ rest cursor.old)
         → Unlimited result (λ d. (d ≡ e) × (rest cursor.new ≡ u)) }
     ensures local { IfErr result (λ e. is_local e.kind ≡ true) }
 {
-    let first = cursor.pos();
+    let first = cursor.left();
     if cursor.take(b'}') {
         return Err(cursor.error_since(brace, ErrorKind::EscapeHexEmpty));
     }
     let value = hex_number(cursor, brace)?;
-    let last = cursor.pos();
+    let last = cursor.left();
     if !cursor.take(b'}') {
         return Err(cursor.error_since(brace, ErrorKind::EscapeUnexpectedEof));
     }
@@ -243,13 +242,13 @@ fn braces(cursor: &mut Cursor<'_>, brace: usize) -> Result<Escape, ParseError>
     }
     match char::from_u32(value) {
         Some(character) => Ok(Escape::Wide(character)),
-        None => Err(ParseError::new(ErrorKind::EscapeHexInvalid, first, last)),
+        None => Err(Rejection::new(ErrorKind::EscapeHexInvalid, first, last)),
     }
 }
 
 /// Reads digits up to a brace. A number that is too large for a character is returned as some
 /// other such number.
-fn hex_number(cursor: &mut Cursor<'_>, brace: usize) -> Result<u32, ParseError>
+fn hex_number(cursor: &mut Cursor<'_>, brace: usize) -> Result<u32, Rejection>
     ensures read { IfOk result (λ n. Reads cursor.old cursor.new (IsDigits n)) }
     ensures whole { (n : ℕ) (u : List ℕ)
         → Part (rest cursor.old) (0x7D ∷ u) (λ t. number 16 t ≡ Some n)
@@ -280,7 +279,7 @@ fn with_digit(value: u32, digit: u32) -> u32
 }
 
 /// Reads a digit. If the text ends here, the error is from `from` to its end.
-fn hex_digit(cursor: &mut Cursor<'_>, from: usize) -> Result<u32, ParseError>
+fn hex_digit(cursor: &mut Cursor<'_>, from: usize) -> Result<u32, Rejection>
     ensures read { IfOk result (λ n. Reads cursor.old cursor.new (IsDigit 16 n)) }
     ensures small { IfOk result (λ n. n < 16) }
     ensures other { OnErr result ((d : ℕ) → slice_get (rest cursor.old) 0 ≡ Some d

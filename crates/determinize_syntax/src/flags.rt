@@ -11,7 +11,7 @@ ghost use Rattle.determinize_syntax.specs.Words as words;
 ghost use Rattle.determinize_syntax.specs.Words.{◌∈◌, knows_cases, no_flags};
 
 use crate::cursor::Cursor;
-use crate::error::{ErrorKind, ParseError};
+use crate::error::{ErrorKind, Rejection};
 
 /// The flags that hold at a place of a pattern.
 #[derive(Clone, Copy, Debug, PartialEq, Eq)]
@@ -54,7 +54,7 @@ impl Flags {
 }
 
 /// Reads `(?flags)`, if it is next, and returns the flags that it makes of these.
-pub fn setting(cursor: &mut Cursor<'_>, flags: Flags) -> Result<Option<Flags>, ParseError>
+pub(crate) fn setting(cursor: &mut Cursor<'_>, flags: Flags) -> Result<Option<Flags>, Rejection>
     ensures read { IfOk result (λ o. IfSome o (λ g.
         Reads cursor.old cursor.new (IsSetting flags g))) }
     ensures progress { IfOk result (λ o. OnSome o
@@ -74,8 +74,8 @@ pub fn setting(cursor: &mut Cursor<'_>, flags: Flags) -> Result<Option<Flags>, P
         return Err(cursor.error_here(ErrorKind::GroupUnclosed));
     }
     if ahead.take(b')') {
-        let mark = cursor.pos().saturating_add(1);
-        return Err(ParseError::new(ErrorKind::RepetitionMissing, mark, mark));
+        let mark = cursor.left().saturating_sub(1);
+        return Err(Rejection::new(ErrorKind::RepetitionMissing, mark, mark));
     }
     let set = letters(&mut ahead, flags)?;
     if !ahead.take(b')') {
@@ -99,7 +99,7 @@ fn begins_other(cursor: &Cursor<'_>) -> bool
 }
 
 /// Reads letters of flags up to a `:` or `)`, and returns the flags that they make of these.
-pub fn letters(cursor: &mut Cursor<'_>, flags: Flags) -> Result<Flags, ParseError>
+pub(crate) fn letters(cursor: &mut Cursor<'_>, flags: Flags) -> Result<Flags, Rejection>
     ensures read { IfOk result (λ g. Reads cursor.old cursor.new
         (λ t. (on : Bool) × Sets flags on g t)) }
     ensures whole { (g : Flags) (u : List ℕ) → Letters g u [] true flags (rest cursor.old)
@@ -128,7 +128,7 @@ fn next_flag(
     seen: &[u8],
     flags: Flags,
     on: bool,
-) -> Result<(Flags, bool), ParseError>
+) -> Result<(Flags, bool), Rejection>
     ensures read { IfOk result (λ r. Reads cursor.old cursor.new
         (SetsMore seen.now on flags r.1 r.0)) }
     ensures whole { (g : Flags) (u : List ℕ) → Letters g u seen.now on flags (rest cursor.old)
@@ -138,23 +138,23 @@ fn next_flag(
     ensures progress { OnOk result (length (rest cursor.new) < length (rest cursor.old)) }
     ensures local { IfErr result (λ e. is_local e.kind ≡ true) }
 {
-    let place = cursor.pos();
+    let place = cursor.left();
     if !cursor.take(b'-') {
         let set = letter(cursor, seen, flags, on)?;
         return Ok((set, on));
     }
     if !on {
-        return Err(ParseError::at(ErrorKind::FlagRepeatedNegation, place));
+        return Err(Rejection::at(ErrorKind::FlagRepeatedNegation, place));
     }
     if let Some(b':' | b')') = cursor.peek() {
-        return Err(ParseError::at(ErrorKind::FlagDanglingNegation, place));
+        return Err(Rejection::at(ErrorKind::FlagDanglingNegation, place));
     }
     let set = letter(cursor, seen, flags, false)?;
     Ok((set, false))
 }
 
 /// Reads the letter of a flag that is not yet among the letters seen, and sets or clears it.
-fn letter(cursor: &mut Cursor<'_>, seen: &[u8], flags: Flags, on: bool) -> Result<Flags, ParseError>
+fn letter(cursor: &mut Cursor<'_>, seen: &[u8], flags: Flags, on: bool) -> Result<Flags, Rejection>
     ensures read { IfOk result (λ g. Reads cursor.old cursor.new (IsFlag seen.now flags on g)) }
     ensures whole { (c : ℕ) (t : List ℕ) (g : Flags) → rest cursor.old ≡ c ∷ t
         → list_any (λ d. d == c) seen.now ≡ false → words.set_flag flags c on ≡ Some g

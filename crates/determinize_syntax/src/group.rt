@@ -9,7 +9,7 @@ ghost use Rattle.determinize_syntax.specs.Words as words;
 ghost use Rattle.determinize_syntax.specs.Words.{◌∈◌, is_name};
 
 use crate::cursor::Cursor;
-use crate::error::{ErrorKind, ParseError};
+use crate::error::{ErrorKind, Rejection};
 use crate::flags::{Flags, letters};
 use std::alloc::Global;
 use std::collections::BTreeSet;
@@ -52,7 +52,7 @@ pub fn read_opening<'a>(
     cursor: &mut Cursor<'a>,
     start: usize,
     flags: Flags,
-) -> Result<Opening, ParseError>
+) -> Result<Opening, Rejection>
     ensures read { IfOk result (λ o. Reads cursor.old cursor.new (Opens flags o.flags)) }
     ensures whole { (k : List Flags) → FromAtom k flags (0x28 ∷ rest cursor.old)
         → Unlimited result (λ o. FromItem (flags ∷ k) o.flags (rest cursor.new)) }
@@ -104,7 +104,7 @@ fn looks_around(cursor: &mut Cursor<'_>) -> bool
 }
 
 /// Reads the name of a group and its end. No other group may have the name.
-fn name<'a>(context: &mut Context<'a>, cursor: &mut Cursor<'a>) -> Result<(), ParseError>
+fn name<'a>(context: &mut Context<'a>, cursor: &mut Cursor<'a>) -> Result<(), Rejection>
     ensures read { OnOk result (Reads cursor.old cursor.new IsNamed) }
     ensures whole { (n u : List ℕ) → rest cursor.old ≡ n ++ 0x3E ∷ u → is_name n ≡ true
         → Unlimited result (λ r. rest cursor.new ≡ u) }
@@ -118,18 +118,18 @@ fn name<'a>(context: &mut Context<'a>, cursor: &mut Cursor<'a>) -> Result<(), Pa
     }
     letters_of_name(cursor)?;
     let name = cursor.since(first);
-    let end = cursor.pos();
+    let end = cursor.left();
     if !cursor.take(b'>') {
         return Err(unnamed(cursor));
     }
     if !context.names.insert(name)? {
-        return Err(ParseError::new(ErrorKind::GroupNameDuplicate, first.pos(), end));
+        return Err(Rejection::new(ErrorKind::GroupNameDuplicate, first.left(), end));
     }
     Ok(())
 }
 
 /// Returns the error of a byte that the name of a group may not have.
-fn unnamed(cursor: &Cursor<'_>) -> ParseError
+fn unnamed(cursor: &Cursor<'_>) -> Rejection
     ensures { is_local result.kind ≡ true }
 {
     cursor.error_here(match cursor.peek() {
@@ -139,7 +139,7 @@ fn unnamed(cursor: &Cursor<'_>) -> ParseError
 }
 
 /// Reads the letters of a name.
-fn letters_of_name(cursor: &mut Cursor<'_>) -> Result<(), ParseError>
+fn letters_of_name(cursor: &mut Cursor<'_>) -> Result<(), Rejection>
     ensures read { OnOk result (Reads cursor.old cursor.new (λ t. is_name t ≡ true)) }
     ensures whole { (n u : List ℕ) → rest cursor.old ≡ n ++ 0x3E ∷ u → is_name n ≡ true
         → Unlimited result (λ r. rest cursor.new ≡ 0x3E ∷ u) }

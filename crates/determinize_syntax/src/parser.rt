@@ -10,6 +10,7 @@ ghost use Rattle.determinize_pattern.specs.Meaning as meanings;
 ghost use Rattle.determinize_pattern.specs.Characters.{IsCharClass};
 ghost use Rattle.determinize_pattern.specs.Patterns.{IsClass, choice_of, literal, meaning, repeated};
 ghost use Rattle.determinize_syntax.specs.Limits.{HasNameTwice, openings};
+ghost use Rattle.determinize_syntax.specs.Places.{IsErrorIn};
 ghost use Rattle.determinize_syntax.specs.Private.Names.{IsRight, Passes, is_local};
 ghost use Rattle.determinize_syntax.specs.Private.Reading.{IsEscape, IsNotAt, Reads, is_available, rest};
 ghost use Rattle.determinize_syntax.specs.Spells as spells;
@@ -19,7 +20,7 @@ ghost use Rattle.determinize_syntax.specs.Words.{◌∈◌, at_line, dot_set, fo
 use crate::bracket::bracket;
 use crate::class::{class, of_class, one_of};
 use crate::cursor::Cursor;
-use crate::error::{ErrorKind, ParseError};
+use crate::error::{ErrorKind, ParseError, Rejection};
 use crate::escape::{Escape, read_escape};
 use crate::flags::{Flags, setting};
 use crate::group::{Context, read_opening};
@@ -43,6 +44,7 @@ pub fn parse(alloc: Global, text: &str) -> Result<Pattern, ParseError>
     ensures nested { IfErr result (λ e. e.kind ≡ NestLimitExceeded
         → NEST_LIMIT < openings text.now) }
     ensures twice { IfErr result (λ e. e.kind ≡ GroupNameDuplicate → HasNameTwice text.now) }
+    ensures range { IfErr result (IsErrorIn text.now) }
 {
     parse_with(alloc, text, Flags::new())
 }
@@ -59,12 +61,16 @@ pub fn parse_with(alloc: Global, text: &str, flags: Flags) -> Result<Pattern, Pa
     ensures nested { IfErr result (λ e. e.kind ≡ NestLimitExceeded
         → NEST_LIMIT < openings text.now) }
     ensures twice { IfErr result (λ e. e.kind ≡ GroupNameDuplicate → HasNameTwice text.now) }
+    ensures range { IfErr result (IsErrorIn text.now) }
 {
     let mut cursor = Cursor::new(text);
     let mut context = Context::new(alloc);
-    let pattern = choice(&mut context, &mut cursor, flags, NEST_LIMIT)?;
+    let pattern = match choice(&mut context, &mut cursor, flags, NEST_LIMIT) {
+        Ok(pattern) => pattern,
+        Err(error) => return Err(error.in_text(text)),
+    };
     if cursor.peek().is_some() {
-        return Err(cursor.error_here(ErrorKind::GroupUnopened));
+        return Err(cursor.error_here(ErrorKind::GroupUnopened).in_text(text));
     }
     Ok(pattern)
 }
@@ -76,7 +82,7 @@ fn choice<'a>(
     cursor: &mut Cursor<'a>,
     flags: Flags,
     levels: u8,
-) -> Result<Pattern, ParseError>
+) -> Result<Pattern, Rejection>
     ensures read { IfOk result (λ p. Reads cursor.old cursor.new
         (SpellsUnder flags (meaning p))) }
     ensures whole { (k : List Flags) → FromItem k flags (rest cursor.old)
@@ -108,7 +114,7 @@ fn items<'a>(
     cursor: &mut Cursor<'a>,
     flags: &mut Flags,
     levels: u8,
-) -> Result<Vec<Pattern>, ParseError>
+) -> Result<Vec<Pattern>, Rejection>
     ensures read { IfOk result (λ ps. Reads cursor.old cursor.new
         (Items flags.old flags.new (map meaning ps.items))) }
     ensures whole { (k : List Flags) → FromItem k flags.old (rest cursor.old)
@@ -161,7 +167,7 @@ fn repeated<'a>(
     cursor: &mut Cursor<'a>,
     flags: Flags,
     levels: u8,
-) -> Result<Pattern, ParseError>
+) -> Result<Pattern, Rejection>
     ensures read { IfOk result (λ p. Reads cursor.old cursor.new
         (λ t. (e : Bool) × Repeated flags e (meaning p) t)) }
     ensures progress { OnOk result (length (rest cursor.new) < length (rest cursor.old)) }
@@ -172,15 +178,15 @@ fn repeated<'a>(
         (IsRight levels context.old (rest cursor.old)) }
 {
     let mut pattern = atom(context, cursor, flags, levels)?;
-    let mut start = cursor.pos();
+    let mut start = cursor.left();
     while let Some(bounds) = operator(cursor)? {
         if context.depth >= NEST_LIMIT {
-            return Err(ParseError::at(ErrorKind::NestLimitExceeded, start));
+            return Err(Rejection::at(ErrorKind::NestLimitExceeded, start));
         }
         context.depth += 1;
         let greedy = is_greedy(cursor.take(b'?'), flags);
         pattern = repetition(context.alloc, bounds, greedy, pattern)?;
-        start = cursor.pos();
+        start = cursor.left();
     }
     Ok(pattern)
 }
@@ -192,7 +198,7 @@ fn atom<'a>(
     cursor: &mut Cursor<'a>,
     flags: Flags,
     levels: u8,
-) -> Result<Pattern, ParseError>
+) -> Result<Pattern, Rejection>
     ensures read { IfOk result (λ p. Reads cursor.old cursor.new (Atom flags (meaning p))) }
     ensures progress { OnOk result (length (rest cursor.new) < length (rest cursor.old)) }
     ensures whole { (k : List Flags) → FromAtom k flags (rest cursor.old)
@@ -201,7 +207,7 @@ fn atom<'a>(
         (λ _. Passes context.old (rest cursor.old) context.new.depth context.new (rest cursor.new))
         (IsRight levels context.old (rest cursor.old)) }
 {
-    let start = cursor.pos();
+    let start = cursor.left();
     if cursor.take(b'(') {
         return group(context, cursor, start, flags, levels);
     }
@@ -215,7 +221,7 @@ fn single(
     cursor: &mut Cursor<'_>,
     start: usize,
     flags: Flags,
-) -> Result<Pattern, ParseError>
+) -> Result<Pattern, Rejection>
     ensures read { IfOk result (λ p. Reads cursor.old cursor.new (Atom flags (meaning p))) }
     ensures progress { OnOk result (length (rest cursor.new) < length (rest cursor.old)) }
     ensures whole { (k : List Flags) → FromAtom k flags (rest cursor.old) → IsNotAt 0x28 cursor.old
@@ -237,7 +243,7 @@ fn escaped_atom(
     cursor: &mut Cursor<'_>,
     start: usize,
     flags: Flags,
-) -> Result<Pattern, ParseError>
+) -> Result<Pattern, Rejection>
     ensures read { IfOk result (λ p. Reads cursor.old cursor.new
         (λ t. Atom flags (meaning p) (0x5C ∷ t))) }
     ensures whole { (k : List Flags) → FromAtom k flags (0x5C ∷ rest cursor.old)
@@ -265,7 +271,7 @@ fn of_escape(alloc: Global, escape: Escape, flags: Flags) -> Result<Pattern, All
 }
 
 /// Reads `.`, `^` or `$`, or a literal character.
-fn byte_atom(alloc: Global, cursor: &mut Cursor<'_>, flags: Flags) -> Result<Pattern, ParseError>
+fn byte_atom(alloc: Global, cursor: &mut Cursor<'_>, flags: Flags) -> Result<Pattern, Rejection>
     ensures read { IfOk result (λ p. Reads cursor.old cursor.new (Atom flags (meaning p))) }
     ensures progress { OnOk result (length (rest cursor.new) < length (rest cursor.old)) }
     ensures whole { (k : List Flags) → FromAtom k flags (rest cursor.old)
@@ -324,7 +330,7 @@ fn group<'a>(
     start: usize,
     flags: Flags,
     levels: u8,
-) -> Result<Pattern, ParseError>
+) -> Result<Pattern, Rejection>
     ensures read { IfOk result (λ p. Reads cursor.old cursor.new
         (λ t. Atom flags (meaning p) (0x28 ∷ t))) }
     ensures whole { (k : List Flags) → FromAtom k flags (0x28 ∷ rest cursor.old)
@@ -336,14 +342,14 @@ fn group<'a>(
 {
     let opening = read_opening(context, cursor, start, flags)?;
     if levels == 0 {
-        return Err(ParseError::at(ErrorKind::NestLimitExceeded, start));
+        return Err(Rejection::at(ErrorKind::NestLimitExceeded, start));
     }
     let sub = choice(context, cursor, opening.flags, levels - 1)?;
     if !cursor.take(b')') {
-        return Err(ParseError::at(ErrorKind::GroupUnclosed, start));
+        return Err(Rejection::at(ErrorKind::GroupUnclosed, start));
     }
     if context.depth >= NEST_LIMIT {
-        return Err(ParseError::at(ErrorKind::NestLimitExceeded, start));
+        return Err(Rejection::at(ErrorKind::NestLimitExceeded, start));
     }
     context.depth += 1;
     Ok(grouped(context.alloc, sub, opening.captures)?)

@@ -9,7 +9,7 @@ ghost use Rattle.determinize_syntax.specs.Spells.{Operator};
 ghost use Rattle.determinize_syntax.specs.Words.{◌∈◌, number};
 
 use crate::cursor::Cursor;
-use crate::error::{ErrorKind, ParseError};
+use crate::error::{ErrorKind, Rejection};
 
 /// How often a pattern is repeated.
 #[derive(Clone, Copy)]
@@ -19,7 +19,7 @@ pub struct Bounds {
 }
 
 /// Reads an operator, if there is one.
-pub fn operator(cursor: &mut Cursor<'_>) -> Result<Option<Bounds>, ParseError>
+pub fn operator(cursor: &mut Cursor<'_>) -> Result<Option<Bounds>, Rejection>
     ensures read { IfOk result (λ o. IfSome o (λ b.
         Reads cursor.old cursor.new (Operator b.min b.max))) }
     ensures progress { IfOk result (λ o. OnSome o
@@ -37,7 +37,7 @@ pub fn operator(cursor: &mut Cursor<'_>) -> Result<Option<Bounds>, ParseError>
         cursor.pass();
         return Ok(Some(bounds));
     }
-    let start = cursor.pos();
+    let start = cursor.left();
     if !cursor.take(b'{') {
         return Ok(None);
     }
@@ -62,7 +62,7 @@ fn bounds_of(sign: u8) -> Option<Bounds>
 }
 
 /// Reads counts after their brace, which is at `start`.
-fn counts(cursor: &mut Cursor<'_>, start: usize) -> Result<Bounds, ParseError>
+fn counts(cursor: &mut Cursor<'_>, start: usize) -> Result<Bounds, Rejection>
     ensures read { IfOk result (λ b.
         Reads cursor.old cursor.new (λ t. Operator b.min b.max (0x7B ∷ t))) }
     ensures whole { (u : List ℕ) → CountsTo u (rest cursor.old)
@@ -97,13 +97,13 @@ fn counts(cursor: &mut Cursor<'_>, start: usize) -> Result<Bounds, ParseError>
 }
 
 /// Reads a number of the counts whose brace is at `start`.
-fn decimal(cursor: &mut Cursor<'_>, start: usize) -> Result<u32, ParseError>
+fn decimal(cursor: &mut Cursor<'_>, start: usize) -> Result<u32, Rejection>
     ensures read { IfOk result (λ n. Reads cursor.old cursor.new (λ t. number 10 t ≡ Some n)) }
     ensures whole { (n : ℕ) (u : List ℕ) → Part (rest cursor.old) u (IsCount n) → NoDigit 10 u
         → Unlimited result (λ m. (m ≡ n) × (rest cursor.new ≡ u)) }
     ensures local { IfErr result (λ e. is_local e.kind ≡ true) }
 {
-    let first = cursor.pos();
+    let first = cursor.left();
     let Some(mut value) = digit(cursor) else {
         return Err(match cursor.peek() {
             None => cursor.error_since(start, ErrorKind::RepetitionCountUnclosed),
@@ -138,7 +138,7 @@ fn digit(cursor: &mut Cursor<'_>) -> Option<u32>
 }
 
 /// Passes the digits that are left, and returns the error of the number that begins at `first`.
-fn too_large(cursor: &mut Cursor<'_>, first: usize) -> ParseError
+fn too_large(cursor: &mut Cursor<'_>, first: usize) -> Rejection
     ensures { is_local result.kind ≡ true }
 {
     while let Some(_) = digit(cursor) {}

@@ -7,7 +7,7 @@ use Rattle.determinize_syntax.specs.Private.Letters.{AtEscape, Inner, IsWideAt}
 use Rattle.determinize_syntax.specs.Private.Reading.{Part, is_available}
 use Rattle.determinize_syntax.specs.declared.escape.Escape.{Escape}
 use Rattle.determinize_syntax.specs.declared.escape.Escape.TheVariants as escape
-use Rattle.determinize_syntax.specs.declared.error.ParseError.{ParseError}
+use Rattle.determinize_syntax.specs.declared.error.Rejection.{Rejection}
 use Rattle.determinize_syntax.specs.declared.flags.Flags.{Flags}
 
 -- what opens a group under f, after its parenthesis, up to s, and the flags g inside
@@ -80,7 +80,7 @@ abbrev pub IsBranchEnd : Bytes → Type 0
 IsBranchEnd s = IsEnd s ⊎ ((w : Bytes) × (s ≡ 0x7C ∷ w))
 
 -- P holds of the value, unless a limit was met
-abbrev pub Unlimited : {A : Type 0} → Result A ParseError → (A → Type 0) → Type 0
+abbrev pub Unlimited : {A : Type 0} → Result A Rejection → (A → Type 0) → Type 0
 Unlimited result P = MatchResult result P (λ e. is_limit e.kind ≡ true)
 
 -- a number that counts

@@ -5,7 +5,7 @@ use Rattle.determinize_syntax.specs.Spells.{Bytes}
 use Rattle.determinize_syntax.specs.Words.{is_name}
 use Rattle.determinize_syntax.specs.declared.error.ErrorKind.{ErrorKind}
 use Rattle.determinize_syntax.specs.declared.error.ErrorKind.TheVariants.{GroupNameDuplicate, NestLimitExceeded}
-use Rattle.determinize_syntax.specs.declared.error.ParseError.{ParseError}
+use Rattle.determinize_syntax.specs.declared.error.Rejection.{Rejection}
 use Rattle.determinize_syntax.specs.declared.group.Context.{Context}
 use Rattle.determinize_syntax.specs.declared.parser.TheConstants.{NEST_LIMIT}
 
@@ -32,6 +32,6 @@ pub record Passes (old : Context) (a : Bytes) (depth : ℕ) (new : Context) (b :
   pub named : (text : Bytes) → HasNames text old a → HasNames text new b
 
 -- an error at a limit is right where a is still to read, and `levels` levels are left
-pub record IsRight (levels : ℕ) (old : Context) (a : Bytes) (e : ParseError) : Type 0 where
+pub record IsRight (levels : ℕ) (old : Context) (a : Bytes) (e : Rejection) : Type 0 where
   pub nested : e.kind ≡ NestLimitExceeded → levels ≤ NEST_LIMIT → levels < openings a
   pub twice : e.kind ≡ GroupNameDuplicate → (text : Bytes) → HasNames text old a → HasNameTwice text

@@ -47,7 +47,7 @@ returns-then-not-branch-clause-limits c levels =
     let key = c.since-name.result in
     let same : key.now ≡ part.0 = c.since-name.ensures part.0 part.1 in
     record {
-      nested = λ is few. (let never : GroupNameDuplicate ≡ NestLimitExceeded = sym c.new.ensures.kind ∙ is
+      nested = λ is few. (let never : GroupNameDuplicate ≡ NestLimitExceeded = sym c.new.ensures ∙ is
           in absurd (cc));
       twice = λ is text h. name_twice (λ k. k.now) _ c.args.context.now.names.keys key text h.0 (rest c.take.new.self)
           (unnot _ (sym c.if-not-branch.true ∙ c.in_ok-insert.ensures.added)) (λ k e. same_name key.now k.now e)

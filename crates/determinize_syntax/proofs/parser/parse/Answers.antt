@@ -13,3 +13,6 @@ returns-clause-nested c = c.parse_with.ensures.nested
 
 pub returns-clause-twice : goal.returns-clause-twice
 returns-clause-twice c = c.parse_with.ensures.twice
+
+pub returns-clause-range : goal.returns-clause-range
+returns-clause-range c = c.parse_with.ensures.range
