@@ -2,14 +2,10 @@
 
 use std::alloc::AllocError;
 use std::env::{Env, FillError};
-use std::vec::IntoIter;
-
-/// The arguments that are not read yet.
-pub type Args = IntoIter<Vec<u8>>;
 
 /// Returns the arguments behind the name of the program. Unlike those of `env::args`, they need not
 /// be UTF-8.
-pub fn args(rt: &HostRuntime) -> Result<Args, AllocError> {
+pub fn args(rt: &HostRuntime) -> Result<Vec<Vec<u8>>, AllocError> {
     let mut args = Vec::new(rt.alloc());
     for index in 1..usize::MAX {
         match read(rt, index)? {
@@ -17,7 +13,7 @@ pub fn args(rt: &HostRuntime) -> Result<Args, AllocError> {
             None => break,
         }
     }
-    Ok(args.into_iter())
+    Ok(args)
 }
 
 /// Returns the argument at an index, if there is one.

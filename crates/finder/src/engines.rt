@@ -40,8 +40,12 @@ pub struct Engines<'r> {
     literals: Option<Literals>,
     /// Whether the matches of several lines are those of each.
     is_local: bool,
+    /// Whether they are also where a zero byte ends a line too.
+    is_local_in_binary: bool,
     /// The number of bytes that were searched.
     searched: usize,
+    /// The matches of the last line of which all were asked for.
+    found: Vec<Match>,
 }
 
 impl<'r> Engines<'r> {
@@ -49,7 +53,7 @@ impl<'r> Engines<'r> {
     pub fn new(
         alloc: Global,
         regex: &'r Regex,
-        settings: &Settings,
+        settings: &Settings<'_>,
     ) -> Result<Engines<'r>, AllocError> {
         let (patterns, terminator) = (regex.patterns(), settings.terminator);
         Ok(Engines {
@@ -59,8 +63,10 @@ impl<'r> Engines<'r> {
             terminator,
             dfa: None,
             literals: Literals::of(alloc, patterns, terminator)?,
-            is_local: are_local(patterns, terminator),
+            is_local: are_local(patterns, terminator, terminator == b'\n'),
+            is_local_in_binary: are_local(patterns, terminator, false),
             searched: 0,
+            found: Vec::new(alloc),
         })
     }
 
@@ -83,9 +89,14 @@ impl<'r> Engines<'r> {
         }
     }
 
-    /// Returns whether `find` finds lines.
-    pub fn can_find(&self) -> bool {
-        self.literals.is_some() || (self.dfa.is_some() && self.is_local)
+    /// Returns whether `find` finds lines, in a binary text or in another.
+    pub fn can_find(&self, is_binary: bool) -> bool {
+        let is_local = if is_binary {
+            self.is_local_in_binary
+        } else {
+            self.is_local
+        };
+        self.literals.is_some() || (self.dfa.is_some() && is_local)
     }
 
     /// Returns whether each line that `find` finds has a match.
@@ -122,21 +133,22 @@ impl<'r> Engines<'r> {
     }
 
     /// Returns all matches of a line, in linear time if it is long, but not too long.
-    pub fn matches(&mut self, line: &[u8]) -> Result<Vec<Match>, AllocError> {
+    pub fn matches(&mut self, line: &[u8]) -> Result<&[Match], AllocError> {
         let input = Input::new(line);
-        if line.len() >= LONG && line.len() < TOO_LONG {
-            self.matcher.find_all_linear(self.alloc, &input)
+        self.found = if line.len() >= LONG && line.len() < TOO_LONG {
+            self.matcher.find_all_linear(self.alloc, &input)?
         } else {
-            self.matcher.find_all(self.alloc, &input)
-        }
+            self.matcher.find_all(self.alloc, &input)?
+        };
+        Ok(self.found.as_slice())
     }
 }
 
 /// Returns whether each of the patterns is local.
 #[cycle(local)]
-fn are_local(patterns: &[Pattern], terminator: u8) -> bool {
+pub fn are_local(patterns: &[Pattern], terminator: u8, ends_lines: bool) -> bool {
     for i in 0..patterns.len() {
-        if !is_local(&patterns[i], terminator) {
+        if !is_local(&patterns[i], terminator, ends_lines) {
             return false;
         }
     }
@@ -144,22 +156,30 @@ fn are_local(patterns: &[Pattern], terminator: u8) -> bool {
 }
 
 /// Returns whether the matches of a pattern in several lines are those in each of them: none has
-/// the byte that ends a line, and no assertion distinguishes that byte from the end of a text.
+/// the byte that ends a line, and no assertion distinguishes that byte from the end of a text. One
+/// about lines does not if `ends_lines`: if LF, and no other byte, ends a line.
 #[cycle(local)]
-fn is_local(pattern: &Pattern, terminator: u8) -> bool {
+fn is_local(pattern: &Pattern, terminator: u8, ends_lines: bool) -> bool {
     match pattern {
         Pattern::Empty => true,
         Pattern::Literal(bytes) => !bytes.contains(&terminator),
         Pattern::Class(class) => !has_byte(class, terminator),
-        Pattern::Look(look) => is_about_words(*look),
-        Pattern::Capture(sub) => is_local(sub, terminator),
-        Pattern::Repetition { sub, .. } => is_local(sub, terminator),
-        Pattern::Concat(subs) | Pattern::Alternation(subs) => are_local(subs, terminator),
+        Pattern::Look(look) => is_about_words(*look) || (ends_lines && is_about_lines(*look)),
+        Pattern::Capture(sub) => is_local(sub, terminator, ends_lines),
+        Pattern::Repetition { sub, .. } => is_local(sub, terminator, ends_lines),
+        Pattern::Concat(subs) | Pattern::Alternation(subs) => {
+            are_local(subs, terminator, ends_lines)
+        }
     }
 }
 
-/// Returns whether an assertion holds at the end of a line as it does at the end of a text: whether
-/// it is about words. A byte that is a letter ends no line.
+/// Returns whether an assertion is about lines that end in LF.
+fn is_about_lines(look: Look) -> bool {
+    matches!(look, Look::StartLF | Look::EndLF)
+}
+
+/// Returns whether an assertion is about words. It holds at the end of a line as it does at the end
+/// of a text, since a byte that is a letter ends no line.
 fn is_about_words(look: Look) -> bool {
     !matches!(
         look,

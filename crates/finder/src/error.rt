@@ -10,21 +10,13 @@ const LONGEST_SHOWN: usize = 200;
 
 /// An error that ends the program.
 #[derive(Drop)]
-pub enum Error {
-    /// There is no such option.
-    UnknownOption(Vec<u8>),
-    /// Several options have names that begin like this.
-    AmbiguousOption(Vec<u8>),
-    /// The option needs a value, and the arguments have ended.
-    MissingValue(Vec<u8>),
-    /// The option takes no value.
-    UnneededValue(Vec<u8>),
-    /// The value is none of those of its option.
-    InvalidValue(Vec<u8>),
+pub enum Error<'a> {
+    /// An argument is wrong: what is, in words, and the option or the value.
+    Usage(&'static str, &'a [u8]),
     /// There is no pattern.
     NoPattern,
     /// A file of patterns was not read.
-    PatternFile { name: Vec<u8>, error: io::Error },
+    PatternFile { name: &'a [u8], error: io::Error },
     /// A pattern is not UTF-8.
     NotUtf8(Vec<u8>),
     /// The text of a pattern is rejected by `parse_with`.
@@ -32,57 +24,50 @@ pub enum Error {
     /// The patterns were not compiled.
     Compile(CompileError),
     /// Standard output was not written.
-    Output(OutputError),
+    Output(io::Error),
     /// An allocation failed.
     OutOfMemory,
 }
 
-impl fmt::Display for Error {
+impl fmt::Display for Error<'_> {
     fn fmt<W: fmt::Write>(&self, f: &mut fmt::Formatter<W>) -> fmt::Result {
         match self {
-            Error::UnknownOption(option) => write_usage(f, "there is no such option", option),
-            Error::AmbiguousOption(option) => write_usage(f, "several options begin so", option),
-            Error::MissingValue(option) => write_usage(f, "the option needs a value", option),
-            Error::UnneededValue(option) => write_usage(f, "the option takes no value", option),
-            Error::InvalidValue(value) => write_usage(f, "the value is invalid", value),
+            Error::Usage(problem, argument) => {
+                write_usage(f, problem, argument, "see finder --help")
+            }
             Error::NoPattern => f.write_str("there is no pattern (see finder --help)"),
-            Error::PatternFile { name, error } => write_named(f, name, error),
-            Error::NotUtf8(text) => write_not_utf8(f, text),
+            Error::PatternFile { name, error } => write_failure(f, name, error),
+            Error::NotUtf8(text) => {
+                let hint = "write \\xFF for a byte, or use -F";
+                write_usage(f, "a pattern is not UTF-8", text, hint)
+            }
             Error::Parse { text, error } => write_parse(f, text.as_str(), error),
             Error::Compile(error) => fmt::Display::fmt(error, f),
-            Error::Output(error) => write_output(f, error),
+            Error::Output(error) => write_failure(f, b"write error", error),
             Error::OutOfMemory => f.write_str("memory exhausted"),
         }
     }
 }
 
-/// Writes an error of the arguments, and where to read of them.
+/// Writes what is wrong with an argument, and what to do.
 fn write_usage<W: fmt::Write>(
     f: &mut fmt::Formatter<W>,
-    error: &str,
+    problem: &str,
     argument: &[u8],
+    hint: &str,
 ) -> fmt::Result {
     let argument = Quoted(argument);
-    write!(f, "{error}: {argument} (see finder --help)")
+    write!(f, "{problem}: {argument} ({hint})")
 }
 
-/// Writes an error of a file.
-fn write_named<W: fmt::Write>(
+/// Writes what failed, as a file of this name, and why.
+fn write_failure<W: fmt::Write>(
     f: &mut fmt::Formatter<W>,
     name: &[u8],
     error: &io::Error,
 ) -> fmt::Result {
-    let (name, reason) = (Quoted(name), Reason(error));
+    let (name, reason) = (Quoted(name), Reason::of(error));
     write!(f, "{name}: {reason}")
-}
-
-/// Writes that a pattern is not UTF-8, and what to do.
-fn write_not_utf8<W: fmt::Write>(f: &mut fmt::Formatter<W>, text: &[u8]) -> fmt::Result {
-    let text = Quoted(text);
-    write!(
-        f,
-        "a pattern is not UTF-8: {text} (write \\xFF for a byte, or use -F)"
-    )
 }
 
 /// Writes the error of a pattern, under its text if that is short and has no control characters.
@@ -91,44 +76,38 @@ fn write_parse<W: fmt::Write>(
     text: &str,
     error: &ParseError,
 ) -> fmt::Result {
-    if text.len() > LONGEST_SHOWN || text.contains(char::is_control) {
+    if text.len() > LONGEST_SHOWN || has_control(text) {
         return write!(f, "in a pattern: {error}");
     }
     let marked = error.display(text);
     write!(f, "\n{marked}")
 }
 
-/// Writes an error of the output.
-fn write_output<W: fmt::Write>(f: &mut fmt::Formatter<W>, error: &OutputError) -> fmt::Result {
-    let reason = Reason(&error.0);
-    write!(f, "write error: {reason}")
+/// Returns whether a text has control characters.
+fn has_control(text: &str) -> bool {
+    for c in text.chars() {
+        if c.is_control() {
+            return true;
+        }
+    }
+    false
 }
 
-impl From<AllocError> for Error {
-    fn from(_error: AllocError) -> Error {
+impl From<AllocError> for Error<'_> {
+    fn from(_error: AllocError) -> Self {
         Error::OutOfMemory
     }
 }
 
-impl<T: Drop> From<AllocFailed<T>> for Error {
-    fn from(_error: AllocFailed<T>) -> Error {
+impl<T: Drop> From<AllocFailed<T>> for Error<'_> {
+    fn from(_error: AllocFailed<T>) -> Self {
         Error::OutOfMemory
     }
 }
 
-impl From<OutputError> for Error {
-    fn from(error: OutputError) -> Error {
+impl From<io::Error> for Error<'_> {
+    fn from(error: io::Error) -> Self {
         Error::Output(error)
-    }
-}
-
-/// An error of standard output.
-#[derive(Drop)]
-pub struct OutputError(pub io::Error);
-
-impl From<io::Error> for OutputError {
-    fn from(error: io::Error) -> OutputError {
-        OutputError(error)
     }
 }
 
@@ -137,34 +116,18 @@ impl From<io::Error> for OutputError {
 pub enum SearchError {
     /// The text was not read, or an allocation failed: other texts may still be searched.
     Input(io::Error),
-    /// The text is a directory.
-    IsDirectory,
-    /// The text is the file that standard output is written to.
-    IsOutput,
     /// Standard output was not written.
-    Output(OutputError),
+    Output(io::Error),
 }
 
 impl From<io::Error> for SearchError {
     fn from(error: io::Error) -> SearchError {
-        SearchError::Input(error)
+        SearchError::Output(error)
     }
 }
 
 impl From<AllocError> for SearchError {
     fn from(error: AllocError) -> SearchError {
         SearchError::Input(io::Error::from(error))
-    }
-}
-
-impl<T: Drop> From<AllocFailed<T>> for SearchError {
-    fn from(error: AllocFailed<T>) -> SearchError {
-        SearchError::Input(io::Error::from(error))
-    }
-}
-
-impl From<OutputError> for SearchError {
-    fn from(error: OutputError) -> SearchError {
-        SearchError::Output(error)
     }
 }

@@ -1,27 +1,34 @@
 //! The files that are searched.
 
-use crate::error::{OutputError, SearchError};
-use crate::globs::Origin;
-use crate::lines::{Found, Lines};
-use crate::options::{Names, Options, Settings, Shows};
+use crate::blocks::Blocks;
+use crate::error::SearchError;
+use crate::lines::Lines;
+use crate::options::{Names, Options};
 use crate::quoted::{Quoted, Reason};
-use std::io::{self, Write};
+use std::alloc::AllocError;
+use std::fs::{self, Metadata};
+use std::io::{self, Read, Write};
 use std::os::unix::fs::MetadataExt;
 use std::process::ExitCode;
-use std::{fs, str};
-
-/// The name of standard input.
-const INPUT: &str = "(standard input)";
+use std::str;
 
 /// A search of files.
 #[derive(Drop)]
-pub struct Files<'a, W: Write + Drop> {
+pub struct Files<'a> {
     rt: &'a HostRuntime,
-    options: &'a Options,
-    lines: Lines<'a, W>,
-    /// The file that standard output is written to, if it is one.
+    options: &'a Options<'a>,
+    lines: Lines<'a>,
+    blocks: Blocks,
+    /// The file that standard output is written to, if a search of it might not end.
     output: Option<FileId>,
-    outcome: Outcome,
+    /// The entries of directories that are not searched yet, the next one last.
+    pending: Vec<Entry>,
+    /// The directory that was listed last, behind those around it.
+    around: Vec<FileId>,
+    /// Whether a line was selected.
+    is_selected: bool,
+    /// Whether something was not read.
+    is_failed: bool,
 }
 
 /// A file, regardless of its names.
@@ -29,15 +36,6 @@ pub struct Files<'a, W: Write + Drop> {
 struct FileId {
     device: u64,
     inode: u64,
-}
-
-/// The entries of a directory that are not searched yet, and of those below it.
-#[derive(Drop)]
-struct Tree {
-    /// The entries, the next one last.
-    pending: Vec<Entry>,
-    /// The directory that was listed last, behind those around it.
-    around: Vec<FileId>,
 }
 
 /// An entry of a directory.
@@ -48,91 +46,95 @@ struct Entry {
     depth: usize,
 }
 
-/// What a search of files has come to.
-#[derive(Clone, Copy, Default)]
-struct Outcome {
-    is_selected: bool,
-    is_failed: bool,
+/// What is known of a file or a directory.
+#[derive(Clone, Copy)]
+struct Known {
+    id: FileId,
+    is_dir: bool,
+    /// The size, unless it is a device, a pipe or a directory.
+    size: Option<u64>,
 }
 
-impl FileId {
-    /// Returns the file of a name, if there is one and it is no device, pipe or directory.
-    fn of_name(rt: &HostRuntime, name: &str) -> Option<FileId> {
-        match fs::metadata(rt, name) {
-            Ok(metadata) => FileId::of(&metadata),
-            Err(_) => None,
+impl Known {
+    /// Returns what is known by this.
+    fn of(metadata: io::Result<Metadata>) -> io::Result<Known> {
+        match metadata {
+            Ok(metadata) => Ok(Known {
+                id: FileId {
+                    device: metadata.dev(),
+                    inode: metadata.ino(),
+                },
+                is_dir: metadata.is_dir(),
+                size: metadata.is_file().then_some(metadata.len()),
+            }),
+            Err(error) => Err(error),
         }
     }
 
-    /// Returns the file that something is known of, unless it is a device, a pipe or a directory.
-    fn of(metadata: &fs::Metadata) -> Option<FileId> {
-        metadata.is_file().then_some(FileId::new(metadata))
-    }
-
-    /// Returns the file or the directory that something is known of.
-    fn new(metadata: &fs::Metadata) -> FileId {
-        FileId {
-            device: metadata.dev(),
-            inode: metadata.ino(),
-        }
+    /// Returns what is known of the file of a name, or of one that a link leads to.
+    fn of_name(rt: &HostRuntime, name: &str) -> io::Result<Known> {
+        Known::of(fs::metadata(rt, name))
     }
 }
 
-impl Outcome {
-    /// Returns the exit status. If nothing is printed, a selected line outweighs a file that was
-    /// not read.
-    fn status(self, shows: Shows) -> ExitCode {
-        let is_quiet = self.is_selected && shows == Shows::Nothing;
-        let status = match (self.is_failed, self.is_selected) {
-            (true, _) if !is_quiet => 2,
-            (_, true) => 0,
-            (_, false) => 1,
-        };
-        ExitCode::from(status)
-    }
-}
-
-impl<'a, W: Write + Drop> Files<'a, W> {
+impl<'a> Files<'a> {
     /// Returns a search that has read nothing.
-    pub fn new(rt: &'a HostRuntime, options: &'a Options, lines: Lines<'a, W>) -> Files<'a, W> {
-        let output = if can_grow(&options.settings) {
-            FileId::of_name(rt, "/dev/stdout")
-        } else {
-            None
+    pub fn new(
+        rt: &'a HostRuntime,
+        options: &'a Options<'a>,
+        lines: Lines<'a>,
+    ) -> Result<Files<'a>, AllocError> {
+        let settings = &options.settings;
+        let output = match Known::of_name(rt, "/dev/stdout") {
+            Ok(known) if settings.can_grow() && known.size.is_some() => Some(known.id),
+            _ => None,
         };
-        Files {
+        Ok(Files {
             rt,
             options,
             lines,
+            blocks: Blocks::new(rt.alloc(), settings.terminator)?,
             output,
-            outcome: Outcome::default(),
-        }
+            pending: Vec::new(rt.alloc()),
+            around: Vec::new(rt.alloc()),
+            is_selected: false,
+            is_failed: false,
+        })
     }
 
     /// Searches all files, and returns the exit status. If nothing is printed, stops at the first
     /// file with a selected line.
-    pub fn search_all(&mut self) -> Result<ExitCode, OutputError> {
+    pub fn search_all(&mut self) -> io::Result<ExitCode> {
         let options = self.options;
         if options.files.is_empty() {
             self.search_default()?;
         }
         for name in &options.files {
-            self.search_operand(name.as_slice())?;
-            if self.is_decided() {
-                break;
+            if !self.is_decided() {
+                self.search_operand(name)?;
             }
         }
         self.lines.printer.flush()?;
-        Ok(self.outcome.status(options.settings.shows))
+        Ok(self.status())
+    }
+
+    /// Returns the exit status. If nothing is printed, a selected line outweighs a file that was
+    /// not read.
+    fn status(&self) -> ExitCode {
+        ExitCode::from(if self.is_failed && !self.is_decided() {
+            2
+        } else {
+            u8::from(!self.is_selected)
+        })
     }
 
     /// Returns whether the exit status is known, and nothing is printed.
     fn is_decided(&self) -> bool {
-        self.outcome.is_selected && self.options.settings.shows == Shows::Nothing
+        self.is_selected && self.options.settings.is_quiet()
     }
 
     /// Searches what is searched without operands.
-    fn search_default(&mut self) -> Result<(), OutputError> {
+    fn search_default(&mut self) -> io::Result<()> {
         if self.options.settings.is_recursive {
             self.search_tree(".")
         } else {
@@ -141,18 +143,25 @@ impl<'a, W: Write + Drop> Files<'a, W> {
     }
 
     /// Searches a file, the files below a directory, or standard input for `-`.
-    fn search_operand(&mut self, name: &[u8]) -> Result<(), OutputError> {
-        if name == b"-".as_slice() {
-            return self.search_input();
-        }
+    fn search_operand(&mut self, name: &[u8]) -> io::Result<()> {
         match str::from_utf8(name) {
-            Ok(path) if self.skips_operand(path) => Ok(()),
-            Ok(path) if self.options.settings.is_recursive && self.is_dir(path) => {
-                self.search_tree(path)
-            }
-            Ok(path) => self.search_file(path, self.is_named(false)),
-            Err(_) => self.report(name, "the name is not UTF-8"),
+            Ok("-") => self.search_input(),
+            Ok(path) => self.search_path(path),
+            Err(_) => self.report(name, Reason::Text("the name is not UTF-8")),
         }
+    }
+
+    /// Searches a file, or the files below a directory, unless it is skipped by its name.
+    fn search_path(&mut self, path: &str) -> io::Result<()> {
+        let (globs, is_recursive) = (&self.options.globs, self.options.settings.is_recursive);
+        if is_recursive || !globs.is_empty() {
+            match Known::of_name(self.rt, path) {
+                Ok(known) if globs.skips(path.as_bytes(), known.is_dir) => return Ok(()),
+                Ok(known) if known.is_dir && is_recursive => return self.search_tree(path),
+                _ => {}
+            }
+        }
+        self.search_file(path, self.is_named(false))
     }
 
     /// Returns whether names of files are printed: by the options, or in a tree.
@@ -164,123 +173,84 @@ impl<'a, W: Write + Drop> Files<'a, W> {
         }
     }
 
-    /// Returns whether a path is that of a directory.
-    fn is_dir(&self, path: &str) -> bool {
-        match fs::metadata(self.rt, path) {
-            Ok(metadata) => metadata.is_dir(),
-            Err(_) => false,
-        }
-    }
-
-    /// Returns whether an operand is skipped by its name.
-    fn skips_operand(&self, path: &str) -> bool {
-        let globs = &self.options.globs;
-        !globs.is_empty()
-            && match fs::metadata(self.rt, path) {
-                Ok(metadata) => globs.skips(path.as_bytes(), Origin::Operand, metadata.is_dir()),
-                Err(_) => false,
-            }
-    }
-
     /// Searches standard input.
-    fn search_input(&mut self) -> Result<(), OutputError> {
+    fn search_input(&mut self) -> io::Result<()> {
+        let (rt, options) = (self.rt, self.options);
+        let known = Known::of_name(rt, "/dev/stdin").ok();
         let is_named = self.is_named(false);
-        let label = match &self.options.label {
-            Some(label) => label.as_str(),
-            None => INPUT,
-        };
-        let found = self.read_input(is_named.then_some(label));
-        self.record(label, is_named, found)
-    }
-
-    /// Reads standard input, and prints what the options select.
-    fn read_input(&mut self, name: Option<&str>) -> Result<Found, SearchError> {
-        let (mut file, mut size) = (None, None);
-        if let Ok(metadata) = fs::metadata(self.rt, "/dev/stdin") {
-            file = FileId::of(&metadata);
-            size = metadata.is_file().then_some(metadata.len());
-        }
-        if self.is_output(file) {
-            return Err(SearchError::IsOutput);
-        }
-        self.lines.search(name, size, self.rt.reader())
+        self.search_text(options.settings.label, is_named, known, &mut rt.stdin())
     }
 
     /// Searches a file.
-    fn search_file(&mut self, path: &str, is_named: bool) -> Result<(), OutputError> {
-        let shown = if self.options.files.is_empty() {
+    fn search_file(&mut self, path: &str, is_named: bool) -> io::Result<()> {
+        let name = if self.options.files.is_empty() {
             path.strip_prefix("./").unwrap_or(path)
         } else {
             path
         };
-        let found = self.read_file(path, is_named.then_some(shown));
-        self.record(shown, is_named, found)
-    }
-
-    /// Reads a file, and prints what the options select.
-    fn read_file(&mut self, path: &str, name: Option<&str>) -> Result<Found, SearchError> {
-        let file = fs::open(self.rt, path)?;
-        let metadata = file.metadata()?;
-        if metadata.is_dir() {
-            return Err(SearchError::IsDirectory);
+        let mut file = match fs::open(self.rt, path) {
+            Ok(file) => file,
+            Err(error) => return self.report_error(name, &error),
+        };
+        match Known::of(file.metadata()) {
+            Ok(known) if known.is_dir => {
+                self.report(name.as_bytes(), Reason::Text("Is a directory"))?;
+                self.lines.printer.total(name, is_named, 0)
+            }
+            Ok(known) => self.search_text(name, is_named, Some(known), &mut file),
+            Err(error) => self.report_error(name, &error),
         }
-        if self.is_output(FileId::of(&metadata)) {
-            return Err(SearchError::IsOutput);
-        }
-        let size = metadata.is_file().then_some(metadata.len());
-        self.lines.search(name, size, file)
     }
 
-    /// Returns whether a file is the one that standard output is written to.
-    fn is_output(&self, file: Option<FileId>) -> bool {
-        file.is_some() && file == self.output
-    }
-
-    /// Records what a search found, and prints the total, or why there is none.
-    fn record(
+    /// Searches a text, unless it is what standard output is written to, and prints what the
+    /// settings select.
+    fn search_text<R: Read>(
         &mut self,
         name: &str,
         is_named: bool,
-        found: Result<Found, SearchError>,
-    ) -> Result<(), OutputError> {
-        match found {
-            Ok(found) => {
-                self.outcome.is_selected = self.outcome.is_selected || found.selected > 0;
-                self.lines.print_total(name, is_named, found)?;
-                if found.is_left_out {
-                    self.note(name.as_bytes(), "binary file matches")?;
-                }
-                Ok(())
+        known: Option<Known>,
+        input: &mut R,
+    ) -> io::Result<()> {
+        let mut size = None;
+        if let Some(known) = known {
+            if self.is_output(known.id) {
+                let reason = Reason::Text("input file is also the output");
+                return self.report(name.as_bytes(), reason);
             }
-            Err(SearchError::Input(error)) => self.report_error(name, &error),
-            Err(SearchError::IsDirectory) => {
-                self.report(name.as_bytes(), "Is a directory")?;
-                self.lines.print_total(name, is_named, Found::default())
-            }
-            Err(SearchError::IsOutput) => {
-                self.report(name.as_bytes(), "input file is also the output")
-            }
-            Err(SearchError::Output(error)) => Err(error),
+            size = known.size;
+        }
+        let shown = is_named.then_some(name);
+        let found = match self.lines.search(shown, size, &mut self.blocks, input) {
+            Ok(found) => found,
+            Err(SearchError::Input(error)) => return self.report_error(name, &error),
+            Err(SearchError::Output(error)) => return Err(error),
+        };
+        self.is_selected = self.is_selected || found.selected > 0;
+        self.lines.printer.total(name, is_named, found.selected)?;
+        if found.is_left_out {
+            self.note(name.as_bytes(), Reason::Text("binary file matches"))?;
+        }
+        Ok(())
+    }
+
+    /// Returns whether a file is the one that standard output is written to.
+    fn is_output(&self, id: FileId) -> bool {
+        match self.output {
+            Some(output) => output == id,
+            None => false,
         }
     }
 
     /// Searches all files below a directory, in the order of their names.
-    fn search_tree(&mut self, root: &str) -> Result<(), OutputError> {
-        let mut tree = Tree {
-            pending: Vec::new(self.rt.alloc()),
-            around: Vec::new(self.rt.alloc()),
-        };
-        match fs::metadata(self.rt, root) {
-            Ok(metadata) => self.search_dir(root, 0, FileId::new(&metadata), &mut tree)?,
+    fn search_tree(&mut self, root: &str) -> io::Result<()> {
+        match Known::of_name(self.rt, root) {
+            Ok(known) => self.search_dir(root, 0, known.id)?,
             Err(error) => self.report_error(root, &error)?,
         }
         for _ in 0..u64::MAX {
-            let Some(entry) = tree.pending.pop() else {
-                break;
-            };
-            self.search_entry(&entry, &mut tree)?;
-            if self.is_decided() {
-                break;
+            match self.pending.pop() {
+                Some(entry) if !self.is_decided() => self.search_entry(&entry)?,
+                _ => break,
             }
         }
         Ok(())
@@ -288,56 +258,40 @@ impl<'a, W: Write + Drop> Files<'a, W> {
 
     /// Searches an entry of a directory if it is a file, and adds its entries if it is a directory.
     /// A link is followed if the settings say so.
-    fn search_entry(&mut self, entry: &Entry, tree: &mut Tree) -> Result<(), OutputError> {
+    fn search_entry(&mut self, entry: &Entry) -> io::Result<()> {
         let path = entry.path.as_str();
-        let metadata = if self.options.settings.follows_links {
-            fs::metadata(self.rt, path)
+        let known = if self.options.settings.follows_links {
+            Known::of_name(self.rt, path)
         } else {
-            fs::symlink_metadata(self.rt, path)
+            Known::of(fs::symlink_metadata(self.rt, path))
         };
-        let is_dir = match &metadata {
-            Ok(metadata) => metadata.is_dir(),
-            Err(_) => false,
-        };
-        if self.skips_entry(path, is_dir) {
-            return Ok(());
-        }
-        match metadata {
-            Ok(metadata) if is_dir => {
-                self.search_dir(path, entry.depth, FileId::new(&metadata), tree)
-            }
-            Ok(metadata) if metadata.is_file() => self.search_file(path, self.is_named(true)),
+        match known {
+            Ok(known) if self.skips_entry(path, known.is_dir) => Ok(()),
+            Ok(known) if known.is_dir => self.search_dir(path, entry.depth, known.id),
+            Ok(known) if known.size.is_some() => self.search_file(path, self.is_named(true)),
             Ok(_) => Ok(()),
+            Err(_) if self.skips_entry(path, false) => Ok(()),
             Err(error) => self.report_error(path, &error),
         }
     }
 
     /// Returns whether an entry of a directory is skipped by its name.
     fn skips_entry(&self, path: &str, is_dir: bool) -> bool {
-        let globs = &self.options.globs;
-        if globs.is_empty() {
-            return false;
-        }
         let name = match path.rsplit_once('/') {
             Some((_, name)) => name,
             None => path,
         };
-        globs.skips(name.as_bytes(), Origin::Entry, is_dir)
+        self.options.globs.skips(name.as_bytes(), is_dir)
     }
 
     /// Adds the entries of a directory, unless it is in itself by a link.
-    fn search_dir(
-        &mut self,
-        path: &str,
-        depth: usize,
-        id: FileId,
-        tree: &mut Tree,
-    ) -> Result<(), OutputError> {
-        tree.around.truncate(depth);
-        if tree.around.contains(&id) {
-            return self.warn(path, "warning: recursive directory loop");
+    fn search_dir(&mut self, path: &str, depth: usize, id: FileId) -> io::Result<()> {
+        self.around.truncate(depth);
+        if self.around.contains(&id) {
+            let reason = Reason::Text("warning: recursive directory loop");
+            return self.warn(path.as_bytes(), reason);
         }
-        match self.list(path, id, tree) {
+        match self.list(path, id) {
             Ok(()) => Ok(()),
             Err(error) => self.report_error(path, &error),
         }
@@ -345,66 +299,57 @@ impl<'a, W: Write + Drop> Files<'a, W> {
 
     /// Adds the entries of a directory, the last name first. One whose name is not UTF-8 is left
     /// out, and is an error.
-    fn list(&self, path: &str, id: FileId, tree: &mut Tree) -> io::Result<()> {
-        tree.around.push(id)?;
+    fn list(&mut self, path: &str, id: FileId) -> io::Result<()> {
+        self.around.push(id)?;
         let mut paths = Vec::new(self.rt.alloc());
-        let mut result = Ok(());
-        for entry in fs::read_dir(self.rt, path)? {
-            match entry {
-                Ok(entry) => paths.push(String::from_str(self.rt.alloc(), entry.path().as_str())?)?,
-                Err(error) => result = Err(error),
-            }
-        }
+        let result = push_paths(self.rt, path, &mut paths);
         paths.sort()?;
-        let depth = tree.around.len();
+        let depth = self.around.len();
         for _ in 0..paths.len() {
             if let Some(path) = paths.pop() {
-                tree.pending.push(Entry { path, depth })?;
+                self.pending.push(Entry { path, depth })?;
             }
         }
         result
     }
 
     /// Reports that a file was not read.
-    fn report_error(&mut self, name: &str, error: &io::Error) -> Result<(), OutputError> {
-        self.outcome.is_failed = true;
-        if self.options.settings.is_silent {
-            return Ok(());
-        }
-        self.lines.printer.flush()?;
-        let (name, reason) = (Quoted(name.as_bytes()), Reason(error));
-        let _ = writeln!(self.rt.stderr(), "finder: {name}: {reason}");
-        Ok(())
-    }
-
-    /// Writes what is unusual about a file, unless there are no messages.
-    fn warn(&mut self, name: &str, message: &str) -> Result<(), OutputError> {
-        if self.options.settings.is_silent {
-            return Ok(());
-        }
-        self.note(name.as_bytes(), message)
+    fn report_error(&mut self, name: &str, error: &io::Error) -> io::Result<()> {
+        self.report(name.as_bytes(), Reason::of(error))
     }
 
     /// Reports what is wrong with a file.
-    fn report(&mut self, name: &[u8], message: &str) -> Result<(), OutputError> {
-        self.outcome.is_failed = true;
+    fn report(&mut self, name: &[u8], reason: Reason<'_>) -> io::Result<()> {
+        self.is_failed = true;
+        self.warn(name, reason)
+    }
+
+    /// Writes what is unusual about a file, unless there are no messages.
+    fn warn(&mut self, name: &[u8], reason: Reason<'_>) -> io::Result<()> {
         if self.options.settings.is_silent {
             return Ok(());
         }
-        self.note(name, message)
+        self.note(name, reason)
     }
 
     /// Writes something about a file to standard error, behind all that was printed.
-    fn note(&mut self, name: &[u8], message: &str) -> Result<(), OutputError> {
+    fn note(&mut self, name: &[u8], reason: Reason<'_>) -> io::Result<()> {
         self.lines.printer.flush()?;
         let name = Quoted(name);
-        let _ = writeln!(self.rt.stderr(), "finder: {name}: {message}");
+        let _ = writeln!(self.rt.stderr(), "finder: {name}: {reason}");
         Ok(())
     }
 }
 
-/// Returns whether a search of the file that it writes to might not end: if it prints more than one
-/// line of it.
-fn can_grow(settings: &Settings) -> bool {
-    settings.prints_lines() && settings.max_count > 1
+/// Adds the paths of the entries of a directory. One that is not UTF-8 is an error, and the others
+/// are added.
+fn push_paths(rt: &HostRuntime, path: &str, paths: &mut Vec<String>) -> io::Result<()> {
+    let mut result = Ok(());
+    for entry in fs::read_dir(rt, path)? {
+        match entry {
+            Ok(entry) => paths.push(String::from_str(rt.alloc(), entry.path().as_str())?)?,
+            Err(error) => result = Err(error),
+        }
+    }
+    result
 }

@@ -49,21 +49,13 @@ pub enum Flag {
 }
 
 /// Whether an option has a value.
-#[derive(Clone, Copy, PartialEq, Eq)]
+#[derive(Clone, Copy)]
 pub enum Takes {
     Nothing,
     /// A value, which may only follow an equals sign.
     Optional,
     /// A value, which may be the next argument.
     Value,
-}
-
-/// What the name of an option, or the beginning of one, means.
-#[derive(Clone, Copy, PartialEq, Eq)]
-pub enum Named {
-    Nothing,
-    One(Flag),
-    Several,
 }
 
 /// The letter of an option without one.
@@ -129,19 +121,25 @@ impl Flag {
         None
     }
 
-    /// Returns the option of a name, or else the one whose name begins like this.
-    pub fn from_name(name: &[u8]) -> Named {
-        let mut named = Named::Nothing;
+    /// Returns the option of a name, or else the only one whose name begins like this. If there is
+    /// none, returns why, in words.
+    pub fn from_name(name: &[u8]) -> Result<Flag, &'static str> {
+        let (mut found, mut are_several) = (None, false);
         for (_, own, flag) in &NAMES {
             let own = own.as_bytes();
             if own == name {
-                return Named::One(*flag);
+                return Ok(*flag);
             }
             if own.starts_with(name) {
-                named = named.or(*flag);
+                are_several = are_several || matches!(found, Some(other) if other != *flag);
+                found = Some(*flag);
             }
         }
-        named
+        match found {
+            Some(_) if are_several => Err("several options begin so"),
+            Some(flag) => Ok(flag),
+            None => Err("there is no such option"),
+        }
     }
 
     /// Returns whether the option has a value.
@@ -161,17 +159,6 @@ impl Flag {
             | Flag::Regexp => Takes::Value,
             Flag::Color => Takes::Optional,
             _ => Takes::Nothing,
-        }
-    }
-}
-
-impl Named {
-    /// Returns what a beginning means with which one more name begins.
-    fn or(self, flag: Flag) -> Named {
-        match self {
-            Named::Nothing => Named::One(flag),
-            Named::One(other) if other == flag => self,
-            _ => Named::Several,
         }
     }
 }

@@ -4,32 +4,22 @@ use std::alloc::{AllocError, Global};
 
 /// Which files and directories are searched, by their names.
 #[derive(Drop)]
-pub struct Globs {
-    files: Vec<FileGlob>,
-    /// Those of directories that are skipped.
-    dirs: Vec<Vec<u8>>,
+pub struct Globs<'a> {
+    files: Vec<Glob<'a>>,
+    dirs: Vec<Glob<'a>>,
 }
 
-/// A glob of names of files.
-#[derive(Drop)]
-struct FileGlob {
-    text: Vec<u8>,
-    /// Whether these files are searched, and not skipped.
+/// A glob of names.
+#[derive(Clone, Copy)]
+struct Glob<'a> {
+    text: &'a [u8],
+    /// Whether what it matches is searched, and not skipped.
     includes: bool,
 }
 
-/// Where a name is from.
-#[derive(Clone, Copy, PartialEq, Eq)]
-pub enum Origin {
-    /// It is an operand. A glob may match what follows a slash of it.
-    Operand,
-    /// It is that of an entry of a directory.
-    Entry,
-}
-
-impl Globs {
+impl<'a> Globs<'a> {
     /// Returns no globs, so that all files are searched.
-    pub fn new(alloc: Global) -> Globs {
+    pub fn new(alloc: Global) -> Self {
         Globs {
             files: Vec::new(alloc),
             dirs: Vec::new(alloc),
@@ -37,19 +27,21 @@ impl Globs {
     }
 
     /// Adds a glob of files, which are searched or else skipped. The last one that matches counts.
-    pub fn push_file(&mut self, text: Vec<u8>, includes: bool) -> Result<(), AllocError> {
-        Ok(self.files.push(FileGlob { text, includes })?)
+    pub fn push_file(&mut self, text: &'a [u8], includes: bool) -> Result<(), AllocError> {
+        Ok(self.files.push(Glob { text, includes })?)
     }
 
     /// Adds a glob of directories that are skipped. Slashes at its end have no effect.
-    pub fn push_dir(&mut self, mut text: Vec<u8>) -> Result<(), AllocError> {
-        for _ in 0..text.len() {
-            if !matches!(text.as_slice(), [_, .., b'/']) {
-                break;
+    pub fn push_dir(&mut self, glob: &'a [u8]) -> Result<(), AllocError> {
+        let mut text = glob;
+        for _ in 0..glob.len() {
+            match text {
+                [front @ .., b'/'] if !front.is_empty() => text = front,
+                _ => break,
             }
-            let _slash = text.pop();
         }
-        Ok(self.dirs.push(text)?)
+        let includes = false;
+        Ok(self.dirs.push(Glob { text, includes })?)
     }
 
     /// Returns whether there are no globs.
@@ -57,34 +49,16 @@ impl Globs {
         self.files.is_empty() && self.dirs.is_empty()
     }
 
-    /// Returns whether a file or a directory is skipped.
-    pub fn skips(&self, name: &[u8], origin: Origin, is_dir: bool) -> bool {
-        if is_dir {
-            self.skips_dir(name, origin)
-        } else {
-            self.skips_file(name, origin)
-        }
-    }
-
-    /// Returns whether a directory is skipped.
-    fn skips_dir(&self, name: &[u8], origin: Origin) -> bool {
-        for glob in &self.dirs {
-            if matches_name(glob, name, origin) {
-                return true;
-            }
-        }
-        false
-    }
-
-    /// Returns whether a file is skipped. One that no glob matches is if the first glob includes
-    /// files.
-    fn skips_file(&self, name: &[u8], origin: Origin) -> bool {
-        let mut skips = match self.files.first() {
+    /// Returns whether a file or a directory is skipped. One that no glob matches is if the first
+    /// glob includes files.
+    pub fn skips(&self, name: &[u8], is_dir: bool) -> bool {
+        let globs = if is_dir { &self.dirs } else { &self.files };
+        let mut skips = match globs.first() {
             Some(first) => first.includes,
             None => false,
         };
-        for glob in &self.files {
-            if matches_name(&glob.text, name, origin) {
+        for glob in globs {
+            if matches_end(glob.text, name) {
                 skips = !glob.includes;
             }
         }
@@ -92,20 +66,19 @@ impl Globs {
     }
 }
 
-/// Returns whether a glob matches a name, or a part of an operand behind a slash.
-fn matches_name(glob: &[u8], name: &[u8], origin: Origin) -> bool {
-    if matches(glob, name) {
-        return true;
-    }
+/// Returns whether a glob matches a name, or what follows a slash of it.
+fn matches_end(glob: &[u8], name: &[u8]) -> bool {
+    let mut is_start = true;
     let mut rest = name;
-    for _ in 0..name.len() {
+    for _ in 0..=name.len() {
+        if is_start && matches(glob, rest) {
+            return true;
+        }
         let [byte, after @ ..] = rest else {
             break;
         };
+        is_start = *byte == b'/';
         rest = after;
-        if origin == Origin::Operand && *byte == b'/' && matches(glob, rest) {
-            return true;
-        }
     }
     false
 }

@@ -1,34 +1,36 @@
 //! A search in one text after the other, line by line.
 
-use crate::blocks::{Blocks, set_of};
+use crate::blocks::{Blocks, set_of, split_once};
 use crate::engines::Engines;
-use crate::error::{OutputError, SearchError};
-use crate::options::{Binary, Options, Settings, Shows};
-use crate::printer::{Head, Printer, Sign, digits};
+use crate::error::SearchError;
+use crate::options::{Binary, Settings};
+use crate::printer::{Head, Printer};
 use byte_set::ByteSet;
 use std::alloc::{AllocError, Global};
 use std::collections::VecDeque;
-use std::io::{Read, Write};
+use std::io::Read;
 
 /// A search of texts for the lines that the settings select.
 #[derive(Drop)]
-pub struct Lines<'a, W: Write + Drop> {
+pub struct Lines<'a> {
     alloc: Global,
-    settings: &'a Settings,
-    /// What is printed between groups of lines.
-    separator: Option<&'a [u8]>,
+    settings: &'a Settings<'a>,
     engines: Engines<'a>,
-    pub printer: Printer<W>,
+    pub printer: Printer<'a>,
+    /// The number of selected lines of a text after which no others are.
+    most: u64,
     /// The byte that ends a line.
     ends: ByteSet,
     /// The zero byte.
     zero: ByteSet,
+    /// The lines before, if they may be printed before a selected one.
+    before: VecDeque<Line>,
     /// Whether a group of lines was printed, of any text.
     has_group: bool,
 }
 
 /// What a search found in a text.
-#[derive(Clone, Copy, Default)]
+#[derive(Clone, Copy)]
 pub struct Found {
     /// The number of selected lines, if all were read.
     pub selected: u64,
@@ -37,7 +39,7 @@ pub struct Found {
 }
 
 /// What is known of a text while it is read.
-#[derive(Drop)]
+#[derive(Clone, Copy)]
 struct Text<'t> {
     /// The name to print before its lines.
     name: Option<&'t str>,
@@ -47,8 +49,6 @@ struct Text<'t> {
     /// The number of selected lines.
     selected: u64,
     is_binary: bool,
-    /// The lines before, if they may be printed before a selected one.
-    before: VecDeque<Line>,
     /// How many lines are still printed because they follow a selected one.
     after: u64,
     /// How many lines are before the one behind the last one that was printed.
@@ -63,7 +63,7 @@ struct Line {
 }
 
 /// Where a line is in its text.
-#[derive(Clone, Copy, Default)]
+#[derive(Clone, Copy)]
 struct Place {
     /// How many lines are before it.
     lines: u64,
@@ -73,39 +73,29 @@ struct Place {
 
 impl Place {
     /// Passes a number of lines, and of bytes in them.
-    fn pass(&mut self, lines: u64, bytes: usize) {
-        self.lines = self.lines.saturating_add(lines);
+    fn pass(&mut self, lines: usize, bytes: usize) {
+        self.lines = self.lines.saturating_add(lines as u64);
         self.bytes = self.bytes.saturating_add(bytes as u64);
     }
 }
 
-/// Whether to read the next line.
-#[derive(Clone, Copy, PartialEq, Eq)]
-enum Next {
-    Read,
-    Stop,
-}
-
-impl<'a, W: Write + Drop> Lines<'a, W> {
+impl<'a> Lines<'a> {
     /// Returns a search that has read nothing yet.
     pub fn new(
         alloc: Global,
-        options: &'a Options,
+        settings: &'a Settings<'a>,
         engines: Engines<'a>,
-        printer: Printer<W>,
-    ) -> Lines<'a, W> {
-        let settings = &options.settings;
+        printer: Printer<'a>,
+    ) -> Lines<'a> {
         Lines {
             alloc,
             settings,
-            separator: match &options.separator {
-                Some(text) => Some(text.as_slice()),
-                None => None,
-            },
             engines,
             printer,
+            most: settings.most(),
             ends: set_of(settings.terminator),
             zero: set_of(0),
+            before: VecDeque::new(alloc),
             has_group: false,
         }
     }
@@ -114,164 +104,143 @@ impl<'a, W: Write + Drop> Lines<'a, W> {
     /// once all that is printed is known. The size is that of the text, if it is known.
     ///
     /// What was printed is written before a read that may wait for input.
-    pub fn search<R: Read + Drop>(
+    pub fn search<R: Read>(
         &mut self,
         name: Option<&str>,
         size: Option<u64>,
-        input: R,
+        blocks: &mut Blocks,
+        input: &mut R,
     ) -> Result<Found, SearchError> {
-        let settings = self.settings;
-        let mut blocks = Blocks::new(self.alloc, input, settings.terminator)?;
-        self.printer.flush()?;
-        let has_lines = blocks.advance()?;
-        let is_binary = self.may_be_binary() && self.has_zero(blocks.first_bytes());
-        if is_binary && settings.binary == Binary::Skipped {
-            return Ok(Found::default());
-        }
+        self.before.clear();
         let mut text = Text {
             name,
             width: self.width(size),
-            place: Place::default(),
+            place: Place { lines: 0, bytes: 0 },
             selected: 0,
-            is_binary,
-            before: VecDeque::new(self.alloc),
+            is_binary: false,
             after: 0,
             printed: None,
         };
-        if has_lines {
-            self.read_lines(&mut text, &mut blocks)?;
+        blocks.begin();
+        for block in 0..u64::MAX {
+            self.printer.flush()?;
+            if self.is_done(&text) || !blocks.advance(input)? {
+                break;
+            }
+            if block == 0 && self.makes_binary(blocks.first_bytes()) {
+                text.is_binary = true;
+                if matches!(self.settings.binary, Binary::Skipped) {
+                    break;
+                }
+            }
+            self.take_block(&mut text, blocks.lines())?;
         }
         Ok(Found {
             selected: text.selected,
-            is_left_out: text.is_binary && text.selected > 0 && settings.prints_lines(),
+            is_left_out: self.is_left_out(&text),
         })
     }
 
-    /// Prints what the settings select where a text ends: its number of lines, or its name.
-    pub fn print_total(
-        &mut self,
-        name: &str,
-        is_named: bool,
-        found: Found,
-    ) -> Result<(), OutputError> {
-        let named = if is_named { Some(name) } else { None };
-        match self.settings.shows {
-            Shows::Count => self.printer.count(named, found.selected),
-            Shows::Names if found.selected > 0 => self.printer.name(name),
-            Shows::OtherNames if found.selected == 0 => self.printer.name(name),
-            _ => Ok(()),
-        }
+    /// Returns whether all that is printed of a text is known.
+    fn is_done(&self, text: &Text<'_>) -> bool {
+        (text.selected >= self.most && text.after == 0) || self.is_left_out(text)
     }
 
-    /// Takes the lines of a text, of which the first block is read.
-    fn read_lines<R: Read + Drop>(
-        &mut self,
-        text: &mut Text<'_>,
-        blocks: &mut Blocks<R>,
-    ) -> Result<(), SearchError> {
-        for _ in 0..u64::MAX {
-            let next = self.take_block(text, blocks.lines())?;
-            if next == Next::Stop {
+    /// Returns whether lines of a text are left out because it is binary.
+    fn is_left_out(&self, text: &Text<'_>) -> bool {
+        text.is_binary && text.selected > 0 && self.settings.prints_lines()
+    }
+
+    /// Takes the lines of a block.
+    fn take_block(&mut self, text: &mut Text<'_>, block: &[u8]) -> Result<(), SearchError> {
+        self.engines.prepare(block.len());
+        let mut rest = block;
+        for _ in 0..block.len() {
+            if rest.is_empty() || self.is_done(text) {
                 break;
             }
-            self.printer.flush()?;
-            if !blocks.advance()? {
-                break;
-            }
+            rest = if self.can_find(text) {
+                self.take_found(text, rest)?
+            } else {
+                self.take_first(text, rest, None)?
+            };
         }
         Ok(())
     }
 
-    /// Takes the lines of a block.
-    fn take_block(&mut self, text: &mut Text<'_>, block: &[u8]) -> Result<Next, SearchError> {
-        self.engines.prepare(block.len());
-        // In a binary text a line without a match may be several, which count with `-v`.
-        if self.engines.can_find() && !(text.is_binary && self.settings.inverts) {
-            self.take_found(text, block)
-        } else {
-            self.take_all(text, block)
-        }
+    /// Returns whether lines that have a match are found among others. In a binary text a line
+    /// without a match may be several, which count with `-v`.
+    fn can_find(&self, text: &Text<'_>) -> bool {
+        self.engines.can_find(text.is_binary) && !(text.is_binary && self.settings.inverts)
     }
 
-    /// Takes the lines of a block one by one.
-    fn take_all(&mut self, text: &mut Text<'_>, block: &[u8]) -> Result<Next, SearchError> {
-        let mut rest = block;
-        for _ in 0..block.len() {
-            if rest.is_empty() {
-                break;
-            }
-            let (line, after) = self.split_line(rest);
-            if self.take(text, line)? == Next::Stop {
-                return Ok(Next::Stop);
-            }
-            text.place.pass(1, rest.len().saturating_sub(after.len()));
-            rest = after;
+    /// Takes the lines up to the first that may have a match. Returns the others.
+    fn take_found<'t>(
+        &mut self,
+        text: &mut Text<'_>,
+        lines: &'t [u8],
+    ) -> Result<&'t [u8], SearchError> {
+        let Some(at) = self.engines.find(lines) else {
+            self.take_others(text, lines)?;
+            return Ok(&[]);
+        };
+        let (passed, found) = self.split_before(lines, at);
+        self.take_others(text, passed)?;
+        if self.is_done(text) {
+            return Ok(&[]);
         }
-        Ok(Next::Read)
+        // In a binary text the parts of the line may have no match.
+        let is_known = self.engines.finds_matches() && !text.is_binary;
+        self.take_first(text, found, is_known.then_some(true))
     }
 
-    /// Takes the lines of a block that may have a match. The others have none.
-    fn take_found(&mut self, text: &mut Text<'_>, block: &[u8]) -> Result<Next, SearchError> {
-        let mut rest = block;
-        for _ in 0..block.len() {
-            if rest.is_empty() {
+    /// Takes lines one by one. It may be known whether each has a match, or else none.
+    fn take_lines(
+        &mut self,
+        text: &mut Text<'_>,
+        lines: &[u8],
+        has_match: Option<bool>,
+    ) -> Result<(), SearchError> {
+        let mut rest = lines;
+        for _ in 0..lines.len() {
+            if rest.is_empty() || self.is_done(text) {
                 break;
             }
-            let Some(at) = self.engines.find(rest) else {
-                break;
-            };
-            let (passed, found) = self.split_before(rest, at);
-            if self.take_others(text, passed)? == Next::Stop {
-                return Ok(Next::Stop);
-            }
-            let (line, after) = self.split_line(found);
-            if self.take_one_found(text, line)? == Next::Stop {
-                return Ok(Next::Stop);
-            }
-            text.place.pass(1, found.len().saturating_sub(after.len()));
-            rest = after;
+            rest = self.take_first(text, rest, has_match)?;
         }
-        self.take_others(text, rest)
+        Ok(())
     }
 
-    /// Takes a line that was found. In a binary text its parts may have no match.
-    fn take_one_found(&mut self, text: &mut Text<'_>, line: &[u8]) -> Result<Next, SearchError> {
-        if self.engines.finds_matches() && !text.is_binary {
-            self.take_known(text, line, true)
-        } else {
-            self.take(text, line)
+    /// Takes the first of these lines, of which it may be known whether it has a match. Returns the
+    /// others.
+    fn take_first<'t>(
+        &mut self,
+        text: &mut Text<'_>,
+        lines: &'t [u8],
+        has_match: Option<bool>,
+    ) -> Result<&'t [u8], SearchError> {
+        let (line, behind) = split_once(lines, &self.ends);
+        match has_match {
+            Some(has_match) => self.take_known(text, line, has_match)?,
+            None => self.take(text, line)?,
         }
+        let rest = behind.unwrap_or(&[]);
+        text.place.pass(1, lines.len().saturating_sub(rest.len()));
+        Ok(rest)
     }
 
     /// Takes lines without a match. If none of them can be printed, they are only counted.
-    fn take_others(&mut self, text: &mut Text<'_>, lines: &[u8]) -> Result<Next, SearchError> {
-        if !self.settings.inverts && !self.settings.separates() {
-            self.pass_lines(&mut text.place, lines);
-            return Ok(Next::Read);
+    fn take_others(&mut self, text: &mut Text<'_>, lines: &[u8]) -> Result<(), SearchError> {
+        if self.settings.inverts || self.settings.separates() {
+            return self.take_lines(text, lines, Some(false));
         }
-        let mut rest = lines;
-        for _ in 0..lines.len() {
-            if rest.is_empty() {
-                break;
-            }
-            let (line, after) = self.split_line(rest);
-            if self.take_known(text, line, false)? == Next::Stop {
-                return Ok(Next::Stop);
-            }
-            text.place.pass(1, rest.len().saturating_sub(after.len()));
-            rest = after;
-        }
-        Ok(Next::Read)
-    }
-
-    /// Passes lines that are not printed. They are counted if numbers are printed.
-    fn pass_lines(&self, place: &mut Place, lines: &[u8]) {
         let count = if self.settings.numbers {
             self.ends.count(lines, 0, lines.len())
         } else {
             0
         };
-        place.pass(count as u64, lines.len());
+        text.place.pass(count, lines.len());
+        Ok(())
     }
 
     /// Returns the lines before the one with the byte at an index, and the others.
@@ -283,29 +252,27 @@ impl<'a, W: Write + Drop> Lines<'a, W> {
         }
     }
 
-    /// Returns the first line of a text, without the byte that ends it, and what is behind that.
-    fn split_line<'t>(&self, text: &'t [u8]) -> (&'t [u8], &'t [u8]) {
-        match self.ends.find(text, 0, text.len()) {
-            Some(end) => (&text[..end], &text[end + 1..]),
-            None => (text, &[]),
-        }
-    }
-
     /// Takes a line. In a binary text a zero byte ends a line too.
-    fn take(&mut self, text: &mut Text<'_>, line: &[u8]) -> Result<Next, SearchError> {
+    fn take(&mut self, text: &mut Text<'_>, line: &[u8]) -> Result<(), SearchError> {
         if !text.is_binary {
             return self.take_line(text, line);
         }
-        for part in line.split(|byte| *byte == 0) {
-            if self.take_line(text, part)? == Next::Stop {
-                return Ok(Next::Stop);
+        let mut rest = Some(line);
+        for _ in 0..=line.len() {
+            match rest {
+                Some(parts) if !self.is_done(text) => {
+                    let (part, behind) = split_once(parts, &self.zero);
+                    self.take_line(text, part)?;
+                    rest = behind;
+                }
+                _ => break,
             }
         }
-        Ok(Next::Read)
+        Ok(())
     }
 
     /// Counts and prints a line if it is selected, and prints it if it is near one that is.
-    fn take_line(&mut self, text: &mut Text<'_>, line: &[u8]) -> Result<Next, SearchError> {
+    fn take_line(&mut self, text: &mut Text<'_>, line: &[u8]) -> Result<(), SearchError> {
         let has_match = self.engines.is_match(line)?;
         self.take_known(text, line, has_match)
     }
@@ -316,132 +283,113 @@ impl<'a, W: Write + Drop> Lines<'a, W> {
         text: &mut Text<'_>,
         line: &[u8],
         has_match: bool,
-    ) -> Result<Next, SearchError> {
-        if has_match != self.settings.inverts {
-            self.take_selected(text, line)
-        } else {
-            self.pass(text, line)
-        }
-    }
-
-    /// Counts and prints a line that is selected, unless enough were.
-    fn take_selected(&mut self, text: &mut Text<'_>, line: &[u8]) -> Result<Next, SearchError> {
-        if text.selected >= self.settings.max_count {
+    ) -> Result<(), SearchError> {
+        if has_match == self.settings.inverts || text.selected >= self.most {
             return self.pass(text, line);
         }
         text.selected = text.selected.saturating_add(1);
-        if self.settings.prints_lines() {
-            if !self.may_print(text, line) {
-                self.has_group = true;
-                return Ok(Next::Stop);
-            }
+        if !self.settings.prints_lines() {
+            return Ok(());
+        }
+        if self.may_print(text, line) {
             self.print_group(text, line)?;
         }
-        let is_full = text.selected >= self.settings.max_count;
-        Ok(if self.settings.needs_one() || (is_full && text.after == 0) {
-            Next::Stop
-        } else {
-            Next::Read
-        })
+        self.has_group = true;
+        Ok(())
     }
 
     /// Returns whether the lines of a text are printed. One with a zero byte makes it binary.
     fn may_print(&self, text: &mut Text<'_>, line: &[u8]) -> bool {
-        if self.may_be_binary() && self.has_zero(line) {
-            text.is_binary = true;
-        }
+        text.is_binary = text.is_binary || self.makes_binary(line);
         !text.is_binary
     }
 
-    /// Returns whether a zero byte makes a text binary.
-    fn may_be_binary(&self) -> bool {
-        self.settings.terminator == b'\n' && self.settings.binary != Binary::Text
-    }
-
-    /// Returns whether there is a zero byte among these.
-    fn has_zero(&self, bytes: &[u8]) -> bool {
-        self.zero.find(bytes, 0, bytes.len()).is_some()
+    /// Returns whether a text with these bytes is binary: whether there is a zero byte, and the
+    /// settings do not say otherwise.
+    fn makes_binary(&self, bytes: &[u8]) -> bool {
+        self.settings.terminator == b'\n'
+            && !matches!(self.settings.binary, Binary::Text)
+            && self.zero.find(bytes, 0, bytes.len()).is_some()
     }
 
     /// Passes a line that is not selected: prints it if it follows a selected one, and keeps it if
     /// it may be printed before one.
-    fn pass(&mut self, text: &mut Text<'_>, line: &[u8]) -> Result<Next, SearchError> {
-        let is_full = text.selected >= self.settings.max_count;
+    fn pass(&mut self, text: &mut Text<'_>, line: &[u8]) -> Result<(), SearchError> {
         let is_kept = self.settings.prints_lines() && self.settings.before() > 0;
-        if (text.after > 0 || is_kept) && !self.may_print(text, line) {
+        if text.after == 0 && !is_kept {
+            return Ok(());
+        }
+        if !self.may_print(text, line) {
             text.after = 0;
         } else if text.after > 0 {
             text.after = text.after.saturating_sub(1);
-            self.print(self.head(text, text.place, Sign::Hyphen), line)?;
-            text.printed = Some(text.place.lines.saturating_add(1));
-        } else if is_kept {
-            self.keep(text, line)?;
-        }
-        Ok(if is_full && text.after == 0 {
-            Next::Stop
+            self.print_line(text, line, false)?;
         } else {
-            Next::Read
-        })
+            self.keep(text.place, line)?;
+        }
+        Ok(())
     }
 
     /// Keeps a line that may be printed before a selected one.
-    fn keep(&self, text: &mut Text<'_>, line: &[u8]) -> Result<(), AllocError> {
-        if text.before.len() as u64 >= self.settings.before() {
-            let _oldest = text.before.pop_front();
+    fn keep(&mut self, place: Place, line: &[u8]) -> Result<(), AllocError> {
+        if self.before.len() as u64 >= self.settings.before() {
+            let _oldest = self.before.pop_front();
         }
         let bytes = line.to_vec(self.alloc)?;
-        let place = text.place;
-        text.before.push_back(Line { place, bytes })?;
+        self.before.push_back(Line { place, bytes })?;
         Ok(())
     }
 
     /// Prints a selected line, behind the lines before it.
     fn print_group(&mut self, text: &mut Text<'_>, line: &[u8]) -> Result<(), SearchError> {
-        let first = text
-            .before
-            .front()
-            .map_or(text.place.lines, |line| line.place.lines);
-        if let Some(separator) = self.separator
-            && self.settings.separates()
-            && self.has_group
-            && text.printed != Some(first)
-        {
-            self.printer.separator(separator)?;
+        let kept = self.before.len();
+        let first = text.place.lines.saturating_sub(kept as u64);
+        if self.has_group && text.printed != Some(first) {
+            self.printer.separator()?;
         }
-        self.has_group = true;
-        for _ in 0..text.before.len() {
-            if let Some(before) = text.before.pop_front() {
-                let head = self.head(text, before.place, Sign::Hyphen);
-                self.print(head, before.bytes.as_slice())?;
+        for _ in 0..kept {
+            if let Some(before) = self.before.pop_front() {
+                self.print(
+                    &self.head(text, before.place, false),
+                    before.bytes.as_slice(),
+                )?;
             }
         }
-        self.print(self.head(text, text.place, Sign::Colon), line)?;
-        text.printed = Some(text.place.lines.saturating_add(1));
+        self.print_line(text, line, true)?;
         text.after = self.settings.after();
         Ok(())
     }
 
+    /// Prints the line where a text is, which is selected or near one that is.
+    fn print_line(
+        &mut self,
+        text: &mut Text<'_>,
+        line: &[u8],
+        is_selected: bool,
+    ) -> Result<(), SearchError> {
+        text.printed = Some(text.place.lines.saturating_add(1));
+        self.print(&self.head(text, text.place, is_selected), line)
+    }
+
     /// Prints a line, or its matches, by the settings.
-    fn print(&mut self, head: Head<'_>, line: &[u8]) -> Result<(), SearchError> {
-        let has_matches = (head.sign == Sign::Colon) != self.settings.inverts;
-        match self.settings.shows {
-            Shows::Matches if has_matches => self.print_matches(head, line),
-            Shows::Matches => Ok(()),
-            _ if has_matches && self.printer.has_colors() => self.print_marked(&head, line),
-            _ => Ok(self.printer.line(&head, line)?),
+    fn print(&mut self, head: &Head<'_>, line: &[u8]) -> Result<(), SearchError> {
+        if head.is_selected == self.settings.inverts || !self.printer.needs_matches() {
+            return Ok(self.printer.print(head, line, &[])?);
         }
+        let matches = self.engines.matches(line)?;
+        Ok(self.printer.print(head, line, matches)?)
     }
 
     /// Returns what is printed before a line.
-    fn head<'t>(&self, text: &Text<'t>, place: Place, sign: Sign) -> Head<'t> {
+    fn head<'t>(&self, text: &Text<'t>, place: Place, is_selected: bool) -> Head<'t> {
         let settings = self.settings;
         Head {
             name: text.name,
             number: settings.numbers.then_some(place.lines.saturating_add(1)),
             offset: settings.offsets.then_some(place.bytes),
             pattern: None,
-            sign,
             width: text.width,
+            is_selected,
         }
     }
 
@@ -452,43 +400,7 @@ impl<'a, W: Write + Drop> Lines<'a, W> {
             return 0;
         }
         let greatest = size.unwrap_or(i64::MAX.cast_unsigned());
-        digits(greatest.saturating_add(u64::from(self.settings.numbers)))
-    }
-
-    /// Prints each match of a line as a line, unless it is empty.
-    fn print_matches(&mut self, head: Head<'_>, line: &[u8]) -> Result<(), SearchError> {
-        let sign = if self.settings.inverts {
-            Sign::Hyphen
-        } else {
-            Sign::Colon
-        };
-        for found in &self.engines.matches(line)? {
-            let bytes = found.bytes(line).unwrap_or(&[]);
-            if bytes.is_empty() {
-                continue;
-            }
-            let offset = match head.offset {
-                Some(offset) => Some(offset.saturating_add(found.start as u64)),
-                None => None,
-            };
-            let pattern = self
-                .settings
-                .pattern_numbers
-                .then_some(found.pattern.as_usize());
-            let head = Head {
-                offset,
-                pattern,
-                sign,
-                ..head
-            };
-            self.printer.matched_line(&head, bytes)?;
-        }
-        Ok(())
-    }
-
-    /// Prints a line with its matches marked.
-    fn print_marked(&mut self, head: &Head<'_>, line: &[u8]) -> Result<(), SearchError> {
-        let matches = self.engines.matches(line)?;
-        Ok(self.printer.marked_line(head, line, matches.as_slice())?)
+        let greatest = greatest.saturating_add(u64::from(self.settings.numbers));
+        greatest.checked_ilog10().unwrap_or(0).saturating_add(1) as usize
     }
 }

@@ -40,10 +40,10 @@ struct Literal {
 }
 
 /// A place in a text.
-#[derive(Drop)]
+#[derive(Clone, Copy)]
 struct Place {
-    /// The bytes that it may have.
-    bytes: ByteSet,
+    /// The bytes that it may have. If they are fewer, the last ones are the same.
+    bytes: [u8; FEW],
     /// How rare the most frequent one is.
     rank: usize,
 }
@@ -70,14 +70,13 @@ impl Literals {
     ) -> Result<Option<Literals>, AllocError> {
         let mut literals = Vec::new(alloc);
         push_all(alloc, patterns, &mut literals)?;
-        if !are_sought(&literals, terminator) {
-            return Ok(None);
-        }
-        Ok(Some(Literals {
+        let are_sought = are_sought(&literals, terminator);
+        let literals = Literals {
             rarest: rarest_of(&literals),
             are_matches: are_matches(&literals),
             literals,
-        }))
+        };
+        Ok(are_sought.then_some(literals))
     }
 
     /// Returns whether each line that contains one of the texts has a match.
@@ -116,29 +115,34 @@ impl Place {
     /// Returns the place of a byte.
     fn of_byte(byte: u8) -> Place {
         Place {
-            bytes: set_of(byte),
+            bytes: [byte; FEW],
             rank: rank(byte),
         }
     }
 
     /// Returns the place of a class, if it has few bytes.
     fn of_class(class: &ClassBytes) -> Option<Place> {
-        let mut members = [false; 256];
+        let mut bytes = [0; FEW];
         let (mut count, mut lowest) = (0_usize, FREQUENT.len());
         for byte in 0..=u8::MAX {
             if has_byte(class, byte) {
-                members[usize::from(byte)] = true;
+                if count >= FEW {
+                    return None;
+                }
+                for place in count..FEW {
+                    bytes[place] = byte;
+                }
                 lowest = lowest.min(rank(byte));
                 count = count.saturating_add(1);
             }
         }
-        if count == 0 || count > FEW {
-            return None;
-        }
-        Some(Place {
-            bytes: ByteSet::new(&members),
-            rank: lowest,
-        })
+        let rank = lowest;
+        (count > 0).then_some(Place { bytes, rank })
+    }
+
+    /// Returns whether it may have a byte.
+    fn may_have(&self, byte: u8) -> bool {
+        self.bytes.contains(&byte)
     }
 }
 
@@ -170,7 +174,7 @@ impl Literal {
     /// Returns whether the text may have a byte.
     fn may_have(&self, byte: u8) -> bool {
         for place in &self.places {
-            if place.bytes.contains(byte) {
+            if place.may_have(byte) {
                 return true;
             }
         }
@@ -187,7 +191,7 @@ impl Literal {
             return false;
         }
         for (place, byte) in self.places.iter().zip(text) {
-            if !place.bytes.contains(*byte) {
+            if !place.may_have(*byte) {
                 return false;
             }
         }
@@ -196,11 +200,6 @@ impl Literal {
 }
 
 impl Walk {
-    /// Returns the longest row that has ended.
-    fn into_longest(self) -> Vec<Place> {
-        self.longest
-    }
-
     /// Walks through a part of the branch.
     #[cycle(walk)]
     fn pass(&mut self, pattern: &Pattern) -> Result<(), AllocError> {
@@ -303,10 +302,8 @@ fn rarest_of(literals: &[Literal]) -> ByteSet {
     let mut members = [false; 256];
     for literal in literals {
         if let Some(place) = literal.places.get(literal.rarest) {
-            for byte in 0..=u8::MAX {
-                if place.bytes.contains(byte) {
-                    members[usize::from(byte)] = true;
-                }
+            for byte in place.bytes {
+                members[usize::from(byte)] = true;
             }
         }
     }
@@ -333,7 +330,8 @@ fn text_of(alloc: Global, pattern: &Pattern) -> Result<Literal, AllocError> {
     walk.pass(pattern)?;
     let is_match = walk.is_match;
     walk.end();
-    Ok(Literal::new(walk.into_longest(), is_match))
+    let Walk { longest, .. } = walk;
+    Ok(Literal::new(longest, is_match))
 }
 
 /// Returns how rare a byte is: at most the number of the frequent ones.

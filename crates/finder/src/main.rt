@@ -18,15 +18,14 @@ mod quoted;
 mod usage;
 
 use crate::engines::Engines;
-use crate::error::{Error, OutputError};
+use crate::error::Error;
 use crate::files::Files;
 use crate::lines::Lines;
 use crate::options::{Action, Colors, Options, Shows};
-use crate::printer::{Printer, Style};
+use crate::printer::Printer;
 use crate::usage::{USAGE, VERSION};
-use determinize_regex::Regex;
 use std::env;
-use std::io::{self, ErrorKind, IsTerminal, Write};
+use std::io::{ErrorKind, IsTerminal, Write};
 use std::process::ExitCode;
 
 /// The exit status of a program that a closed pipe ends, as a shell shows it.
@@ -53,49 +52,49 @@ fn has_colors(rt: &HostRuntime, colors: Colors) -> bool {
 }
 
 /// Searches for the patterns, and returns the exit status.
-fn search(rt: &HostRuntime, options: &Options, regex: &Regex) -> Result<ExitCode, Error> {
+fn search<'a>(rt: &HostRuntime, options: &Options<'_>) -> Result<ExitCode, Error<'a>> {
     let settings = &options.settings;
-    let style = Style {
-        has_colors: has_colors(rt, settings.colors),
-        terminator: settings.terminator,
-        has_nulls: settings.has_nulls,
-        has_tabs: settings.has_tabs,
-        is_line_buffered: settings.is_line_buffered,
-    };
-    let engines = Engines::new(rt.alloc(), regex, settings)?;
-    let printer = Printer::new(rt.alloc(), io::writer(rt), style)?;
-    let lines = Lines::new(rt.alloc(), options, engines, printer);
-    Ok(Files::new(rt, options, lines).search_all()?)
+    let regex = patterns::compile(rt.alloc(), options.patterns.as_slice(), settings)?;
+    if settings.max_count == 0 && !matches!(settings.shows, Shows::OtherNames) {
+        return Ok(ExitCode::FAILURE);
+    }
+    let engines = Engines::new(rt.alloc(), &regex, settings)?;
+    search_files(rt, options, engines)
+}
+
+/// Searches the files, and returns the exit status.
+fn search_files<'a>(
+    rt: &HostRuntime,
+    options: &Options<'_>,
+    engines: Engines<'_>,
+) -> Result<ExitCode, Error<'a>> {
+    let settings = &options.settings;
+    let printer = Printer::new(rt, settings, has_colors(rt, settings.colors))?;
+    let lines = Lines::new(rt.alloc(), settings, engines, printer);
+    let mut files = Files::new(rt, options, lines)?;
+    Ok(files.search_all()?)
 }
 
 /// Prints a text, and returns the exit status.
-fn print(rt: &HostRuntime, text: &str) -> Result<ExitCode, Error> {
-    match io::writer(rt).write_all(text.as_bytes()) {
-        Ok(()) => Ok(ExitCode::SUCCESS),
-        Err(error) => Err(Error::Output(OutputError(error))),
-    }
+fn print<'a>(rt: &HostRuntime, text: &str) -> Result<ExitCode, Error<'a>> {
+    rt.stdout().write_all(text.as_bytes())?;
+    Ok(ExitCode::SUCCESS)
 }
 
 /// Does what the arguments say, and returns the exit status.
-fn run(rt: &HostRuntime) -> Result<ExitCode, Error> {
-    let options = command::read(rt, args::args(rt)?)?;
-    let settings = &options.settings;
-    match settings.action {
-        Action::PrintUsage => return print(rt, USAGE),
-        Action::PrintVersion => return print(rt, VERSION),
-        Action::Search => {}
+fn run<'a>(rt: &HostRuntime, args: &'a [Vec<u8>]) -> Result<ExitCode, Error<'a>> {
+    let options = command::read(rt, args)?;
+    match options.settings.action {
+        Action::PrintUsage => print(rt, USAGE),
+        Action::PrintVersion => print(rt, VERSION),
+        Action::Search => search(rt, &options),
     }
-    let regex = patterns::compile(rt.alloc(), options.patterns.as_slice(), settings)?;
-    if settings.max_count == 0 && settings.shows != Shows::OtherNames {
-        return Ok(ExitCode::FAILURE);
-    }
-    search(rt, &options, &regex)
 }
 
 /// Writes an error that ends the program, unless a pipe was closed, and returns the exit status.
-fn report(rt: &HostRuntime, error: &Error) -> ExitCode {
+fn report(rt: &HostRuntime, error: &Error<'_>) -> ExitCode {
     match error {
-        Error::Output(OutputError(error)) if error.kind() == ErrorKind::BrokenPipe => {
+        Error::Output(error) if error.kind() == ErrorKind::BrokenPipe => {
             ExitCode::from(CLOSED_PIPE)
         }
         _ => {
@@ -106,7 +105,11 @@ fn report(rt: &HostRuntime, error: &Error) -> ExitCode {
 }
 
 fn main(rt: HostRuntime) -> ExitCode {
-    match run(&rt) {
+    let args = match args::args(&rt) {
+        Ok(args) => args,
+        Err(error) => return report(&rt, &Error::from(error)),
+    };
+    match run(&rt, args.as_slice()) {
         Ok(status) => status,
         Err(error) => report(&rt, &error),
     }

@@ -1,27 +1,23 @@
 //! The patterns, the files and the settings that the arguments give.
 
 use crate::globs::Globs;
-use std::alloc::{AllocError, Global};
+use std::alloc::Global;
 
 /// The patterns, the files and the settings.
 #[derive(Drop)]
-pub struct Options {
+pub struct Options<'a> {
     /// The patterns, of which the first is pattern 0.
     pub patterns: Vec<Vec<u8>>,
     /// The names of the files; `-` is standard input.
-    pub files: Vec<Vec<u8>>,
+    pub files: Vec<&'a [u8]>,
     /// Which files and directories are searched, by their names.
-    pub globs: Globs,
-    /// The name of standard input, if it is not the usual one.
-    pub label: Option<String>,
-    /// What is printed between groups of lines, if anything is.
-    pub separator: Option<Vec<u8>>,
-    pub settings: Settings,
+    pub globs: Globs<'a>,
+    pub settings: Settings<'a>,
 }
 
 /// How lines are selected, and what is printed.
 #[derive(Clone, Copy)]
-pub struct Settings {
+pub struct Settings<'a> {
     pub action: Action,
     /// Whether the patterns are texts.
     pub is_fixed: bool,
@@ -29,8 +25,10 @@ pub struct Settings {
     pub ignores_case: bool,
     /// Whether the patterns read characters in UTF-8, and not bytes.
     pub reads_characters: bool,
-    /// What a match must be.
-    pub whole: Whole,
+    /// Whether a match must have no word character before or after it.
+    pub matches_words: bool,
+    /// Whether a match must be a whole line.
+    pub matches_lines: bool,
     /// Whether lines without a match are selected, and not those with one.
     pub inverts: bool,
     /// The greatest number of selected lines of a file.
@@ -52,6 +50,8 @@ pub struct Settings {
     /// Whether the number of the pattern of each match is printed.
     pub pattern_numbers: bool,
     pub names: Names,
+    /// The name of standard input.
+    pub label: &'a str,
     /// Whether a zero byte follows names of files.
     pub has_nulls: bool,
     /// Whether a tab is before each line, and numbers are as wide as the greatest one.
@@ -64,30 +64,21 @@ pub struct Settings {
     pub after: Option<u64>,
     /// How many are if these say nothing.
     pub around: Option<u64>,
+    /// What is printed between groups of lines, if anything is.
+    pub separator: Option<&'a [u8]>,
 }
 
 /// What the program does.
-#[derive(Clone, Copy, PartialEq, Eq)]
+#[derive(Clone, Copy)]
 pub enum Action {
     Search,
     PrintUsage,
     PrintVersion,
 }
 
-/// What a match must be.
-#[derive(Clone, Copy, PartialEq, Eq, PartialOrd, Ord)]
-pub enum Whole {
-    /// Any part of a line.
-    Part,
-    /// A part without a word character before or after it.
-    Word,
-    /// A line.
-    Line,
-}
-
 /// What is printed of the lines that are selected. Of two options the later one here counts, and of
 /// the two of names the one that was given last.
-#[derive(Clone, Copy, PartialEq, Eq, PartialOrd, Ord)]
+#[derive(Clone, Copy)]
 pub enum Shows {
     /// Each line.
     Lines,
@@ -104,7 +95,7 @@ pub enum Shows {
 }
 
 /// How a file is searched that has a zero byte.
-#[derive(Clone, Copy, PartialEq, Eq)]
+#[derive(Clone, Copy)]
 pub enum Binary {
     /// That it has a selected line is said, and none is printed.
     Noted,
@@ -115,7 +106,7 @@ pub enum Binary {
 }
 
 /// When the name of a file is printed.
-#[derive(Clone, Copy, PartialEq, Eq)]
+#[derive(Clone, Copy)]
 pub enum Names {
     /// If there may be several files.
     IfSeveral,
@@ -124,7 +115,7 @@ pub enum Names {
 }
 
 /// When colors are printed.
-#[derive(Clone, Copy, PartialEq, Eq)]
+#[derive(Clone, Copy)]
 pub enum Colors {
     /// If standard output is a terminal that has them.
     IfTerminal,
@@ -132,29 +123,28 @@ pub enum Colors {
     Never,
 }
 
-impl Options {
+impl Options<'_> {
     /// Returns the options of a program without arguments.
-    pub fn new(alloc: Global) -> Result<Options, AllocError> {
-        Ok(Options {
+    pub fn new(alloc: Global) -> Self {
+        Options {
             patterns: Vec::new(alloc),
             files: Vec::new(alloc),
             globs: Globs::new(alloc),
-            label: None,
-            separator: Some(b"--".to_vec(alloc)?),
             settings: Settings::new(),
-        })
+        }
     }
 }
 
-impl Settings {
+impl Settings<'_> {
     /// Returns the usual settings.
-    fn new() -> Settings {
+    fn new() -> Self {
         Settings {
             action: Action::Search,
             is_fixed: false,
             ignores_case: false,
             reads_characters: false,
-            whole: Whole::Part,
+            matches_words: false,
+            matches_lines: false,
             inverts: false,
             max_count: u64::MAX,
             terminator: b'\n',
@@ -167,6 +157,7 @@ impl Settings {
             offsets: false,
             pattern_numbers: false,
             names: Names::IfSeveral,
+            label: "(standard input)",
             has_nulls: false,
             has_tabs: false,
             is_line_buffered: false,
@@ -174,6 +165,7 @@ impl Settings {
             before: None,
             after: None,
             around: None,
+            separator: Some(b"--"),
         }
     }
 
@@ -194,11 +186,26 @@ impl Settings {
 
     /// Returns whether lines are printed, or matches.
     pub fn prints_lines(&self) -> bool {
-        self.shows <= Shows::Matches
+        matches!(self.shows, Shows::Lines | Shows::Matches)
     }
 
-    /// Returns whether one selected line decides what is printed of a file.
-    pub fn needs_one(&self) -> bool {
-        self.shows >= Shows::Names
+    /// Returns whether a search of the file that it writes to might not end: if it prints more
+    /// than one line of it.
+    pub fn can_grow(&self) -> bool {
+        self.prints_lines() && self.max_count > 1
+    }
+
+    /// Returns whether nothing is printed.
+    pub fn is_quiet(&self) -> bool {
+        matches!(self.shows, Shows::Nothing)
+    }
+
+    /// Returns the number of selected lines of a file after which no others are: one decides
+    /// whether the name of the file is printed.
+    pub fn most(&self) -> u64 {
+        match self.shows {
+            Shows::Names | Shows::OtherNames | Shows::Nothing => self.max_count.min(1),
+            _ => self.max_count,
+        }
     }
 }

@@ -1,48 +1,50 @@
 //! The regex of the patterns.
 
+use crate::engines::are_local;
 use crate::error::Error;
-use crate::options::{Settings, Whole};
-use determinize_regex::{Error as RegexError, Regex, RegexConfig};
+use crate::options::Settings;
+use determinize_regex::{Error as RegexError, Flags, Regex, RegexConfig};
 use std::alloc::{AllocError, Global};
 
 /// Returns the regex of the patterns, by the settings.
-pub fn compile(alloc: Global, patterns: &[Vec<u8>], settings: &Settings) -> Result<Regex, Error> {
+pub fn compile<'a>(
+    alloc: Global,
+    patterns: &[Vec<u8>],
+    settings: &Settings<'_>,
+) -> Result<Regex, Error<'a>> {
     let mut texts = Vec::new(alloc);
     for pattern in patterns {
-        let text = if settings.is_fixed {
-            escaped(alloc, pattern.as_slice())?
-        } else {
-            utf8(alloc, pattern.as_slice())?
-        };
-        texts.push(text)?;
+        push_text(alloc, pattern.as_slice(), settings.is_fixed, &mut texts)?;
     }
     // Each text is parsed before it is put between others, with which `a)(b` would be a pattern.
     let regex = regex_of(alloc, &texts, settings)?;
-    match settings.whole {
-        Whole::Part => Ok(regex),
-        Whole::Word => {
-            let words = surrounded(
-                alloc,
-                &texts,
-                "(?-u:\\b{start-half})(?:",
-                ")(?-u:\\b{end-half})",
-            )?;
-            regex_of(alloc, &words, settings)
-        }
-        Whole::Line => {
-            let lines = surrounded(alloc, &texts, "^(?:", ")$")?;
-            regex_of(alloc, &lines, settings)
-        }
-    }
+    let (before, after) = if settings.matches_lines {
+        ("^(?:", ")$")
+    } else if settings.matches_words {
+        ("(?-u:\\b{start-half})(?:", ")(?-u:\\b{end-half})")
+    } else {
+        return Ok(regex);
+    };
+    let texts = surrounded(alloc, &texts, before, after)?;
+    regex_of(alloc, &texts, settings)
 }
 
-/// Returns a pattern as text.
-fn utf8(alloc: Global, pattern: &[u8]) -> Result<String, Error> {
-    let bytes = pattern.to_vec(alloc)?;
-    match String::from_utf8(bytes) {
-        Ok(text) => Ok(text),
-        Err(error) => Err(Error::NotUtf8(error.into_bytes())),
-    }
+/// Adds a pattern as text.
+fn push_text<'a>(
+    alloc: Global,
+    pattern: &[u8],
+    is_fixed: bool,
+    texts: &mut Vec<String>,
+) -> Result<(), Error<'a>> {
+    let text = if is_fixed {
+        escaped(alloc, pattern)?
+    } else {
+        match String::from_utf8(pattern.to_vec(alloc)?) {
+            Ok(text) => text,
+            Err(error) => return Err(Error::NotUtf8(error.into_bytes())),
+        }
+    };
+    Ok(texts.push(text)?)
 }
 
 /// Returns the text of a pattern that matches these bytes.
@@ -87,35 +89,44 @@ fn surrounded(
 }
 
 /// Returns the regex of texts, of which the first is pattern 0.
-fn regex_of(alloc: Global, texts: &Vec<String>, settings: &Settings) -> Result<Regex, Error> {
-    let mut config = RegexConfig::new();
-    config.flags.case_insensitive = settings.ignores_case;
+///
+/// In a line that ends in LF, assertions about texts and those about lines mean the same. Only with
+/// the second may several lines be searched at once; with the first a search of one ends sooner.
+fn regex_of<'a>(
+    alloc: Global,
+    texts: &Vec<String>,
+    settings: &Settings<'_>,
+) -> Result<Regex, Error<'a>> {
+    let ends_lines = settings.terminator == b'\n';
+    let mut flags = Flags::new();
+    flags.case_insensitive = settings.ignores_case;
     // The text of a fixed string may have bytes that are no characters.
-    config.flags.unicode = settings.reads_characters && !settings.is_fixed;
-    config.flags.dot_matches_new_line = settings.terminator != b'\n';
+    flags.unicode = settings.reads_characters && !settings.is_fixed;
+    flags.dot_matches_new_line = !ends_lines;
+    flags.multi_line = ends_lines;
+    let regex = parsed(alloc, texts, flags)?;
+    if !ends_lines || are_local(regex.patterns(), b'\n', true) {
+        return Ok(regex);
+    }
+    flags.multi_line = false;
+    parsed(alloc, texts, flags)
+}
+
+/// Returns the regex of texts, with these flags where each begins.
+fn parsed<'a>(alloc: Global, texts: &Vec<String>, flags: Flags) -> Result<Regex, Error<'a>> {
+    let mut config = RegexConfig::new();
+    config.flags = flags;
     let mut borrowed = Vec::new(alloc);
     for text in texts {
         borrowed.push(text.as_str())?;
     }
     match Regex::new_many(alloc, borrowed.as_slice(), config) {
         Ok(regex) => Ok(regex),
-        Err(error) => Err(error_of(alloc, texts, error)),
-    }
-}
-
-/// Returns an error of the patterns, with the text in which it is.
-fn error_of(alloc: Global, texts: &Vec<String>, error: RegexError) -> Error {
-    match error {
-        RegexError::Compile(error) => Error::Compile(error),
-        RegexError::Parse { index, error } => {
-            let text = match texts.get(index) {
-                Some(text) => text.as_str(),
-                None => "",
-            };
-            match String::from_str(alloc, text) {
-                Ok(text) => Error::Parse { text, error },
-                Err(error) => Error::from(error),
-            }
+        Err(RegexError::Compile(error)) => Err(Error::Compile(error)),
+        Err(RegexError::Parse { index, error }) => {
+            let text = borrowed.get(index).copied().unwrap_or("");
+            let text = String::from_str(alloc, text)?;
+            Err(Error::Parse { text, error })
         }
     }
 }

@@ -1,30 +1,16 @@
 //! What is printed: names, numbers, lines, and the marks around them.
 
-use crate::error::OutputError;
+use crate::options::{Settings, Shows};
 use determinize_regex::Match;
-use std::alloc::Global;
-use std::io::{self, BufWriter, Write};
+use std::io::{self, BufWriter, Stdout, Write};
 
 /// Standard output.
 #[derive(Drop)]
-pub struct Printer<W: Write + Drop> {
-    out: BufWriter<W>,
-    style: Style,
-}
-
-/// How lines and what is before them are printed.
-#[derive(Clone, Copy)]
-pub struct Style {
+pub struct Printer<'a> {
+    out: BufWriter<Stdout>,
+    settings: &'a Settings<'a>,
     /// Whether names, numbers and matches are marked by colors.
-    pub has_colors: bool,
-    /// The byte that ends a line.
-    pub terminator: u8,
-    /// Whether a zero byte follows names of files.
-    pub has_nulls: bool,
-    /// Whether a tab is between a line and what is before it.
-    pub has_tabs: bool,
-    /// Whether each line is written as soon as it is printed.
-    pub is_line_buffered: bool,
+    has_colors: bool,
 }
 
 /// What is printed before a line or a match, each part with a sign behind it.
@@ -37,40 +23,27 @@ pub struct Head<'a> {
     /// The offset of what is printed.
     pub offset: Option<u64>,
     /// The number of the pattern.
-    pub pattern: Option<usize>,
-    /// The sign: a colon, or a hyphen where no line is selected.
-    pub sign: Sign,
+    pub pattern: Option<u64>,
     /// The least width of each of these numbers.
     pub width: usize,
+    /// Whether the line is selected: the sign is a colon, and else a hyphen.
+    pub is_selected: bool,
 }
 
-/// The sign behind what is printed before a line.
-#[derive(Clone, Copy, PartialEq, Eq)]
-pub enum Sign {
-    Colon,
-    Hyphen,
-}
+/// What selects the color of a match, as in grep.
+const MATCH: &[u8] = b"\x1b[01;31m\x1b[K";
 
-/// What has a color, as in grep.
-#[derive(Clone, Copy)]
-enum Color {
-    Match,
-    Name,
-    Number,
-    Sign,
-}
+/// What selects the color of a name.
+const NAME: &[u8] = b"\x1b[35m\x1b[K";
 
-impl Color {
-    /// Returns the parameters of the escape sequence that selects the color.
-    fn code(self) -> &'static str {
-        match self {
-            Color::Match => "01;31",
-            Color::Name => "35",
-            Color::Number => "32",
-            Color::Sign => "36",
-        }
-    }
-}
+/// What selects the color of a number.
+const NUMBER: &[u8] = b"\x1b[32m\x1b[K";
+
+/// What selects the color of a sign.
+const SIGN: &[u8] = b"\x1b[36m\x1b[K";
+
+/// What ends a color.
+const PLAIN: &[u8] = b"\x1b[m\x1b[K";
 
 impl Head<'_> {
     /// Returns whether anything is before the line.
@@ -82,176 +55,167 @@ impl Head<'_> {
     }
 }
 
-impl<W: Write + Drop> Printer<W> {
+impl<'a> Printer<'a> {
     /// Returns a printer that has printed nothing.
-    pub fn new(alloc: Global, out: W, style: Style) -> Result<Printer<W>, OutputError> {
-        let out = BufWriter::with_capacity(alloc, 1 << 16, out)?;
-        Ok(Printer { out, style })
+    pub fn new(
+        rt: &HostRuntime,
+        settings: &'a Settings<'a>,
+        has_colors: bool,
+    ) -> io::Result<Printer<'a>> {
+        Ok(Printer {
+            out: BufWriter::with_capacity(rt.alloc(), 1 << 16, rt.stdout())?,
+            settings,
+            has_colors,
+        })
     }
 
-    /// Returns whether matches are marked.
-    pub fn has_colors(&self) -> bool {
-        self.style.has_colors
+    /// Returns whether what is printed of a line depends on its matches.
+    pub fn needs_matches(&self) -> bool {
+        self.has_colors || matches!(self.settings.shows, Shows::Matches)
     }
 
     /// Writes all that was printed.
-    pub fn flush(&mut self) -> Result<(), OutputError> {
-        Ok(self.out.flush()?)
+    pub fn flush(&mut self) -> io::Result<()> {
+        self.out.flush()
     }
 
-    /// Prints a line, or a part of one as a line.
-    pub fn line(&mut self, head: &Head<'_>, line: &[u8]) -> Result<(), OutputError> {
-        self.head(head, line.is_empty())?;
-        self.out.write_all(line)?;
-        self.end_line()
+    /// Prints a line with these matches marked, or only the matches, by the settings.
+    pub fn print(&mut self, head: &Head<'_>, line: &[u8], matches: &[Match]) -> io::Result<()> {
+        match self.settings.shows {
+            Shows::Matches => self.matches(head, line, matches),
+            _ => self.line(head, line, matches),
+        }
     }
 
-    /// Prints a match as a line.
-    pub fn matched_line(&mut self, head: &Head<'_>, line: &[u8]) -> Result<(), OutputError> {
-        self.head(head, line.is_empty())?;
-        self.colored(Color::Match, line)?;
-        self.end_line()
+    /// Prints each match of a line as a line, unless it is empty.
+    fn matches(&mut self, head: &Head<'_>, line: &[u8], matches: &[Match]) -> io::Result<()> {
+        for found in matches {
+            let bytes = found.bytes(line).unwrap_or(&[]);
+            if bytes.is_empty() {
+                continue;
+            }
+            let mut head = *head;
+            if let Some(offset) = head.offset {
+                head.offset = Some(offset.saturating_add(found.start as u64));
+            }
+            let pattern = found.pattern.as_usize() as u64;
+            head.pattern = self.settings.pattern_numbers.then_some(pattern);
+            let mut whole = *found;
+            (whole.start, whole.end) = (0, bytes.len());
+            self.line(&head, bytes, &[whole])?;
+        }
+        Ok(())
     }
 
-    /// Prints a line with its matches marked.
-    pub fn marked_line(
-        &mut self,
-        head: &Head<'_>,
-        line: &[u8],
-        matches: &[Match],
-    ) -> Result<(), OutputError> {
+    /// Prints a line, or a part of one as a line, with these matches marked.
+    fn line(&mut self, head: &Head<'_>, line: &[u8], matches: &[Match]) -> io::Result<()> {
         self.head(head, line.is_empty())?;
         let mut done = 0;
         for found in matches {
             if !found.is_empty() {
                 self.out
                     .write_all(line.get(done..found.start).unwrap_or(&[]))?;
-                self.colored(Color::Match, found.bytes(line).unwrap_or(&[]))?;
+                self.colored(MATCH, found.bytes(line).unwrap_or(&[]))?;
                 done = found.end;
             }
         }
         self.out.write_all(line.get(done..).unwrap_or(&[]))?;
-        self.end_line()
+        self.end_with(self.settings.terminator)
     }
 
-    /// Ends a line.
-    fn end_line(&mut self) -> Result<(), OutputError> {
-        self.end_with(self.style.terminator)
+    /// Prints the line between groups of lines, if there is one.
+    pub fn separator(&mut self) -> io::Result<()> {
+        match self.settings.separator {
+            Some(text) if self.settings.separates() => {
+                self.colored(SIGN, text)?;
+                self.end_with(b'\n')
+            }
+            _ => Ok(()),
+        }
     }
 
-    /// Prints the byte that ends what is printed, and writes all if that is the style.
-    fn end_with(&mut self, byte: u8) -> Result<(), OutputError> {
+    /// Prints what the settings select where a text ends: its number of lines, or its name.
+    pub fn total(&mut self, name: &str, is_named: bool, selected: u64) -> io::Result<()> {
+        match self.settings.shows {
+            Shows::Count => self.count(is_named.then_some(name), selected),
+            Shows::Names if selected > 0 => self.name(name),
+            Shows::OtherNames if selected == 0 => self.name(name),
+            _ => Ok(()),
+        }
+    }
+
+    /// Prints the name of a file as a line.
+    fn name(&mut self, name: &str) -> io::Result<()> {
+        self.colored(NAME, name.as_bytes())?;
+        self.end_with(if self.settings.has_nulls { 0 } else { b'\n' })
+    }
+
+    /// Prints a number of lines, behind the name of the file if there is one.
+    fn count(&mut self, name: Option<&str>, count: u64) -> io::Result<()> {
+        self.name_before(name, b":")?;
+        write!(self.out, "{count}")?;
+        self.end_with(b'\n')
+    }
+
+    /// Prints the byte that ends what is printed, and writes all if each line is written at once.
+    fn end_with(&mut self, byte: u8) -> io::Result<()> {
         self.out.write_all(&[byte])?;
-        if self.style.is_line_buffered {
+        if self.settings.is_line_buffered {
             self.out.flush()?;
         }
         Ok(())
     }
 
-    /// Prints the line between groups of lines.
-    pub fn separator(&mut self, text: &[u8]) -> Result<(), OutputError> {
-        self.colored(Color::Sign, text)?;
-        self.end_with(b'\n')
-    }
-
-    /// Prints the name of a file as a line.
-    pub fn name(&mut self, name: &str) -> Result<(), OutputError> {
-        self.colored(Color::Name, name.as_bytes())?;
-        self.end_with(if self.style.has_nulls { 0 } else { b'\n' })
-    }
-
-    /// Prints a number of lines, behind the name of the file if there is one.
-    pub fn count(&mut self, name: Option<&str>, count: u64) -> Result<(), OutputError> {
-        if let Some(name) = name {
-            self.name_before(name, Sign::Colon)?;
-        }
-        write!(self.out, "{count}")?;
-        self.end_with(b'\n')
-    }
-
     /// Prints what is before a line, without a tab if the line is empty.
-    fn head(&mut self, head: &Head<'_>, is_empty: bool) -> Result<(), OutputError> {
-        if let Some(name) = head.name {
-            self.name_before(name, head.sign)?;
+    fn head(&mut self, head: &Head<'_>, is_empty: bool) -> io::Result<()> {
+        let sign: &[u8] = if head.is_selected { b":" } else { b"-" };
+        self.name_before(head.name, sign)?;
+        for number in [head.number, head.offset, head.pattern] {
+            self.number(number, head.width, sign)?;
         }
-        self.number(head.number, head)?;
-        self.number(head.offset, head)?;
-        if let Some(pattern) = head.pattern {
-            self.number(Some(pattern as u64), head)?;
-        }
-        if self.style.has_tabs && !is_empty && head.has_some() {
+        if self.settings.has_tabs && !is_empty && head.has_some() {
             self.out.write_all(b"\t")?;
         }
         Ok(())
     }
 
-    /// Prints the name of a file, and what is between it and other things.
-    fn name_before(&mut self, name: &str, sign: Sign) -> io::Result<()> {
-        self.colored(Color::Name, name.as_bytes())?;
-        if self.style.has_nulls {
+    /// Prints the name of a file, and what is between it and other things, if there is one.
+    fn name_before(&mut self, name: Option<&str>, sign: &[u8]) -> io::Result<()> {
+        let Some(name) = name else {
+            return Ok(());
+        };
+        self.colored(NAME, name.as_bytes())?;
+        if self.settings.has_nulls {
             self.out.write_all(&[0])
         } else {
-            self.sign(sign)
+            self.colored(SIGN, sign)
         }
     }
 
-    /// Prints a number and the sign behind it, if there is one.
-    fn number(&mut self, number: Option<u64>, head: &Head<'_>) -> io::Result<()> {
+    /// Prints a number of at least this width, and the sign behind it, if there is one.
+    fn number(&mut self, number: Option<u64>, width: usize, sign: &[u8]) -> io::Result<()> {
         let Some(number) = number else {
             return Ok(());
         };
-        self.begin(Color::Number)?;
-        for _ in digits(number)..head.width {
-            self.out.write_all(b" ")?;
-        }
-        write!(self.out, "{number}")?;
-        self.end()?;
-        self.sign(head.sign)
-    }
-
-    /// Prints the sign behind what is printed before a line.
-    fn sign(&mut self, sign: Sign) -> io::Result<()> {
-        match sign {
-            Sign::Colon => self.colored(Color::Sign, b":"),
-            Sign::Hyphen => self.colored(Color::Sign, b"-"),
-        }
+        self.color(NUMBER)?;
+        write!(self.out, "{number:>width$}")?;
+        self.color(PLAIN)?;
+        self.colored(SIGN, sign)
     }
 
     /// Prints bytes in a color.
-    fn colored(&mut self, color: Color, bytes: &[u8]) -> io::Result<()> {
-        self.begin(color)?;
+    fn colored(&mut self, color: &[u8], bytes: &[u8]) -> io::Result<()> {
+        self.color(color)?;
         self.out.write_all(bytes)?;
-        self.end()
+        self.color(PLAIN)
     }
 
-    /// Begins a color.
-    fn begin(&mut self, color: Color) -> io::Result<()> {
-        if self.style.has_colors {
-            let code = color.code();
-            write!(self.out, "\x1b[{code}m\x1b[K")?;
+    /// Selects a color, if there are colors.
+    fn color(&mut self, color: &[u8]) -> io::Result<()> {
+        if self.has_colors {
+            self.out.write_all(color)
+        } else {
+            Ok(())
         }
-        Ok(())
     }
-
-    /// Ends a color.
-    fn end(&mut self) -> io::Result<()> {
-        if self.style.has_colors {
-            self.out.write_all(b"\x1b[m\x1b[K")?;
-        }
-        Ok(())
-    }
-}
-
-/// Returns the number of digits of a number.
-pub fn digits(number: u64) -> usize {
-    let mut digits = 1_usize;
-    let mut rest = number / 10;
-    for _ in 0..u64::BITS {
-        if rest == 0 {
-            break;
-        }
-        digits = digits.saturating_add(1);
-        rest /= 10;
-    }
-    digits
 }

@@ -13,7 +13,7 @@ impl fmt::Display for Quoted<'_> {
         for chunk in self.0.utf8_chunks() {
             write_chars(f, chunk.valid())?;
             for byte in chunk.invalid() {
-                write!(f, "\\x{byte:02X}")?;
+                write_code(f, u32::from(*byte))?;
             }
         }
         Ok(())
@@ -24,8 +24,7 @@ impl fmt::Display for Quoted<'_> {
 fn write_chars<W: fmt::Write>(f: &mut fmt::Formatter<W>, text: &str) -> fmt::Result {
     for c in text.chars() {
         if c.is_control() {
-            let code = u32::from(c);
-            write!(f, "\\x{code:02X}")?;
+            write_code(f, u32::from(c))?;
         } else {
             f.write_char(c)?;
         }
@@ -33,21 +32,39 @@ fn write_chars<W: fmt::Write>(f: &mut fmt::Formatter<W>, text: &str) -> fmt::Res
     Ok(())
 }
 
-/// An error of the system as messages print it: as the C library does if it is a frequent one.
+/// Writes a byte, or a character, as a number.
+fn write_code<W: fmt::Write>(f: &mut fmt::Formatter<W>, code: u32) -> fmt::Result {
+    write!(f, "\\x{code:02X}")
+}
+
+/// Why something failed, as messages print it.
 #[derive(Clone, Copy)]
-pub struct Reason<'a>(pub &'a io::Error);
+pub enum Reason<'a> {
+    Text(&'a str),
+    Error(&'a io::Error),
+}
+
+impl<'a> Reason<'a> {
+    /// Returns the reason of an error, in the words of the C library if it is a frequent one.
+    pub fn of(error: &'a io::Error) -> Reason<'a> {
+        Reason::Text(match error.kind() {
+            ErrorKind::NotFound => "No such file or directory",
+            ErrorKind::PermissionDenied => "Permission denied",
+            ErrorKind::IsADirectory => "Is a directory",
+            ErrorKind::NotADirectory => "Not a directory",
+            ErrorKind::StorageFull => "No space left on device",
+            ErrorKind::OutOfMemory => "memory exhausted",
+            ErrorKind::InvalidFilename => "a name is too long or not UTF-8",
+            _ => return Reason::Error(error),
+        })
+    }
+}
 
 impl fmt::Display for Reason<'_> {
     fn fmt<W: fmt::Write>(&self, f: &mut fmt::Formatter<W>) -> fmt::Result {
-        match self.0.kind() {
-            ErrorKind::NotFound => f.write_str("No such file or directory"),
-            ErrorKind::PermissionDenied => f.write_str("Permission denied"),
-            ErrorKind::IsADirectory => f.write_str("Is a directory"),
-            ErrorKind::NotADirectory => f.write_str("Not a directory"),
-            ErrorKind::StorageFull => f.write_str("No space left on device"),
-            ErrorKind::OutOfMemory => f.write_str("memory exhausted"),
-            ErrorKind::InvalidFilename => f.write_str("a name is too long or not UTF-8"),
-            _ => fmt::Display::fmt(self.0, f),
+        match self {
+            Reason::Text(text) => f.write_str(text),
+            Reason::Error(error) => fmt::Display::fmt(*error, f),
         }
     }
 }
