@@ -4,7 +4,7 @@
 //! and `patch` sets it later. A union whose alternates are not known yet is `add_union(&[])`, and
 //! `close` sets its alternates: so the body of a loop can have a transition to an earlier state.
 
-ghost use Rattle.std.specs.Prelude.{◌≡◌, ◌+◌, ◌++◌, ◌<◌, ◌∷◌, [], Some, IfErr, IfOk, OnErr, OnOk, false, if◌then◌else◌, is_ok, length, map, slice_index_or, true, vec_len, ◌⊎◌};
+ghost use Rattle.std.specs.Prelude.{◌≡◌, ◌+◌, ◌++◌, ◌<◌, ◌∷◌, [], Some, IfErr, IfOk, OnErr, OnOk, false, if◌then◌else◌, is_ok, length, map, option_map, slice_get, slice_index_or, true, vec_len, ◌⊎◌};
 ghost use Rattle.std.specs.List.{position};
 ghost use Rattle.determinize_below.specs.Nfa.{failure};
 ghost use Rattle.determinize_below.specs.Semantics as nodes;
@@ -87,6 +87,13 @@ impl<A: Allocator + Copy> Builder<A> {
         ensures { result ≡ self.now.patterns }
     {
         self.patterns
+    }
+
+    /// Returns the state with this id, if there is one.
+    pub fn get(&self, id: StateID) -> Option<&State<A>>
+        ensures { option_map (λ state. node_of state.now) result ≡ slice_get self.now.states id }
+    {
+        self.states.get(id.as_usize())
     }
 
     /// Sets the line terminator.

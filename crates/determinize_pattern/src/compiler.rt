@@ -160,35 +160,42 @@ impl<A: Allocator + Copy> Compiler<A> {
         }
     }
 
-    /// Puts an assertion in front of each entry.
-    pub fn look_each(&mut self, look: Look, ids: &mut [StateID]) -> Result<(), CompileError>
-        ensures added { OnOk result (AddsEach self.old.builder self.new.builder ids.old ids.new
-            (λ k. nodes.Look look (slice_index ids.old k))) }
+    /// Puts an assertion in front of each entry from `first` on.
+    pub fn look_each(
+        &mut self,
+        look: Look,
+        first: usize,
+        ids: &mut [StateID],
+    ) -> Result<(), CompileError>
+        ensures added { OnOk result (AddsEach first self.old.builder self.new.builder ids.old
+            ids.new (λ k. nodes.Look look (slice_index ids.old k))) }
         ensures paid { OnOk result
             (Paid self.old.builder self.old.left self.new.builder self.new.left) }
     {
-        for k in 0..ids.len() {
+        for k in first..ids.len() {
             self.spend(1)?;
             ids[k] = self.builder.add_look(ids[k], look)?;
         }
         Ok(())
     }
 
-    /// Makes each entry a choice between itself and the state at its place in `others`.
+    /// Makes each entry from `first` on a choice between itself and the state at its place in
+    /// `others`.
     pub fn choose_each(
         &mut self,
         first_wins: bool,
+        first: usize,
         ids: &mut [StateID],
         others: &[StateID],
     ) -> Result<(), CompileError>
         requires { length others.now ≡ length ids.old }
-        ensures added { OnOk result (AddsEach self.old.builder self.new.builder ids.old ids.new
-            (λ k. nodes.Union
+        ensures added { OnOk result (AddsEach first self.old.builder self.new.builder ids.old
+            ids.new (λ k. nodes.Union
             (entries.in_order first_wins (slice_index ids.old k) (slice_index others.now k)))) }
         ensures paid { OnOk result
             (Paid self.old.builder self.old.left self.new.builder self.new.left) }
     {
-        for k in 0..ids.len() {
+        for k in first..ids.len() {
             let alternates = in_order(first_wins, ids[k], others[k]);
             ids[k] = self.union(&alternates)?;
         }

@@ -4,12 +4,14 @@
 //! A round of a loop that reads nothing must not go back to the loop. So a part is compiled for
 //! several targets, the slice `ids`: it continues at `ids[0]` if it has read a byte, and at
 //! `ids[k]` if it was entered by entry `k` and has read nothing. On return `ids[k]` is that entry.
+//! Only the entries from `first` on are wanted, 0 or 1: the body of a loop is not entered by the
+//! one that would continue at the loop with nothing read, and no body inside it needs that either.
 
-ghost use Rattle.std.specs.Prelude.{◌≡◌, ◌+◌, ◌<◌, ◌≤◌, ℕ, IfOk, List, OnOk, drop, length, map, slice_index};
+ghost use Rattle.std.specs.Prelude.{◌≡◌, ◌+◌, ◌<◌, ◌≤◌, ℕ, IfOk, List, OnOk, cond, drop, length, map, nat_lt, slice_index, true};
 ghost use Rattle.determinize_pattern.specs.Meaning as meanings;
 ghost use Rattle.determinize_pattern.specs.Patterns as patterns;
 ghost use Rattle.determinize_pattern.specs.Patterns.{at_least, choice, meaning, repeated, sequence};
-ghost use Rattle.determinize_pattern.specs.Private.Compiling.{AlwaysReads, IsBegun, IsCompiled, IsUnread, Paid, Precedes};
+ghost use Rattle.determinize_pattern.specs.Private.Compiling.{AlwaysReads, FailsUnread, IsBegun, IsCompiled, IsUnread, Paid, Precedes};
 ghost use Rattle.determinize_pattern.specs.Private.FirstClasses.{AreFirst, BeginsWith, IsRest};
 ghost use Rattle.determinize_pattern.specs.Private.Words.{IsHead};
 
@@ -22,17 +24,22 @@ use crate::nfa::CompileError;
 use crate::pattern::Pattern;
 use crate::prefix_tree::Word;
 use determinize_below::StateID;
-use determinize_below::nfa::Transition;
+use determinize_below::nfa::{State, Transition};
 use std::alloc::Allocator;
 
 impl<A: Allocator + Copy> Compiler<A> {
     /// Adds the states of a pattern, at a cost of one for each target. One that reads has one entry
     /// for all targets.
     #[cycle(part)]
-    pub fn part(&mut self, pattern: &Pattern, ids: &mut [StateID]) -> Result<(), CompileError>
+    pub fn part(
+        &mut self,
+        pattern: &Pattern,
+        first: usize,
+        ids: &mut [StateID],
+    ) -> Result<(), CompileError>
         requires { 0 < length ids.old }
-        ensures compiled { OnOk result
-            (IsCompiled self.old.builder self.new.builder (meaning pattern.now) ids.old ids.new) }
+        ensures compiled { OnOk result (IsCompiled first self.old.builder self.new.builder
+            (meaning pattern.now) ids.old ids.new) }
         ensures charged { OnOk result (self.new.left + length ids.old ≤ self.old.left) }
         ensures paid { OnOk result
             (Paid self.old.builder self.old.left self.new.builder self.new.left) }
@@ -40,18 +47,23 @@ impl<A: Allocator + Copy> Compiler<A> {
         self.spend(ids.len())?;
         if ids.len() > 1 && always_reads(pattern) {
             let mut only = [ids[0]];
-            self.node(pattern, &mut only)?;
+            self.node(pattern, 0, &mut only)?;
             set_each(ids, only[0]);
             return Ok(());
         }
-        self.node(pattern, ids)
+        self.node(pattern, first, ids)
     }
 
     #[cycle(part)]
-    fn node(&mut self, pattern: &Pattern, ids: &mut [StateID]) -> Result<(), CompileError>
+    fn node(
+        &mut self,
+        pattern: &Pattern,
+        first: usize,
+        ids: &mut [StateID],
+    ) -> Result<(), CompileError>
         requires { 0 < length ids.old }
-        ensures compiled { OnOk result
-            (IsCompiled self.old.builder self.new.builder (meaning pattern.now) ids.old ids.new) }
+        ensures compiled { OnOk result (IsCompiled first self.old.builder self.new.builder
+            (meaning pattern.now) ids.old ids.new) }
         ensures paid { OnOk result
             (Paid self.old.builder self.old.left self.new.builder self.new.left) }
     {
@@ -59,22 +71,22 @@ impl<A: Allocator + Copy> Compiler<A> {
             Pattern::Empty => Ok(()),
             Pattern::Literal(bytes) => self.literal(bytes, ids),
             Pattern::Class(class) => self.class(class, ids),
-            Pattern::Look(look) => self.look_each(*look, ids),
+            Pattern::Look(look) => self.look_each(*look, first, ids),
             Pattern::Repetition {
                 min,
                 max,
                 greedy,
                 sub,
-            } => self.repetition(*min, *max, *greedy, sub, ids),
-            Pattern::Capture(sub) => self.part(sub, ids),
-            Pattern::Concat(subs) => self.concat(subs, 0, ids),
-            Pattern::Alternation(subs) => self.alternation(subs, ids),
+            } => self.repetition(*min, *max, *greedy, sub, first, ids),
+            Pattern::Capture(sub) => self.part(sub, first, ids),
+            Pattern::Concat(subs) => self.concat(subs, 0, first, ids),
+            Pattern::Alternation(subs) => self.alternation(subs, first, ids),
         }
     }
 
     pub fn literal(&mut self, bytes: &[u8], ids: &mut [StateID]) -> Result<(), CompileError>
         requires { 0 < length ids.old }
-        ensures compiled { OnOk result (IsCompiled self.old.builder self.new.builder
+        ensures compiled { OnOk result (IsCompiled 0 self.old.builder self.new.builder
             (patterns.literal bytes.now) ids.old ids.new) }
         ensures paid { OnOk result
             (Paid self.old.builder self.old.left self.new.builder self.new.left) }
@@ -97,7 +109,7 @@ impl<A: Allocator + Copy> Compiler<A> {
 
     fn class(&mut self, class: &ClassBytes, ids: &mut [StateID]) -> Result<(), CompileError>
         requires { 0 < length ids.old }
-        ensures compiled { OnOk result (IsCompiled self.old.builder self.new.builder
+        ensures compiled { OnOk result (IsCompiled 0 self.old.builder self.new.builder
             (meanings.Byte class.now) ids.old ids.new) }
         ensures paid { OnOk result
             (Paid self.old.builder self.old.left self.new.builder self.new.left) }
@@ -130,25 +142,31 @@ impl<A: Allocator + Copy> Compiler<A> {
         &mut self,
         subs: &[Pattern],
         from: usize,
+        first: usize,
         ids: &mut [StateID],
     ) -> Result<(), CompileError>
         requires some { 0 < length ids.old }
         requires within { from ≤ length subs.now }
-        ensures compiled { OnOk result (IsCompiled self.old.builder self.new.builder
+        ensures compiled { OnOk result (IsCompiled first self.old.builder self.new.builder
             (sequence (map meaning (drop from subs.now))) ids.old ids.new) }
         ensures paid { OnOk result
             (Paid self.old.builder self.old.left self.new.builder self.new.left) }
     {
         for i in (from..subs.len()).rev() {
-            self.part(&subs[i], ids)?;
+            self.part(&subs[i], wanted(from < i, first), ids)?;
         }
         Ok(())
     }
 
     #[cycle(part)]
-    fn alternation(&mut self, subs: &[Pattern], ids: &mut [StateID]) -> Result<(), CompileError>
+    fn alternation(
+        &mut self,
+        subs: &[Pattern],
+        first: usize,
+        ids: &mut [StateID],
+    ) -> Result<(), CompileError>
         requires { 0 < length ids.old }
-        ensures compiled { OnOk result (IsCompiled self.old.builder self.new.builder
+        ensures compiled { OnOk result (IsCompiled first self.old.builder self.new.builder
             (choice (map meaning subs.now)) ids.old ids.new) }
         ensures paid { OnOk result
             (Paid self.old.builder self.old.left self.new.builder self.new.left) }
@@ -159,7 +177,7 @@ impl<A: Allocator + Copy> Compiler<A> {
         }
         let targets = self.copy(ids)?;
         let mut branch = self.copy(ids)?;
-        self.choices(subs, &targets, &mut branch, ids)
+        self.choices(subs, &targets, &mut branch, first, ids)
     }
 
     /// Adds the states of each branch, which is compiled in `branch`, in front of the later ones.
@@ -169,12 +187,13 @@ impl<A: Allocator + Copy> Compiler<A> {
         subs: &[Pattern],
         targets: &[StateID],
         branch: &mut [StateID],
+        first: usize,
         ids: &mut [StateID],
     ) -> Result<(), CompileError>
         requires some { 0 < length ids.old }
         requires targets { length targets.now ≡ length ids.old }
         requires branch { length branch.old ≡ length targets.now }
-        ensures compiled { OnOk result (IsCompiled self.old.builder self.new.builder
+        ensures compiled { OnOk result (IsCompiled first self.old.builder self.new.builder
             (choice (map meaning subs.now)) targets.now ids.new) }
         ensures paid { OnOk result
             (Paid self.old.builder self.old.left self.new.builder self.new.left) }
@@ -183,8 +202,8 @@ impl<A: Allocator + Copy> Compiler<A> {
         set_each(ids, fail);
         for i in (0..subs.len()).rev() {
             branch.copy_from_slice(targets);
-            self.part(&subs[i], branch)?;
-            self.choose_each(false, ids, branch)?;
+            self.part(&subs[i], first, branch)?;
+            self.choose_each(false, first, ids, branch)?;
         }
         Ok(())
     }
@@ -247,7 +266,7 @@ impl<A: Allocator + Copy> Compiler<A> {
         match pattern {
             Pattern::Concat(subs) => {
                 let mut ids = [next];
-                self.concat(subs, 1.min(subs.len()), &mut ids)?;
+                self.concat(subs, 1.min(subs.len()), 0, &mut ids)?;
                 Ok(ids[0])
             }
             _ => Ok(next),
@@ -281,7 +300,7 @@ impl<A: Allocator + Copy> Compiler<A> {
         let mut bytes = Vec::new(self.alloc);
         let count = push_words(&mut bytes, subs)?;
         let mut ids = [next];
-        self.concat(subs, count, &mut ids)?;
+        self.concat(subs, count, 0, &mut ids)?;
         Ok(Word::new(bytes, ids[0]))
     }
 
@@ -298,7 +317,7 @@ impl<A: Allocator + Copy> Compiler<A> {
             return Ok(Word::new(bytes, next));
         }
         let mut ids = [next];
-        self.node(pattern, &mut ids)?;
+        self.node(pattern, 0, &mut ids)?;
         Ok(Word::new(bytes, ids[0]))
     }
 
@@ -309,39 +328,47 @@ impl<A: Allocator + Copy> Compiler<A> {
         max: Option<u32>,
         greedy: bool,
         sub: &Pattern,
+        first: usize,
         ids: &mut [StateID],
     ) -> Result<(), CompileError>
         requires { 0 < length ids.old }
-        ensures compiled { OnOk result (IsCompiled self.old.builder self.new.builder
+        ensures compiled { OnOk result (IsCompiled first self.old.builder self.new.builder
             (repeated min max greedy (meaning sub.now)) ids.old ids.new) }
         ensures paid { OnOk result
             (Paid self.old.builder self.old.left self.new.builder self.new.left) }
     {
         match max {
             Some(max) => {
-                self.up_to(greedy, max.saturating_sub(min), sub, ids)?;
-                self.copies(min, sub, ids)
+                let behind = wanted(0 < min, first);
+                self.up_to(greedy, max.saturating_sub(min), sub, behind, ids)?;
+                self.copies(min, sub, first, ids)
             }
-            None if min == 0 => self.star(greedy, sub, ids),
+            None if min == 0 => self.star(greedy, sub, first, ids),
             None => {
-                self.plus(greedy, sub, ids)?;
-                self.copies(min - 1, sub, ids)
+                self.plus(greedy, sub, wanted(0 < min - 1, first), ids)?;
+                self.copies(min - 1, sub, first, ids)
             }
         }
     }
 
     /// Puts copies in front of what was compiled before.
     #[cycle(part)]
-    fn copies(&mut self, count: u32, sub: &Pattern, ids: &mut [StateID]) -> Result<(), CompileError>
+    fn copies(
+        &mut self,
+        count: u32,
+        sub: &Pattern,
+        first: usize,
+        ids: &mut [StateID],
+    ) -> Result<(), CompileError>
         requires { 0 < length ids.old }
-        ensures front { OnOk result
-            (Precedes self.old.builder self.new.builder
+        ensures front { OnOk result (Precedes (cond (nat_lt 0 count) 0 first) first
+            self.old.builder self.new.builder
             (patterns.copies count (meaning sub.now)) ids.old ids.new) }
         ensures paid { OnOk result
             (Paid self.old.builder self.old.left self.new.builder self.new.left) }
     {
         for done in 0..count {
-            self.part(sub, ids)?;
+            self.part(sub, wanted(done + 1 < count, first), ids)?;
         }
         Ok(())
     }
@@ -352,51 +379,61 @@ impl<A: Allocator + Copy> Compiler<A> {
         greedy: bool,
         count: u32,
         sub: &Pattern,
+        first: usize,
         ids: &mut [StateID],
     ) -> Result<(), CompileError>
         requires { 0 < length ids.old }
-        ensures compiled { OnOk result (IsCompiled self.old.builder self.new.builder
+        ensures compiled { OnOk result (IsCompiled first self.old.builder self.new.builder
             (patterns.up_to greedy count (meaning sub.now)) ids.old ids.new) }
         ensures paid { OnOk result
             (Paid self.old.builder self.old.left self.new.builder self.new.left) }
     {
         let targets = self.copy(ids)?;
         for done in 0..count {
-            self.part(sub, ids)?;
-            self.choose_each(greedy, ids, &targets)?;
+            let behind = wanted(done + 1 < count, first);
+            self.part(sub, behind, ids)?;
+            self.choose_each(greedy, behind, ids, &targets)?;
         }
         Ok(())
     }
 
     /// The state of a loop whose body reads is also the choice between a first round and none.
     #[cycle(part)]
-    fn star(&mut self, greedy: bool, sub: &Pattern, ids: &mut [StateID]) -> Result<(), CompileError>
+    fn star(
+        &mut self,
+        greedy: bool,
+        sub: &Pattern,
+        first: usize,
+        ids: &mut [StateID],
+    ) -> Result<(), CompileError>
         requires { 0 < length ids.old }
-        ensures compiled { OnOk result (IsCompiled self.old.builder self.new.builder
+        ensures compiled { OnOk result (IsCompiled first self.old.builder self.new.builder
             (at_least greedy 0 (meaning sub.now)) ids.old ids.new) }
         ensures paid { OnOk result
             (Paid self.old.builder self.old.left self.new.builder self.new.left) }
     {
         let targets = self.copy(ids)?;
-        let again = self.plus(greedy, sub, ids)?;
+        let again = self.plus(greedy, sub, first, ids)?;
         if ids.len() == 1 && always_reads(sub) {
             ids[0] = again;
             return Ok(());
         }
-        self.choose_each(greedy, ids, &targets)
+        self.choose_each(greedy, first, ids, &targets)
     }
 
     /// The body has one entry for the first round at each target, where reading nothing leaves the
-    /// loop, and one for the later rounds, where it fails. Returns the state of the loop.
+    /// loop, and one for the later rounds, where it fails: the same if a target fails. Returns the
+    /// state of the loop.
     #[cycle(part)]
     fn plus(
         &mut self,
         greedy: bool,
         sub: &Pattern,
+        first: usize,
         ids: &mut [StateID],
     ) -> Result<StateID, CompileError>
         requires { 0 < length ids.old }
-        ensures compiled { OnOk result (IsCompiled self.old.builder self.new.builder
+        ensures compiled { OnOk result (IsCompiled first self.old.builder self.new.builder
             (meanings.Plus greedy (meaning sub.now)) ids.old ids.new) }
         ensures again { IfOk result (λ s. AlwaysReads (meaning sub.now)
             → IsBegun self.old.builder self.new.builder (at_least greedy 0 (meaning sub.now))
@@ -405,12 +442,32 @@ impl<A: Allocator + Copy> Compiler<A> {
             (Paid self.old.builder self.old.left self.new.builder self.new.left) }
     {
         let again = self.union(&[])?;
+        let next = ids[0];
+        if self.fails_unread(first, ids) {
+            ids[0] = again;
+            self.part(sub, 1, ids)?;
+            self.close(again, greedy, ids[1], next)?;
+            return Ok(again);
+        }
         let unread = self.unread(sub, again)?;
         let mut body = self.list(again, unread, ids)?;
-        self.part(sub, &mut body)?;
-        self.close(again, greedy, body[1], ids[0])?;
+        self.part(sub, 1, &mut body)?;
+        self.close(again, greedy, body[1], next)?;
         ids.copy_from_slice(&body[2..]);
         Ok(again)
+    }
+
+    /// Returns whether only later entries are wanted, of which the first fails if nothing is read.
+    fn fails_unread(&self, first: usize, ids: &[StateID]) -> bool
+        ensures { result ≡ true → FailsUnread self.now.builder first ids.now }
+    {
+        if first == 0 || ids.len() < 2 {
+            return false;
+        }
+        match self.builder.get(ids[1]) {
+            Some(State::Fail) => true,
+            _ => false,
+        }
     }
 
     /// Returns the state at which a later round continues that reads nothing: one that fails, or
@@ -427,4 +484,12 @@ impl<A: Allocator + Copy> Compiler<A> {
             self.fail()
         }
     }
+}
+
+/// Returns which entries are wanted of a part of a pattern from whose first part those from `first`
+/// on are: all, if it is behind another part.
+fn wanted(is_behind: bool, first: usize) -> usize
+    ensures { result ≡ cond is_behind 0 first }
+{
+    if is_behind { 0 } else { first }
 }

@@ -415,11 +415,14 @@ HOSTILE = [
     ('100000 empty branches in a loop', 'R:0,-,g A:100000 E*100000', ()),
     ('100000 branches in a loop over what may read nothing', 'R:0,-,g A:100001 E L:61*100000', ()),
     ('20 counted loops of 4294967295, one in another', 'R:4294967295,4294967295,g*20 K:Start', ()),
-    ('50 lazy loops over loops', 'R:1,-,l*50 R:0,1,g L:61', (100000,)),
+    ('50 lazy loops over loops', 'R:1,-,l*50 R:0,1,g L:61', (1000, 100000)),
     ('1000 captures, one in another', 'G*1000 L:61', (100000,)),
     ('1000 counted loops, one in another', 'R:1,1,g*1000 L:61', (100000,)),
-    ('1000 loops over what may read nothing', 'R:0,-,g*1000 R:0,1,g L:61', ()),
+    ('1000 loops over what may read nothing', 'R:0,-,g*1000 R:0,1,g L:61', (100000,)),
     ('2000 assertions in a loop', 'R:2,-,g S:2000 K:WordAscii*2000', (100000,)),
+    ('240 loops, one in another', 'R:0,-,g*240 L:61', (100000,)),
+    ('240 loops of three kinds, one in another', 'R:0,-,g R:0,1,l R:1,-,l ' * 80 + 'L:61', (100000,)),
+    ('120 loops over choices, one in another', 'R:0,-,g A:2 ' * 120 + 'L:61 L:62*120', (100000,)),
 ]
 
 # Patterns by depth: the greatest depth, if it is not the usual one, whether it suffices, and the patterns.

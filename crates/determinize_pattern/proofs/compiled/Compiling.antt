@@ -2,9 +2,10 @@
 -- Main statements: empty_compiled, one_compiled, look_compiled, then_compiled, choice_compiled, optional_compiled.
 -- Used by: Looping, Heads and the proofs of `part` and `tree`.
 -- Idea: a part that reads needs no target for nothing read, and one that reads nothing none for bytes read.
-use Rattle.std.specs.Prelude.{cond, slice_index, slice_index_or}
-use Rattle.std.proofs.Common.{◌≡◌, ◌-◌, ◌<◌, ◌∙◌, ◌∷◌, ℕ, Bool, Err, IfOk, List, None, Ok, OnOk, Result, [], ap, arith, false, inr, length, refl, replicate, set, suc, true, zero, get_or-set_same, length-set}
+use Rattle.std.specs.Prelude.{cond, slice_get, slice_index, slice_index_or}
+use Rattle.std.proofs.Common.{◌≡◌, ◌-◌, ◌<◌, ◌≤◌, ◌∙◌, ◌∷◌, ℕ, Bool, Err, IfOk, List, None, Ok, OnOk, Result, Some, [], ap, arith, false, inr, length, refl, replicate, set, suc, sym, true, zero, get_or-set_same, length-set}
 use Rattle.std.proofs.lemmas.List.{get_or-replicate, length-replicate}
+use Rattle.std.proofs.lemmas.Option.{get_or_from_slice_get, slice_get_within}
 use Rattle.determinize_below.specs.Semantics.{ByteRange, Fail, Look, Nfa, Node, Sparse, Text, Union, state_at}
 use Rattle.determinize_below.specs.declared.look.Look.{Look as Assertion}
 use Rattle.determinize_below.specs.declared.nfa.transitions.Transition.{Transition}
@@ -34,46 +35,55 @@ staying_entry nfa text a moved stayed other s r h i zs k = h i zs (λ j c.
     let l : j ≡ i = r nfa.terminator text i j c in
     rw (if_stayed i j moved stayed l) (rw (if_stayed i j other stayed l) at (k j c)))
 
-pub compiled_after : (a b c : BuilderValue) (p : Re) (ids es : List ℕ) → b ≡ a → IsCompiled b c p ids es
-    → IsCompiled a c p ids es
-compiled_after a b c p ids es e h = rw e at h
+pub compiled_after : (first : ℕ) (a b c : BuilderValue) (p : Re) (ids es : List ℕ) → b ≡ a
+    → IsCompiled first b c p ids es → IsCompiled first a c p ids es
+compiled_after first a b c p ids es e h = rw e at h
 
-pub empty_compiled : (b : BuilderValue) (ids : List ℕ) → IsCompiled b b re.Empty ids ids
-empty_compiled b ids = record {
+-- fewer entries are wanted
+pub later_compiled : (more first : ℕ) (old new : BuilderValue) (p : Re) (ids es : List ℕ) → more ≤ first
+    → IsCompiled more old new p ids es → IsCompiled first old new p ids es
+later_compiled more first old new p ids es m h = record {
+  extends = h.extends;
+  len = h.len;
+  each = λ nfa c text k w l. h.each nfa c text k (omega (arith, m, w)) l;
+}
+
+pub empty_compiled : (first : ℕ) (b : BuilderValue) (ids : List ℕ) → IsCompiled first b b re.Empty ids ids
+empty_compiled first b ids = record {
   extends = extends_same b;
   len = refl;
-  each = λ nfa h text k l. staying_entry nfa text re.Empty (slice_index ids k) (slice_index ids k) (slice_index ids 0)
+  each = λ nfa h text k w l. staying_entry nfa text re.Empty (slice_index ids k) (slice_index ids k) (slice_index ids 0)
       (slice_index ids k) stays_empty (empty_entry nfa text (slice_index ids k));
 }
 
 -- one entry of a pattern that reads is enough
-pub one_compiled : (old new : BuilderValue) (p : Re) (ids es : List ℕ) (s : ℕ) → AlwaysReads p
-    → IsBegun old new p (slice_index ids 0) s → es ≡ replicate (length ids) s → IsCompiled old new p ids es
-one_compiled old new p ids es s r h e = record {
+pub one_compiled : (first : ℕ) (old new : BuilderValue) (p : Re) (ids es : List ℕ) (s : ℕ) → AlwaysReads p
+    → IsBegun old new p (slice_index ids 0) s → es ≡ replicate (length ids) s → IsCompiled first old new p ids es
+one_compiled first old new p ids es s r h e = record {
   extends = h.extends;
   len = ap length e ∙ length-replicate (length ids) s;
-  each = λ nfa c text k l.
+  each = λ nfa c text k w l.
       let is : slice_index es k ≡ s = rw e (get_or-replicate (length ids) k s 0 l) in
       rw is (reading_entry nfa text p (slice_index ids 0) (slice_index ids 0) (slice_index ids k) s r
       (h.entry nfa c text));
 }
 
 -- with one id, one entry is enough
-pub only_compiled : (old new : BuilderValue) (p : Re) (ids xs : List ℕ) (s : ℕ) → length ids ≡ 1
-    → length xs ≡ length ids → IsBegun old new p (slice_index ids 0) s → IsCompiled old new p ids (set xs 0 s)
-only_compiled old new p ids xs s l d h = record {
+pub only_compiled : (first : ℕ) (old new : BuilderValue) (p : Re) (ids xs : List ℕ) (s : ℕ) → length ids ≡ 1
+    → length xs ≡ length ids → IsBegun old new p (slice_index ids 0) s → IsCompiled first old new p ids (set xs 0 s)
+only_compiled first old new p ids xs s l d h = record {
   extends = h.extends;
   len = length-set xs 0 s ∙ d;
-  each = λ nfa c text k m.
+  each = λ nfa c text k w m.
       let z : k ≡ 0 = omega (arith, l, m) in
       rw (z, get_or-set_same xs 0 s 0 (omega (arith, l, d))) (h.entry nfa c text);
 }
 
-pub begun_of : (old new : BuilderValue) (p : Re) (next : ℕ) (es : List ℕ) → IsCompiled old new p (next ∷ []) es
+pub begun_of : (old new : BuilderValue) (p : Re) (next : ℕ) (es : List ℕ) → IsCompiled 0 old new p (next ∷ []) es
     → IsBegun old new p next (slice_index es 0)
 begun_of old new p next es h = record {
   extends = h.extends;
-  entry = λ nfa c text. h.each nfa c text 0 (omega arith);
+  entry = λ nfa c text. h.each nfa c text 0 (omega arith) (omega arith);
 }
 
 -- a new state that begins the pattern in each NFA that has it
@@ -132,46 +142,48 @@ then_begun a b old mid new next m s hb ha = record {
 pub empty_begun : (b : BuilderValue) (next : ℕ) → IsBegun b b re.Empty next next
 empty_begun b next = record { extends = extends_same b; entry = λ nfa h text. empty_entry nfa text next }
 
-pub nothing_compiled : (old new : BuilderValue) (ids es : List ℕ) (s : ℕ) → s ≡ length old.states
-    → new ≡ with_node old Fail → es ≡ replicate (length ids) s → IsCompiled old new (re.Byte []) ids es
-nothing_compiled old new ids es s e g f =
-    one_compiled old new (re.Byte []) ids es s (reads_byte []) (fail_begun old new (slice_index ids 0) s e g) f
+pub nothing_compiled : (first : ℕ) (old new : BuilderValue) (ids es : List ℕ) (s : ℕ) → s ≡ length old.states
+    → new ≡ with_node old Fail → es ≡ replicate (length ids) s → IsCompiled first old new (re.Byte []) ids es
+nothing_compiled first old new ids es s e g f =
+    one_compiled first old new (re.Byte []) ids es s (reads_byte []) (fail_begun old new (slice_index ids 0) s e g) f
 
-pub look_compiled : (old new : BuilderValue) (look : Assertion) (ids es : List ℕ)
-    → AddsEach old new ids es (λ k. Look look (slice_index ids k)) → IsCompiled old new (re.Look look) ids es
-look_compiled old new look ids es h = record {
+pub look_compiled : (first : ℕ) (old new : BuilderValue) (look : Assertion) (ids es : List ℕ)
+    → AddsEach first old new ids es (λ k. Look look (slice_index ids k))
+    → IsCompiled first old new (re.Look look) ids es
+look_compiled first old new look ids es h = record {
   extends = h.extends;
   len = h.len;
-  each = λ nfa c text k l.
+  each = λ nfa c text k w l.
       staying_entry nfa text (re.Look look) (slice_index ids k) (slice_index ids k) (slice_index ids 0)
       (slice_index es k) (stays_look look)
-      (λ i. look_entry nfa text look (slice_index ids k) (slice_index es k) c.forward (h.each nfa c k l) i);
+      (λ i. look_entry nfa text look (slice_index ids k) (slice_index es k) c.forward (h.each nfa c k w l) i);
 }
 
-pub then_compiled : (a b : Re) (old mid new : BuilderValue) (ids ms es : List ℕ) → 0 < length ids
-    → IsCompiled old mid b ids ms → IsCompiled mid new a ms es → IsCompiled old new (re.Then a b) ids es
-then_compiled a b old mid new ids ms es some hb ha = record {
+pub then_compiled : (first : ℕ) (a b : Re) (old mid new : BuilderValue) (ids ms es : List ℕ) → 0 < length ids
+    → IsCompiled 0 old mid b ids ms → IsCompiled first mid new a ms es
+    → IsCompiled first old new (re.Then a b) ids es
+then_compiled first a b old mid new ids ms es some hb ha = record {
   extends = extends_then old mid new hb.extends ha.extends;
   len = ha.len ∙ hb.len;
-  each = λ nfa h text k l.
+  each = λ nfa h text k w l.
       let c = continues_old mid new ha.extends nfa h in
       then_entry nfa text a b (slice_index ids 0) (slice_index ids k) (slice_index ms 0) (slice_index ms k)
-      (slice_index es k) (hb.each nfa c text 0 some) (hb.each nfa c text k l)
-      (ha.each nfa h text k (omega (arith, l, hb.len)));
+      (slice_index es k) (hb.each nfa c text 0 (omega arith) some) (hb.each nfa c text k (omega arith) l)
+      (ha.each nfa h text k w (omega (arith, l, hb.len)));
 }
 
 -- a choice between each entry of one pattern and that of another
-pub choice_compiled : (wins : Bool) (a b : Re) (old mid more new : BuilderValue) (ids xs ys es : List ℕ)
-    → IsCompiled old mid a ids xs → IsCompiled mid more b ids ys
-    → AddsEach more new xs es (λ k. Union (in_order wins (slice_index xs k) (slice_index ys k)))
-    → IsCompiled old new (cond wins (re.Or a b) (re.Or b a)) ids es
-choice_compiled wins a b old mid more new ids xs ys es ha hb h = record {
+pub choice_compiled : (wins : Bool) (first : ℕ) (a b : Re) (old mid more new : BuilderValue) (ids xs ys es : List ℕ)
+    → IsCompiled first old mid a ids xs → IsCompiled first mid more b ids ys
+    → AddsEach first more new xs es (λ k. Union (in_order wins (slice_index xs k) (slice_index ys k)))
+    → IsCompiled first old new (cond wins (re.Or a b) (re.Or b a)) ids es
+choice_compiled wins first a b old mid more new ids xs ys es ha hb h = record {
   extends = extends_then old more new (extends_then old mid more ha.extends hb.extends) h.extends;
   len = h.len ∙ ha.len;
-  each = λ nfa c text k l.
+  each = λ nfa c text k w l.
       let f = continues_old more new h.extends nfa c in
-      go wins nfa text k (ha.each nfa (continues_old mid more hb.extends nfa f) text k l) (hb.each nfa f text k l)
-      (h.each nfa c k (omega (arith, l, ha.len)));
+      go wins nfa text k (ha.each nfa (continues_old mid more hb.extends nfa f) text k w l) (hb.each nfa f text k w l)
+      (h.each nfa c k w (omega (arith, l, ha.len)));
 }
   where
     go : (w : Bool) (nfa : Nfa) (text : Text) (k : ℕ)
@@ -185,12 +197,12 @@ choice_compiled wins a b old mid more new ids xs ys es ha hb h = record {
         (slice_index xs k) (slice_index es k) g f e
 
 -- a choice between a pattern and nothing
-pub optional_compiled : (greedy : Bool) (a : Re) (old mid new : BuilderValue) (ids xs others es : List ℕ) → others ≡ ids
-    → IsCompiled old mid a ids xs
-    → AddsEach mid new xs es (λ k. Union (in_order greedy (slice_index xs k) (slice_index others k)))
-    → IsCompiled old new (optional greedy a) ids es
-optional_compiled greedy a old mid new ids xs others es e ha h =
-    choice_compiled greedy a re.Empty old mid mid new ids xs ids es ha (empty_compiled mid ids) (rw e at h)
+pub optional_compiled : (greedy : Bool) (first : ℕ) (a : Re) (old mid new : BuilderValue) (ids xs others es : List ℕ)
+    → others ≡ ids → IsCompiled first old mid a ids xs
+    → AddsEach first mid new xs es (λ k. Union (in_order greedy (slice_index xs k) (slice_index others k)))
+    → IsCompiled first old new (optional greedy a) ids es
+optional_compiled greedy first a old mid new ids xs others es e ha h =
+    choice_compiled greedy first a re.Empty old mid mid new ids xs ids es ha (empty_compiled first mid ids) (rw e at h)
 
 pub ok_both : {P : ℕ → Type 0} {Q : Type 0} {R : ℕ → Type 0} (r : Result ℕ CompileError) → IfOk r P → OnOk r Q
     → ((s : ℕ) → P s → Q → R s) → IfOk r R
@@ -209,13 +221,23 @@ unread_fails old new p (Ok s) e g = rw g (record {
 })
 unread_fails old new p (Err e) f g = tt
 
-pub precedes_none : (b : BuilderValue) (a : Re) (ids : List ℕ) → Precedes b b (copies 0 a) ids ids
-precedes_none b a ids old p targets some h = h
+pub unread_kept : (b : BuilderValue) (p : Re) (s : ℕ) → slice_get b.states s ≡ Some Fail → IsUnread b b p s
+unread_kept b p s e = record {
+  extends = extends_same b;
+  fails = inr (λ nfa c.
+      let is : slice_index_or b.states s Fail ≡ Fail = get_or_from_slice_get b.states s Fail Fail e in
+      c.states s (slice_get_within b.states s Fail e) (λ z. let y : Fail ≡ Union [] = sym is ∙ z in cc) ∙ is);
+}
 
-pub precedes_more : (mid new last : BuilderValue) (n : ℕ) (a : Re) (ids ms es : List ℕ)
-    → Precedes mid new (copies n a) ids ms → IsCompiled new last a ms es → Precedes mid last (copies (suc n) a) ids es
-precedes_more mid new last n a ids ms es f h old p targets some k =
-    then_compiled a (copies n a p) old new last targets ms es some (f old p targets some k) h
+pub precedes_none : (first : ℕ) (b : BuilderValue) (a : Re) (ids : List ℕ)
+    → Precedes first first b b (copies 0 a) ids ids
+precedes_none first b a ids old p targets some h = h
+
+pub precedes_more : (behind first : ℕ) (mid new last : BuilderValue) (n : ℕ) (a : Re) (ids ms es : List ℕ)
+    → Precedes behind 0 mid new (copies n a) ids ms → IsCompiled first new last a ms es
+    → Precedes behind first mid last (copies (suc n) a) ids es
+precedes_more behind first mid new last n a ids ms es f h old p targets some k =
+    then_compiled first a (copies n a p) old new last targets ms es some (f old p targets some k) h
 
 pub repeated_some : (min : ℕ) (greedy : Bool) (a : Re) → (min ≡ 0 → ⊥)
     → repeated min None greedy a ≡ copies (min - 1) a (re.Plus greedy a)

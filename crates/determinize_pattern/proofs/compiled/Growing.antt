@@ -64,51 +64,55 @@ is_new b node nfa h w s i =
     = get_or_push b.states node Fail (length b.states) refl in
     rw i (h.states (length b.states) (omega (arith, length_push b.states node)) (λ z. w (sym e ∙ z)) ∙ e)
 
--- the first n entries are new states
-pub record AddsBelow (old new : BuilderValue) (ids entries : List ℕ) (n : ℕ) (node : ℕ → Node) : Type 0 where
+-- the entries from `first` on that are below n are new states
+pub record AddsBelow (first : ℕ) (old new : BuilderValue) (ids entries : List ℕ) (n : ℕ) (node : ℕ → Node)
+    : Type 0 where
   pub extends : Extends old new
   pub len : length entries ≡ length ids
   pub left : (k : ℕ) → n ≤ k → slice_index entries k ≡ slice_index ids k
-  pub each : (nfa : Nfa) → Continues new nfa → (k : ℕ) → k < n → state_at nfa (slice_index entries k) ≡ node k
+  pub each : (nfa : Nfa) → Continues new nfa → (k : ℕ) → first ≤ k → k < n
+      → state_at nfa (slice_index entries k) ≡ node k
 
-pub adds_none : (b : BuilderValue) (ids : List ℕ) (node : ℕ → Node) → AddsBelow b b ids ids 0 node
-adds_none b ids node = record {
+pub adds_none : (first : ℕ) (b : BuilderValue) (ids : List ℕ) (node : ℕ → Node)
+    → AddsBelow first b b ids ids first node
+adds_none first b ids node = record {
   extends = extends_same b;
   len = refl;
   left = λ k l. refl;
-  each = λ nfa h k l. absurd (omega (arith, l));
+  each = λ nfa h k w l. absurd (omega (arith, w, l));
 }
 
-pub adds_more : (old mid new : BuilderValue) (ids entries : List ℕ) (n s : ℕ) (node : ℕ → Node)
-    → AddsBelow old mid ids entries n node → n < length ids → s ≡ length mid.states → new ≡ with_node mid (node n)
-    → (node n ≡ Union [] → ⊥) → AddsBelow old new ids (set entries n s) (n + 1) node
-adds_more old mid new ids entries n s node h l e g w = rw g (record {
+pub adds_more : (first : ℕ) (old mid new : BuilderValue) (ids entries : List ℕ) (n s : ℕ) (node : ℕ → Node)
+    → AddsBelow first old mid ids entries n node → n < length ids → s ≡ length mid.states
+    → new ≡ with_node mid (node n) → (node n ≡ Union [] → ⊥)
+    → AddsBelow first old new ids (set entries n s) (n + 1) node
+adds_more first old mid new ids entries n s node h l e g w = rw g (record {
   extends = extends_then old mid (with_node mid (node n)) h.extends (grown mid (node n));
   len = length-set entries n s ∙ h.len;
   left = λ k m. get_or-set_other entries n k s 0 (omega (arith, m)) ∙ h.left k (omega (arith, m));
-  each = λ nfa c k m. at nfa c k m;
+  each = λ nfa c k f m. at nfa c k f m;
 })
   where
-    at : (nfa : Nfa) → Continues (with_node mid (node n)) nfa → (k : ℕ) → k < n + 1
+    at : (nfa : Nfa) → Continues (with_node mid (node n)) nfa → (k : ℕ) → first ≤ k → k < n + 1
         → state_at nfa (slice_index (set entries n s) k) ≡ node k
-    at nfa c k m = by_test (nat_lt k n)
+    at nfa c k f m = by_test (nat_lt k n)
         (λ z. let q : k < n = ltb-true k n z in
         rw (get_or-set_other entries n k s 0 (omega (arith, q)))
-        (h.each nfa (continues_old mid (with_node mid (node n)) (grown mid (node n)) nfa c) k q))
+        (h.each nfa (continues_old mid (with_node mid (node n)) (grown mid (node n)) nfa c) k f q))
         (λ z. let q : k ≡ n = omega (arith, m, ltb-false k n z) in
         rw (q, get_or-set_same entries n s 0 (omega (arith, l, h.len))) (is_new mid (node n) nfa c w s e))
 
 -- an entry that is read before it is set
-pub left_entry : (old new : BuilderValue) (ids entries : List ℕ) (n : ℕ) (node : ℕ → Node) (k id : ℕ)
-    → AddsBelow old new ids entries n node → n ≤ k → k < length ids → id ≡ slice_index_or entries k id
+pub left_entry : (first : ℕ) (old new : BuilderValue) (ids entries : List ℕ) (n : ℕ) (node : ℕ → Node) (k id : ℕ)
+    → AddsBelow first old new ids entries n node → n ≤ k → k < length ids → id ≡ slice_index_or entries k id
     → id ≡ slice_index ids k
-left_entry old new ids entries n node k id h l m e =
+left_entry first old new ids entries n node k id h l m e =
     get_or_read entries k id (omega (arith, m, h.len)) e 0 ∙ h.left k l
 
-pub adds_all : (old new : BuilderValue) (ids entries : List ℕ) (n : ℕ) (node : ℕ → Node)
-    → AddsBelow old new ids entries n node → length ids ≤ n → AddsEach old new ids entries node
-adds_all old new ids entries n node h l =
-    record { extends = h.extends; len = h.len; each = λ nfa c k m. h.each nfa c k (omega (arith, l, m)) }
+pub adds_all : (first : ℕ) (old new : BuilderValue) (ids entries : List ℕ) (n : ℕ) (node : ℕ → Node)
+    → AddsBelow first old new ids entries n node → length ids ≤ n → AddsEach first old new ids entries node
+adds_all first old new ids entries n node h l =
+    record { extends = h.extends; len = h.len; each = λ nfa c k w m. h.each nfa c k w (omega (arith, l, m)) }
 
 pub is_written : (first_wins : Bool) (s t : ℕ) → Union (in_order first_wins s t) ≡ Union [] → ⊥
 is_written true s t y = let z : Union (s ∷ t ∷ []) ≡ Union [] = y in cc

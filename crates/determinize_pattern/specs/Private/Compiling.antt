@@ -1,5 +1,5 @@
 -- What the calls of the compiler add to a builder: statements on each NFA that has its states.
-use Rattle.std.specs.Prelude.{◌≡◌, ◌+◌, ◌<◌, ◌≤◌, ◌⊎◌, ℕ, Contains, List, [], false, length, slice_index, slice_index_or}
+use Rattle.std.specs.Prelude.{◌≡◌, ◌+◌, ◌<◌, ◌≤◌, ◌⊎◌, ℕ, Contains, List, Some, [], false, length, slice_get, slice_index, slice_index_or}
 use Rattle.std.specs.List.{flat_map}
 use Rattle.determinize_below.specs.Semantics.{Fail, Match, Nfa, Node, Text, Union, state_at}
 use Rattle.determinize_nfa.specs.Builder.{BuilderValue}
@@ -26,19 +26,22 @@ pub record Extends (old new : BuilderValue) : Type 0 where
 abbrev pub Paid : BuilderValue → ℕ → BuilderValue → ℕ → Type 0
 Paid old before new after = length new.states + after ≤ length old.states + before
 
--- entry k begins the pattern, which continues at the first id if it has read a byte, and at id k if
--- not
-pub record IsCompiled (old new : BuilderValue) (re : Re) (ids entries : List ℕ) : Type 0 where
+-- entry k, from `first` on, begins the pattern, which continues at id 0 if it has read a byte, and
+-- at id k if not
+pub record IsCompiled (first : ℕ) (old new : BuilderValue) (re : Re) (ids entries : List ℕ)
+    : Type 0 where
   pub extends : Extends old new
   pub len : length entries ≡ length ids
-  pub each : (nfa : Nfa) → Continues new nfa → (text : Text) → (k : ℕ) → k < length ids
-      → IsEntry nfa text re (slice_index ids 0) (slice_index ids k) (slice_index entries k)
+  pub each : (nfa : Nfa) → Continues new nfa → (text : Text) → (k : ℕ) → first ≤ k
+      → k < length ids → IsEntry nfa text re (slice_index ids 0) (slice_index ids k)
+      (slice_index entries k)
 
--- what was added is in front of any pattern that was compiled before
-abbrev pub Precedes : BuilderValue → BuilderValue → (Re → Re) → List ℕ → List ℕ → Type 0
-Precedes mid new front ids entries = (old : BuilderValue) (re : Re) (targets : List ℕ)
-    → 0 < length targets → IsCompiled old mid re targets ids
-    → IsCompiled old new (front re) targets entries
+-- what was added is in front of any pattern that was compiled before, of which the entries from
+-- `behind` on were wanted
+abbrev pub Precedes : ℕ → ℕ → BuilderValue → BuilderValue → (Re → Re) → List ℕ → List ℕ → Type 0
+Precedes behind first mid new front ids entries = (old : BuilderValue) (re : Re) (targets : List ℕ)
+    → 0 < length targets → IsCompiled behind old mid re targets ids
+    → IsCompiled first old new (front re) targets entries
 
 -- the state begins the pattern, which continues at `next` whether or not it has read a byte
 pub record IsBegun (old new : BuilderValue) (re : Re) (next s : ℕ) : Type 0 where
@@ -46,12 +49,12 @@ pub record IsBegun (old new : BuilderValue) (re : Re) (next s : ℕ) : Type 0 wh
   pub entry : (nfa : Nfa) → Continues new nfa → (text : Text)
       → IsEntry nfa text re next next s
 
--- each entry is a new state
-pub record AddsEach (old new : BuilderValue) (ids entries : List ℕ)
+-- each entry from `first` on is a new state
+pub record AddsEach (first : ℕ) (old new : BuilderValue) (ids entries : List ℕ)
     (node : ℕ → Node) : Type 0 where
   pub extends : Extends old new
   pub len : length entries ≡ length ids
-  pub each : (nfa : Nfa) → Continues new nfa → (k : ℕ) → k < length ids
+  pub each : (nfa : Nfa) → Continues new nfa → (k : ℕ) → first ≤ k → k < length ids
       → state_at nfa (slice_index entries k) ≡ node k
 
 -- each match of the pattern reads a byte
@@ -63,6 +66,12 @@ pub record IsUnread (old new : BuilderValue) (re : Re) (id : ℕ) : Type 0 where
   pub extends : Extends old new
   pub fails : AlwaysReads re
       ⊎ ((nfa : Nfa) → Continues new nfa → state_at nfa id ≡ Fail)
+
+-- the later entries are wanted, and the first of them fails where nothing was read
+pub record FailsUnread (b : BuilderValue) (first : ℕ) (ids : List ℕ) : Type 0 where
+  pub later : 0 < first
+  pub some : 1 < length ids
+  pub fails : slice_get b.states (slice_index ids 1) ≡ Some Fail
 
 -- each of these states is the `Match` of its number
 pub record AddsMatches (old new : BuilderValue) (ids : List ℕ) : Type 0 where

@@ -1,14 +1,15 @@
-use Rattle.std.proofs.Common.{add-one, ◌≡◌, ◌+◌, ◌-◌, ◌<◌, ◌∙◌, ◌∷◌, ap, arith, false, drop, inl, inr, length, map, refl, replicate, slice_index}
+use Rattle.std.proofs.Common.{add-one, ◌≡◌, ◌+◌, ◌-◌, ◌<◌, ◌∙◌, ◌∷◌, ap, arith, false, drop, inl, inr, length, map, refl, replicate, slice_index, sym}
 use Rattle.std.proofs.lemmas.Grind.{common_steps, get_or_default_zero}
 use Rattle.std.proofs.lemmas.List.{drop_all, drop_more, get_or_read, take_all, take_rest}
 use Rattle.std.proofs.lemmas.Result.{IfOk-weaker, on_ok_weaker}
 use Rattle.determinize_pattern.specs.Patterns.{meaning}
 use Rattle.determinize_pattern.proofs.compiled.FirstClasses.{class_rest, first_len, read_begun, read_more, row_rest}
 use Rattle.determinize_pattern.proofs.compiled.Heads.{head_made, heads_begun, heads_more, heads_none, none_head, word_head}
-use Rattle.determinize_pattern.proofs.compiled.Looping.{again_begun, plus_compiled}
-use Rattle.determinize_pattern.proofs.compiled.Compiling.{begun_of, choice_compiled, compiled_after, empty_compiled, look_compiled, nothing_compiled, on_both, one_compiled, only_compiled, optional_compiled, precedes_more, precedes_none, repeated_some, then_compiled}
+use Rattle.determinize_pattern.proofs.compiled.Looping.{again_begun, first_two, nested_compiled, plus_compiled, set_first}
+use Rattle.determinize_pattern.proofs.compiled.Compiling.{begun_of, choice_compiled, compiled_after, empty_compiled, later_compiled, look_compiled, nothing_compiled, on_both, one_compiled, only_compiled, optional_compiled, precedes_more, precedes_none, repeated_some, then_compiled, unread_kept}
 use Rattle.determinize_pattern.proofs.compiled.Growing.{less_left, map_take_more}
-use Rattle.determinize_pattern.proofs.compiled.Patterns.{meaning_class, meaning_concat, meaning_empty, meaning_look}
+use Rattle.determinize_pattern.proofs.compiled.Patterns.{meaning_class, meaning_concat, meaning_empty, meaning_literal, meaning_look}
+use Rattle.determinize_pattern.proofs.entries.Ends.{lt_false, lt_true}
 use Rattle.ordered_reach.proofs.Cases.{by_cases}
 use Rattle.determinize_pattern.specs.Private.FirstClasses.{AreFirst}
 use Rattle.determinize_pattern.proofs.compiler.Compiler.+part.Goals as goal
@@ -18,8 +19,8 @@ part-returns-then-always_reads-clause-compiled g t c =
     let first : c.index-ids-0.result ≡ slice_index c.args.ids.now 0
     = get_or_read c.args.ids.now 0 _ c.requires c.index-ids-0.is 0 in
     let node = rw first at c.in_ok-node.ensures.compiled in
-    compiled_after _ _ _ _ _ _ c.spend.ensures.kept
-    (one_compiled _ _ _ _ _ _ (c.always_reads.ensures c.if-always_reads.true) (begun_of _ _ _ _ _ node)
+    compiled_after _ _ _ _ _ _ _ c.spend.ensures.kept
+    (one_compiled _ _ _ _ _ _ _ (c.always_reads.ensures c.if-always_reads.true) (begun_of _ _ _ _ _ node)
     (rw (get_or_default_zero c.node.new.ids 0 c.index-only-0.result (omega (arith, c.in_ok-node.ensures.compiled.len)))
     at c.set_each.ensures))
 
@@ -33,16 +34,28 @@ part-returns-clause-charged g t c = on_both c.node-2.result c.node-2.ensures.com
     (λ compiled paid. omega (arith, c.in_ok-spend.ensures.spent, less_left _ _ _ _ compiled.extends paid))
 
 pub node-returns-in-Empty-clause-compiled : goal.node-returns-in-Empty-clause-compiled
-node-returns-in-Empty-clause-compiled g t c = rw (c.in-Empty.is, meaning_empty) (empty_compiled _ _)
+node-returns-in-Empty-clause-compiled g t c = rw (c.in-Empty.is, meaning_empty) (empty_compiled _ _ _)
+
+pub node-returns-in-Literal-clause-compiled : goal.node-returns-in-Literal-clause-compiled
+node-returns-in-Literal-clause-compiled g t c =
+    on_ok_weaker c.literal.result
+    (λ h. rw (c.in-Literal.is, meaning_literal)
+    (later_compiled 0 _ _ _ _ _ _ (omega arith) (rw c.deref.ensures.value at h)))
+    c.literal.ensures.compiled
+
+pub node-returns-in-Class-clause-compiled : goal.node-returns-in-Class-clause-compiled
+node-returns-in-Class-clause-compiled g t c =
+    on_ok_weaker c.class.result
+    (λ h. rw (c.in-Class.is, meaning_class) (later_compiled 0 _ _ _ _ _ _ (omega arith) h)) c.class.ensures.compiled
 
 pub node-returns-in-Look-clause-compiled : goal.node-returns-in-Look-clause-compiled
 node-returns-in-Look-clause-compiled g t c =
     on_ok_weaker c.look_each.result
-    (λ each. rw (c.in-Look.is, meaning_look) (look_compiled _ _ _ _ _ each)) c.look_each.ensures.added
+    (λ each. rw (c.in-Look.is, meaning_look) (look_compiled _ _ _ _ _ _ each)) c.look_each.ensures.added
 
 pub concat-loop-i-init : goal.concat-loop-i-init
 concat-loop-i-init g t c = (
-  rw (drop_all (length c.args.subs.now) c.args.subs.now (omega arith)) (empty_compiled _ _),
+  rw (drop_all (length c.args.subs.now) c.args.subs.now (omega arith)) (empty_compiled _ _ _),
   omega arith,
   c.requires.within,
 )
@@ -51,9 +64,11 @@ pub concat-loop-i-preserved : goal.concat-loop-i-preserved
 concat-loop-i-preserved g t c =
     let i = c.loop-i.i in
     let back : i - 1 + 1 ≡ i = omega arith in
+    let behind = rw (lt_true c.args.from i (omega arith)) at c.loop-i.invariant.0 in
     let sub = c.index-subs-i.result in (
       rw (drop_more c.args.subs.now (i - 1) sub (omega arith), back, ← c.index-subs-i.is)
-          (then_compiled _ _ _ _ _ _ _ _ c.requires.some c.loop-i.invariant.0 c.in_ok-part.ensures.compiled),
+          (then_compiled _ _ _ _ _ _ _ _ _ c.requires.some behind
+          (rw c.wanted.ensures at c.in_ok-part.ensures.compiled)),
       omega (arith, c.loop-i.invariant.1, c.in_ok-part.ensures.paid),
       omega arith,
     )
@@ -63,7 +78,7 @@ choices-loop-i-init g t c =
     let filled : c.set_each.new.ids ≡ replicate (length c.args.targets.now) c.in_ok-fail.fail
     = rw c.requires.targets c.set_each.ensures in (
       rw (drop_all (length c.args.subs.now) c.args.subs.now (omega arith))
-          (nothing_compiled _ _ c.args.targets.now _ _ c.in_ok-fail.ensures.id c.in_ok-fail.ensures.added filled),
+          (nothing_compiled _ _ _ c.args.targets.now _ _ c.in_ok-fail.ensures.id c.in_ok-fail.ensures.added filled),
       c.requires.branch,
       omega (arith, c.in_ok-fail.ensures.paid),
     )
@@ -74,7 +89,7 @@ choices-loop-i-preserved g t c =
     let back : i - 1 + 1 ≡ i = omega arith in
     let sub = c.index-subs-i.result in (
       rw (drop_more c.args.subs.now (i - 1) sub (omega arith), back, ← c.index-subs-i.is)
-          (choice_compiled false _ _ _ _ _ _ _ _ _ _ c.loop-i.invariant.0
+          (choice_compiled false _ _ _ _ _ _ _ _ _ _ _ c.loop-i.invariant.0
           (rw c.copy_from_slice.ensures.after at c.in_ok-part.ensures.compiled) c.in_ok-choose_each.ensures.added),
       c.in_ok-part.ensures.compiled.len ∙ ap length c.copy_from_slice.ensures.after,
       omega (arith, c.loop-i.invariant.2, c.in_ok-part.ensures.paid, c.in_ok-choose_each.ensures.paid),
@@ -84,7 +99,7 @@ pub alternation-returns-then-ids-eq1-clause-compiled : goal.alternation-returns-
 alternation-returns-then-ids-eq1-clause-compiled g t c =
     let first : c.index-ids-0.result ≡ slice_index c.args.ids.now 0
     = get_or_read c.args.ids.now 0 _ c.requires c.index-ids-0.is 0 in
-    only_compiled _ _ _ c.args.ids.now c.args.ids.now _ c.if-ids-eq1.true refl (rw first at c.in_ok-ids.ensures.begun)
+    only_compiled _ _ _ _ c.args.ids.now c.args.ids.now _ c.if-ids-eq1.true refl (rw first at c.in_ok-ids.ensures.begun)
 
 pub branches-loop-i-init : goal.branches-loop-i-init
 branches-loop-i-init g t c = (rw c.new-words.ensures.items (heads_none _ _), omega arith)
@@ -178,76 +193,107 @@ head_of_one-returns-clause-head g t c =
     (omega (arith, c.in_ok-node.ensures.compiled.len)) in
     rw (c.new-2.ensures, entry) (none_head _ _ _ _ _ _ none (begun_of _ _ _ _ _ c.in_ok-node.ensures.compiled))
 
-round : (g : _) (t : _) (c : goal.plus-After-drop-body-2 g t) → c.index.result.now ≡ slice_index c.part.new.ids 1
+round : (g : _) (t : _) (c : goal.plus-After-drop-body-2 g t) → c.index.result.now ≡ slice_index c.part-2.new.ids 1
 round g t c = grind (arith, common_steps)
 
 pub plus-returns-clause-compiled : goal.plus-returns-clause-compiled
 plus-returns-clause-compiled g t c =
     let targets : c.deref_mut.result.now ≡ c.in_ok-again.again ∷ c.in_ok-unread.unread ∷ c.args.ids.now
     = rw c.deref_mut.ensures.value c.in_ok-body.ensures in
-    let entries : c.deref.result.now ≡ c.part.new.ids = grind (arith, common_steps) in
-    let first : c.index-ids-0.result ≡ slice_index c.args.ids.now 0
+    let entries : c.deref.result.now ≡ c.part-2.new.ids = grind (arith, common_steps) in
+    let next : c.index-ids-0.result ≡ slice_index c.args.ids.now 0
     = get_or_read c.args.ids.now 0 _ c.requires c.index-ids-0.is 0 in
-    plus_compiled c.args.greedy _ _ _ _ _ _ _ _ _ _ c.requires c.in_ok-again.ensures.id
-    c.in_ok-again.ensures.added c.in_ok-unread.ensures.unread (rw targets at c.in_ok-part.ensures.compiled)
-    (rw (round g t c, first) at c.in_ok-close.ensures.closed) _
+    plus_compiled c.args.greedy _ _ _ _ _ _ c.args.ids.now _ _ _ _ c.in_ok-again.ensures.id
+    c.in_ok-again.ensures.added c.in_ok-unread.ensures.unread (rw targets at c.in_ok-part-2.ensures.compiled)
+    (rw (round g t c) at c.in_ok-close-2.ensures.closed) _ _ _ refl next
     (c.copy_from_slice.ensures.after ∙ take_rest _ 2 ∙ ap (drop 2) entries)
 
 pub plus-returns-clause-again : goal.plus-returns-clause-again
 plus-returns-clause-again g t c =
     let targets : c.deref_mut.result.now ≡ c.in_ok-again.again ∷ c.in_ok-unread.unread ∷ c.args.ids.now
     = rw c.deref_mut.ensures.value c.in_ok-body.ensures in
-    let first : c.index-ids-0.result ≡ slice_index c.args.ids.now 0
+    let next : c.index-ids-0.result ≡ slice_index c.args.ids.now 0
     = get_or_read c.args.ids.now 0 _ c.requires c.index-ids-0.is 0 in
-    again_begun c.args.greedy _ _ _ _ _ _ _ _ _ _ c.requires c.in_ok-again.ensures.id
-    c.in_ok-again.ensures.added c.in_ok-unread.ensures.unread (rw targets at c.in_ok-part.ensures.compiled)
-    (rw (round g t c, first) at c.in_ok-close.ensures.closed)
+    rw (sym next) (again_begun c.args.greedy _ _ _ _ _ _ c.args.ids.now _ _ _ _ c.in_ok-again.ensures.id
+    c.in_ok-again.ensures.added c.in_ok-unread.ensures.unread (rw targets at c.in_ok-part-2.ensures.compiled)
+    (rw (round g t c) at c.in_ok-close-2.ensures.closed))
+
+pub plus-returns-then-fails_unread-clause-compiled : goal.plus-returns-then-fails_unread-clause-compiled
+plus-returns-then-fails_unread-clause-compiled g t c =
+    let nested = c.fails_unread.ensures c.if-fails_unread.true in
+    let next : c.index-ids-0.result ≡ slice_index c.args.ids.now 0
+    = get_or_read c.args.ids.now 0 _ c.requires c.index-ids-0.is 0 in
+    let body = rw (set_first c.args.ids.now c.in_ok-again.again nested.some) at c.in_ok-part.ensures.compiled in
+    let later : c.index-ids-1.result ≡ slice_index c.part.new.ids 1
+    = get_or_read c.part.new.ids 1 _ (omega (arith, body.len)) c.index-ids-1.is 0 in
+    nested_compiled c.args.greedy _ _ _ _ _ _ _ _ _ _ _ c.in_ok-again.ensures.id c.in_ok-again.ensures.added
+    (unread_kept _ _ _ nested.fails) body (rw later at c.in_ok-close.ensures.closed) _ c.args.ids.now nested.later
+    (first_two c.args.ids.now _ nested.some next)
+
+pub plus-returns-then-fails_unread-clause-again : goal.plus-returns-then-fails_unread-clause-again
+plus-returns-then-fails_unread-clause-again g t c =
+    let nested = c.fails_unread.ensures c.if-fails_unread.true in
+    let next : c.index-ids-0.result ≡ slice_index c.args.ids.now 0
+    = get_or_read c.args.ids.now 0 _ c.requires c.index-ids-0.is 0 in
+    let body = rw (set_first c.args.ids.now c.in_ok-again.again nested.some) at c.in_ok-part.ensures.compiled in
+    let later : c.index-ids-1.result ≡ slice_index c.part.new.ids 1
+    = get_or_read c.part.new.ids 1 _ (omega (arith, body.len)) c.index-ids-1.is 0 in
+    rw (sym next) (again_begun c.args.greedy _ _ _ _ _ _ _ _ _ _ _ c.in_ok-again.ensures.id
+    c.in_ok-again.ensures.added (unread_kept _ _ _ nested.fails) body (rw later at c.in_ok-close.ensures.closed))
 
 pub copies-loop-done-init : goal.copies-loop-done-init
-copies-loop-done-init g t c = (precedes_none _ (meaning c.args.sub.now) _, c.requires, omega arith)
+copies-loop-done-init g t c = (precedes_none _ _ (meaning c.args.sub.now) _, c.requires, omega arith)
 
 pub copies-loop-done-preserved : goal.copies-loop-done-preserved
 copies-loop-done-preserved g t c = (
-  rw add-one (precedes_more _ _ _ _ _ _ _ _ c.loop-done.invariant.0 c.in_ok-part.ensures.compiled),
+  rw add-one (precedes_more _ _ _ _ _ _ _ _ _ _
+      (rw (lt_true c.loop-done.done c.args.count (omega arith)) at c.loop-done.invariant.0)
+      (rw (c.wanted.ensures, add-one) at c.in_ok-part.ensures.compiled)),
   omega (arith, c.loop-done.invariant.1, c.in_ok-part.ensures.compiled.len),
   omega (arith, c.loop-done.invariant.2, c.in_ok-part.ensures.paid),
 )
 
 pub copies-returns-clause-front : goal.copies-returns-clause-front
 copies-returns-clause-front g t c =
-    let all : c.loop-done.done ≡ c.args.count = omega arith in rw all at c.loop-done.invariant.0
+    let all : c.loop-done.done ≡ c.args.count = omega arith in
+    rw (all, lt_false c.args.count c.args.count refl) at c.loop-done.invariant.0
 
 pub up_to-loop-done-init : goal.up_to-loop-done-init
-up_to-loop-done-init g t c = (empty_compiled _ _, omega arith)
+up_to-loop-done-init g t c = (empty_compiled _ _ _, omega arith)
 
 pub up_to-loop-done-preserved : goal.up_to-loop-done-preserved
 up_to-loop-done-preserved g t c = (
-  rw add-one (optional_compiled c.args.greedy _ _ _ _ _ _ _ _ (c.deref.ensures.value ∙ c.in_ok-targets.ensures.items)
-      (then_compiled _ _ _ _ _ _ _ _ c.requires c.loop-done.invariant.0 c.in_ok-part.ensures.compiled)
-      c.in_ok-choose_each.ensures.added),
+  rw add-one (optional_compiled c.args.greedy _ _ _ _ _ _ _ _ _
+      (c.deref.ensures.value ∙ c.in_ok-targets.ensures.items)
+      (then_compiled _ _ _ _ _ _ _ _ _ c.requires
+      (rw (lt_true c.loop-done.done c.args.count (omega arith)) at c.loop-done.invariant.0)
+      (rw (c.wanted-behind.ensures, add-one) at c.in_ok-part.ensures.compiled))
+      (rw (c.wanted-behind.ensures, add-one) at c.in_ok-choose_each.ensures.added)),
   omega (arith, c.loop-done.invariant.1, c.in_ok-part.ensures.paid, c.in_ok-choose_each.ensures.paid),
 )
 
 pub up_to-returns-clause-compiled : goal.up_to-returns-clause-compiled
 up_to-returns-clause-compiled g t c =
-    let all : c.loop-done.done ≡ c.args.count = omega arith in rw all at c.loop-done.invariant.0
+    let all : c.loop-done.done ≡ c.args.count = omega arith in
+    rw (all, lt_false c.args.count c.args.count refl) at c.loop-done.invariant.0
 
 pub star-returns-clause-compiled : goal.star-returns-clause-compiled
 star-returns-clause-compiled g t c =
     on_ok_weaker c.choose_each.result
-    (optional_compiled c.args.greedy _ _ _ _ _ _ _ _ (c.deref.ensures.value ∙ c.in_ok-targets.ensures.items)
+    (optional_compiled c.args.greedy _ _ _ _ _ _ _ _ _ (c.deref.ensures.value ∙ c.in_ok-targets.ensures.items)
     c.in_ok-again.ensures.compiled) c.choose_each.ensures.added
 
 pub star-returns-then-always_reads-clause-compiled : goal.star-returns-then-always_reads-clause-compiled
 star-returns-then-always_reads-clause-compiled g t c =
-    only_compiled _ _ _ c.args.ids.now c.plus.new.ids _
+    only_compiled _ _ _ _ c.args.ids.now c.plus.new.ids _
     (omega (arith, c.if-ids-eq1.true, c.in_ok-again.ensures.compiled.len))
     c.in_ok-again.ensures.compiled.len (c.in_ok-again.ensures.again (c.always_reads.ensures c.if-always_reads.true))
 
 pub repetition-returns-in_ok-up_to-in-Some-clause-compiled : goal.repetition-returns-in_ok-up_to-in-Some-clause-compiled
 repetition-returns-in_ok-up_to-in-Some-clause-compiled g t c = on_ok_weaker c.copies.result
     (λ front. rw (c.in-Some.is, ← c.saturating_sub.ensures)
-    (front _ _ _ c.requires c.in_ok-up_to-in-Some.ensures.compiled)) c.copies.ensures.front
+    (front _ _ _ c.requires (rw c.wanted-behind.ensures at c.in_ok-up_to-in-Some.ensures.compiled)))
+    c.copies.ensures.front
 
 pub repetition-returns-in-None-clause-compiled : goal.repetition-returns-in-None-clause-compiled
 repetition-returns-in-None-clause-compiled g t c =
@@ -257,7 +303,8 @@ pub repetition-returns-in_ok-plus-in-None-2-clause-compiled
     : goal.repetition-returns-in_ok-plus-in-None-2-clause-compiled
 repetition-returns-in_ok-plus-in-None-2-clause-compiled g t c = on_ok_weaker c.copies-in-None-2.result
     (λ front. rw (c.in-None.is, repeated_some _ _ _ c.if-min-eq0.false)
-    (front _ _ _ c.requires c.in_ok-plus-in-None-2.ensures.compiled)) c.copies-in-None-2.ensures.front
+    (front _ _ _ c.requires (rw c.wanted.ensures at c.in_ok-plus-in-None-2.ensures.compiled)))
+    c.copies-in-None-2.ensures.front
 
 pub part-returns-then-always_reads-clause-paid : goal.part-returns-then-always_reads-clause-paid
 part-returns-then-always_reads-clause-paid g t c =
@@ -296,7 +343,8 @@ node-returns-in-Alternation-clause-paid g t c = c.alternation.ensures.paid
 
 pub concat-returns-clause-compiled : goal.concat-returns-clause-compiled
 concat-returns-clause-compiled g t c =
-    let start : c.loop-i.i ≡ c.args.from = omega (arith, c.loop-i.invariant.2) in rw start at c.loop-i.invariant.0
+    let start : c.loop-i.i ≡ c.args.from = omega (arith, c.loop-i.invariant.2) in
+    rw (start, lt_false c.args.from c.args.from refl) at c.loop-i.invariant.0
 
 pub concat-returns-clause-paid : goal.concat-returns-clause-paid
 concat-returns-clause-paid g t c = c.loop-i.invariant.1
@@ -336,9 +384,13 @@ plus-returns-clause-paid g t c =
       arith,
       c.in_ok-again.ensures.paid,
       c.in_ok-unread.ensures.paid,
-      c.in_ok-part.ensures.paid,
-      c.in_ok-close.ensures.paid,
+      c.in_ok-part-2.ensures.paid,
+      c.in_ok-close-2.ensures.paid,
     )
+
+pub plus-returns-then-fails_unread-clause-paid : goal.plus-returns-then-fails_unread-clause-paid
+plus-returns-then-fails_unread-clause-paid g t c =
+    omega (arith, c.in_ok-again.ensures.paid, c.in_ok-part.ensures.paid, c.in_ok-close.ensures.paid)
 
 pub repetition-returns-in_ok-up_to-in-Some-clause-paid : goal.repetition-returns-in_ok-up_to-in-Some-clause-paid
 repetition-returns-in_ok-up_to-in-Some-clause-paid g t c = on_ok_weaker c.copies.result

@@ -1,4 +1,4 @@
-use Rattle.std.proofs.Common.{◌≡◌, ◌<◌, ◌≤◌, ℕ, drop, length, map, take}
+use Rattle.std.proofs.Common.{◌≡◌, ◌<◌, ◌≤◌, ℕ, cond, drop, length, map, nat_lt, take}
 use Rattle.determinize_pattern.specs.Private.Compiling.{IsCompiled, Precedes}
 use Rattle.determinize_pattern.specs.Patterns.{choice, sequence, copies, meaning, up_to}
 use Rattle.determinize_pattern.proofs.compiled.FirstClasses.{AreRead}
@@ -9,24 +9,27 @@ use Rattle.determinize_pattern.proofs.compiler.Compiler.+part.Given as goal
 
 abbrev pub invariant-choices-loop-i : goal.invariant-choices-loop-i
 invariant-choices-loop-i g l =
-    IsCompiled l.fn.self.builder l.self.builder (choice (map meaning (drop l.i l.subs))) l.targets l.ids
+    IsCompiled l.first l.fn.self.builder l.self.builder (choice (map meaning (drop l.i l.subs))) l.targets l.ids
     × (length l.branch ≡ length l.targets)
     × Paid l.fn.self.builder l.fn.self.left l.self.builder l.self.left
 
 abbrev pub invariant-concat-loop-i : goal.invariant-concat-loop-i
 invariant-concat-loop-i g l =
-    IsCompiled l.fn.self.builder l.self.builder (sequence (map meaning (drop l.i l.subs))) l.fn.ids l.ids
+    IsCompiled (cond (nat_lt l.from l.i) 0 l.first) l.fn.self.builder l.self.builder
+    (sequence (map meaning (drop l.i l.subs))) l.fn.ids l.ids
     × Paid l.fn.self.builder l.fn.self.left l.self.builder l.self.left
     × (l.from ≤ l.i)
 
 abbrev pub invariant-copies-loop-done : goal.invariant-copies-loop-done
 invariant-copies-loop-done g l =
-    Precedes l.fn.self.builder l.self.builder (copies l.done (meaning l.sub)) l.fn.ids l.ids × (0 < length l.ids)
+    Precedes (cond (nat_lt 0 l.count) 0 l.first) (cond (nat_lt l.done l.count) 0 l.first) l.fn.self.builder
+    l.self.builder (copies l.done (meaning l.sub)) l.fn.ids l.ids × (0 < length l.ids)
     × Paid l.fn.self.builder l.fn.self.left l.self.builder l.self.left
 
 abbrev pub invariant-up_to-loop-done : goal.invariant-up_to-loop-done
 invariant-up_to-loop-done g l =
-    IsCompiled l.fn.self.builder l.self.builder (up_to l.greedy l.done (meaning l.sub)) l.fn.ids l.ids
+    IsCompiled (cond (nat_lt l.done l.count) 0 l.first) l.fn.self.builder l.self.builder
+    (up_to l.greedy l.done (meaning l.sub)) l.fn.ids l.ids
     × Paid l.fn.self.builder l.fn.self.left l.self.builder l.self.left
 
 abbrev pub invariant-branches-loop-i : goal.invariant-branches-loop-i

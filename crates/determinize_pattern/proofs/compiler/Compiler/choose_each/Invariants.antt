@@ -6,6 +6,6 @@ use Rattle.determinize_pattern.specs.Private.Compiling.{Paid}
 use Rattle.determinize_pattern.proofs.compiler.Compiler.choose_each.Given as goal
 
 abbrev pub invariant-loop-k : goal.invariant-loop-k
-invariant-loop-k g l = AddsBelow l.initial.self.builder l.self.builder l.initial.ids l.ids l.k
+invariant-loop-k g l = AddsBelow l.first l.initial.self.builder l.self.builder l.initial.ids l.ids l.k
     (λ k. Union (in_order l.first_wins (slice_index l.initial.ids k) (slice_index l.others k)))
     × Paid l.fn.self.builder l.fn.self.left l.self.builder l.self.left

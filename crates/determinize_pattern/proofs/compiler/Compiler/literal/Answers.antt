@@ -8,7 +8,7 @@ use Rattle.determinize_pattern.proofs.compiler.Compiler.literal.Goals as goal
 
 pub returns-then-is_empty-clause-compiled : goal.returns-then-is_empty-clause-compiled
 returns-then-is_empty-clause-compiled g c =
-    rw (empty_literal c.args.bytes.now (grind (arith, common_steps))) (empty_compiled _ _)
+    rw (empty_literal c.args.bytes.now (grind (arith, common_steps))) (empty_compiled _ _ _)
 
 pub loop-i-init : goal.loop-i-init
 loop-i-init g c =
@@ -30,6 +30,6 @@ loop-i-preserved g c =
 pub returns-clause-compiled : goal.returns-clause-compiled
 returns-clause-compiled g c =
     let start : c.loop-i.i ≡ 0 = omega arith in
-    one_compiled _ _ _ c.args.ids.now _ c.loop-i.entry
+    one_compiled _ _ _ _ c.args.ids.now _ c.loop-i.entry
     (reads_some_literal c.args.bytes.now (grind (arith, common_steps)))
     (rw start at c.loop-i.invariant.0) c.set_each.ensures
