@@ -34,11 +34,12 @@ pub fn all_ends<D: Automaton>(
     haystack: &[u8],
 ) -> Result<Vec<HalfMatch>, AllocError> {
     let mut ends = Vec::new(alloc);
-    let lists = Overlapping::new(dfa, Anchored::No, None, haystack, None);
-    for (offset, patterns) in lists.enumerate() {
+    let mut offset: usize = 0;
+    for patterns in Overlapping::new(dfa, Anchored::No, None, haystack, None) {
         for pattern in patterns {
             ends.push(HalfMatch::new(pattern, offset))?;
         }
+        offset = offset.saturating_add(1);
     }
     Ok(ends)
 }
