@@ -2,12 +2,12 @@
 -- Main statements: spells_one_more, rejects_at.
 -- Used by: `parse_all`.
 -- Idea: the texts so far, and the next one, are those up to the place after it.
-use Rattle.determinize_regex.proofs.Common.{AreSpelled, get_or, IsRejected, length, List, map, map-append, meaning, Re}
-use Rattle.determinize_regex.proofs.Common.{slice_get-get_or, slice_get-map, sym, take, take-map, take_more, true, true≢false, [], ℕ, ◌++◌, ◌+◌, ◌<◌, ◌∙◌, ◌∷◌, ◌≡◌}
+use Rattle.determinize_regex.proofs.Common.{AreSpelled, get_or, IsRejected, length, List, map, map-append, meaning}
+use Rattle.determinize_regex.proofs.Common.{slice_get-get_or, slice_get-map, take, take-map, take_more, [], ℕ, ◌++◌, ◌+◌, ◌<◌, ◌∷◌, ◌≡◌}
 use Rattle.determinize_pattern.specs.declared.pattern.Pattern.{Pattern}
-use Rattle.determinize_regex.specs.Spelled.{one_more}
+use Rattle.determinize_regex.specs.Spelled.{IsErrorOf, one_more}
 use Rattle.determinize_regex.specs.declared.error.Error.TheVariants.{Parse}
-use Rattle.determinize_syntax.specs.Spells.{is_limit, SpellsUnder}
+use Rattle.determinize_syntax.specs.Spells.{SpellsUnder}
 use Rattle.determinize_syntax.specs.declared.error.ParseError.{ParseError}
 use Rattle.determinize_syntax.specs.declared.flags.Flags.{Flags}
 
@@ -24,10 +24,8 @@ module _ {T : Type 0} (bytes : T → List ℕ) (flags : Flags) where
   -- the error of the first text that is rejected
   pub rejects_at : (patterns : List Pattern) (texts : List T) (i : ℕ) (d : T) (e : ParseError) → i < length texts
       → AreSpelled flags (map meaning patterns) (map bytes (take i texts))
-      → ((re : Re) → SpellsUnder flags re (bytes (get_or texts i d)) → is_limit e.kind ≡ true)
-      → IsRejected flags (map bytes texts) (Parse i e)
-  rejects_at patterns texts i d e inside so_far limited = record {
+      → IsErrorOf flags e (bytes (get_or texts i d)) → IsRejected flags (map bytes texts) (Parse i e)
+  rejects_at patterns texts i d e inside so_far error = record {
     before = (map meaning patterns, rw (take-map bytes i texts) so_far);
-    text = rw (slice_get-map bytes texts i, slice_get-get_or texts i d inside)
-        (λ fault re denotes. true≢false (sym (limited re denotes) ∙ fault));
+    text = rw (slice_get-map bytes texts i, slice_get-get_or texts i d inside) error;
   }

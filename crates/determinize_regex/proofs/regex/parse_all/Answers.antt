@@ -1,4 +1,4 @@
-use Rattle.determinize_regex.proofs.Common.{rules}
+use Rattle.determinize_regex.proofs.Common.{rules, sym, true≢false, ◌∙◌}
 use Rattle.determinize_regex.proofs.Spelling.{rejects_at, spells_one_more}
 use Rattle.determinize_regex.specs.Spelled as spelled
 use Rattle.determinize_regex.proofs.regex.parse_all.Goals as goal
@@ -13,4 +13,9 @@ loop-i-preserved c = spells_one_more (λ t. t.now) c.args.flags c.loop-i.pattern
 
 pub returns-in-Err-clause-rejected : goal.returns-in-Err-clause-rejected
 returns-in-Err-clause-rejected c = rejects_at (λ t. t.now) c.args.flags c.loop-i.patterns.items c.args.texts.now
-    c.loop-i.i _ c.in-Err.error c.loop-i-test.true c.loop-i.invariant c.in-Err.ensures.complete
+    c.loop-i.i _ c.in-Err.error c.loop-i-test.true c.loop-i.invariant (record {
+      meaningless = λ fault re denotes. true≢false (sym (c.in-Err.ensures.complete re denotes) ∙ fault);
+      nested = c.in-Err.ensures.nested;
+      twice = c.in-Err.ensures.twice;
+      range = c.in-Err.ensures.range;
+    })
