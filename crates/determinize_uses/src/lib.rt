@@ -5,7 +5,7 @@
 //! - [`nfa`] makes an NFA by hand, and [`built`] one by a `Builder`.
 //! - [`words`] returns a search for two patterns that owns them, finds all their matches in several
 //!   ways, splits a text at them, and replaces them. [`patterns`] finds the leftmost match of
-//!   pattern values, and the routes of a path.
+//!   pattern values, the routes of a path, and the part of a text that is wrong.
 //! - [`scanner`] finds all matches of a haystack, and [`lexer`] the longest token at each position.
 //!   [`tokens`] does so in linear time. [`steady`] finds all matches and never allocates while it
 //!   runs.

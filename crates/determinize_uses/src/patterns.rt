@@ -1,5 +1,5 @@
 //! The leftmost match of patterns, and the routes of a path, with contracts that speak of the
-//! patterns only.
+//! patterns only, and the part of a text that an error is about.
 
 ghost use Rattle.std.specs.Prelude.{◌≡◌, IfOk, map, true};
 ghost use Rattle.determinize_below.specs.declared.search.Anchored.TheVariants.{Yes};
@@ -12,6 +12,7 @@ ghost use Rattle.determinize_regex.specs.Sets.{AreAtEnd};
 use determinize_regex::{
     Anchored, CompileError, Error, Input, Match, Pattern, PatternID, Regex, RegexConfig, RegexSet,
 };
+use determinize_syntax::parse;
 use std::alloc::{AllocError, Global};
 
 /// Returns the leftmost match of the patterns in an input, of which the first is preferred. Line
@@ -41,4 +42,12 @@ pub fn routes_of(set: &mut RegexSet, path: &[u8]) -> Result<Vec<PatternID>, Allo
         AreAtEnd set.old record (whole path.now) { anchored = Yes } found.items) }
 {
     set.matches_at_end(&Input::new(path).anchored(Anchored::Yes))
+}
+
+/// Returns the part of a text that its error is about, or `None` if the text denotes a pattern.
+pub fn wrong_part(alloc: Global, text: &str) -> Option<&[u8]> {
+    match parse(alloc, text) {
+        Ok(_) => None,
+        Err(error) => Some(&text.as_bytes()[error.start..error.end]),
+    }
 }
