@@ -4,24 +4,26 @@ ghost use Rattle.std.specs.Prelude.{◌≡◌, ◌<◌, ◌+◌, IfErr, IfOk, On
 ghost use Rattle.determinize_below.specs.Semantics as nodes;
 ghost use Rattle.determinize_nfa.specs.Builder.{closed, with_node};
 ghost use Rattle.determinize_pattern.specs.Classes.{pairs};
-ghost use Rattle.determinize_pattern.specs.Private.Compiling.{AddsEach, IsJoined, Paid};
+ghost use Rattle.determinize_pattern.specs.Private.Compiling.{AddsEach, HasNode, IsJoined, Paid};
 ghost use Rattle.determinize_pattern.specs.Private.Entries as entries;
 ghost use Rattle.determinize_pattern.specs.Private.Entries.{leading};
 ghost use Rattle.determinize_pattern.specs.declared.nfa.CompileError.TheVariants.{ExceededSizeLimit};
 
 use crate::class::ClassBytesRange;
 use crate::nfa::{CompileError, Config};
+use crate::shared::{Shared, bucket_of};
 use determinize_below::nfa::Transition;
 use determinize_below::{Look, StateID};
 use determinize_nfa::Builder;
 use std::alloc::Allocator;
 
-/// A builder of an NFA, and how many states and calls may still be made.
+/// A builder of an NFA, how many states and calls may still be made, and states that are shared.
 #[derive(Drop)]
 pub struct Compiler<A: Allocator> {
     pub alloc: A,
     pub builder: Builder<A>,
     pub left: usize,
+    pub shared: Shared<A>,
 }
 
 impl<A: Allocator + Copy> Compiler<A> {
@@ -37,6 +39,7 @@ impl<A: Allocator + Copy> Compiler<A> {
             alloc,
             builder,
             left: config.state_limit,
+            shared: Shared::new(alloc),
         }
     }
 
@@ -92,16 +95,22 @@ impl<A: Allocator + Copy> Compiler<A> {
         Ok(())
     }
 
-    /// Adds a state with one transition, and returns its id.
+    /// Returns the id of a state with one transition: one that was added before, if it is known, or
+    /// a new one. So patterns that end alike before one state share what they end with.
     pub fn range(&mut self, trans: Transition) -> Result<StateID, CompileError>
-        ensures id { IfOk result (λ id. id ≡ length self.old.builder.states) }
-        ensures added { OnOk result
-            (self.new.builder ≡ with_node self.old.builder (nodes.ByteRange trans)) }
+        ensures node { IfOk result
+            (HasNode self.old.builder self.new.builder (nodes.ByteRange trans)) }
         ensures paid { OnOk result
             (Paid self.old.builder self.old.left self.new.builder self.new.left) }
     {
+        let bucket = bucket_of(&trans);
+        if let Some(id) = self.shared.get(&self.builder, bucket, &trans) {
+            return Ok(id);
+        }
         self.spend(1)?;
-        Ok(self.builder.add_range(trans)?)
+        let id = self.builder.add_range(trans)?;
+        self.shared.put(self.alloc, bucket, id)?;
+        Ok(id)
     }
 
     /// Adds a union of these states, most preferred first, and returns its id.

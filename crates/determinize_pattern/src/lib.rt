@@ -23,6 +23,7 @@ pub mod nfa;
 mod parts;
 pub mod pattern;
 mod prefix_tree;
+mod shared;
 mod utf8;
 
 pub use chars::ClassUnicodeRange;

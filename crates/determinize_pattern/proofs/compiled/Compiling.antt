@@ -3,9 +3,9 @@
 -- Used by: Looping, Heads and the proofs of `part` and `tree`.
 -- Idea: a part that reads needs no target for nothing read, and one that reads nothing none for bytes read.
 use Rattle.std.specs.Prelude.{cond, slice_get, slice_index, slice_index_or}
-use Rattle.std.proofs.Common.{◌≡◌, ◌-◌, ◌<◌, ◌≤◌, ◌∙◌, ◌∷◌, ℕ, Bool, Err, IfOk, List, None, Ok, OnOk, Result, Some, [], ap, arith, false, inr, length, refl, replicate, set, suc, sym, true, zero, get_or-set_same, length-set}
-use Rattle.std.proofs.lemmas.List.{get_or-replicate, length-replicate}
-use Rattle.std.proofs.lemmas.Option.{get_or_from_slice_get, slice_get_within}
+use Rattle.std.proofs.Common.{◌≡◌, ◌-◌, ◌<◌, ◌≤◌, ◌++◌, ◌∙◌, ◌∷◌, ℕ, Bool, Err, IfOk, List, None, Ok, OnOk, Result, Some, [], ap, arith, false, inr, length, refl, replicate, set, suc, sym, true, zero, get_or-set_same, length-set}
+use Rattle.std.proofs.lemmas.List.{get_or-replicate, get_or_push, length-replicate, length_push}
+use Rattle.std.proofs.lemmas.Option.{get_or_from_slice_get, slice_get-get_or, slice_get_within}
 use Rattle.determinize_below.specs.Semantics.{ByteRange, Fail, Look, Nfa, Node, Sparse, Text, Union, state_at}
 use Rattle.determinize_below.specs.declared.look.Look.{Look as Assertion}
 use Rattle.determinize_below.specs.declared.nfa.transitions.Transition.{Transition}
@@ -17,7 +17,7 @@ use Rattle.determinize_pattern.proofs.entries.Parts.{if_moved, if_stayed, or_ent
 use Rattle.determinize_pattern.specs.Meaning as re
 use Rattle.determinize_pattern.specs.Meaning.{Re, ends}
 use Rattle.determinize_pattern.specs.Patterns.{copies, optional, repeated}
-use Rattle.determinize_pattern.specs.Private.Compiling.{AddsEach, AlwaysReads, IsBegun, IsCompiled, IsUnread, Precedes}
+use Rattle.determinize_pattern.specs.Private.Compiling.{AddsEach, AlwaysReads, Continues, HasNode, IsBegun, IsCompiled, IsUnread, Precedes}
 use Rattle.determinize_pattern.specs.Private.Entries.{IsEntry, in_order, leading}
 use Rattle.determinize_pattern.specs.declared.nfa.CompileError.{CompileError}
 
@@ -86,6 +86,25 @@ begun_of old new p next es h = record {
   entry = λ nfa c text. h.each nfa c text 0 (omega arith) (omega arith);
 }
 
+-- a state of the builder is one of the NFA
+node_at : (b : BuilderValue) (node : Node) (s : ℕ) → slice_get b.states s ≡ Some node → (node ≡ Union [] → ⊥)
+    → (nfa : Nfa) → Continues b nfa → state_at nfa s ≡ node
+node_at b node s e w nfa c =
+    let is : slice_index_or b.states s Fail ≡ node = get_or_from_slice_get b.states s node Fail e in
+    c.states s (slice_get_within b.states s node e) (λ z. w (sym is ∙ z)) ∙ is
+
+pub node_added : (old new : BuilderValue) (node : Node) (s : ℕ) → s ≡ length old.states → new ≡ with_node old node
+    → HasNode old new node s
+node_added old new node s e g = rw (g, e) (record {
+  extends = grown old node;
+  node_is = slice_get-get_or (old.states ++ node ∷ []) (length old.states) Fail
+      (omega (arith, length_push old.states node))
+      ∙ ap Some (get_or_push old.states node Fail (length old.states) refl);
+})
+
+pub node_kept : (b : BuilderValue) (node : Node) (s : ℕ) → slice_get b.states s ≡ Some node → HasNode b b node s
+node_kept b node s e = record { extends = extends_same b; node_is = e }
+
 -- a new state that begins the pattern in each NFA that has it
 leaf : (old new : BuilderValue) (node : Node) (p : Re) (next s : ℕ) → s ≡ length old.states → new ≡ with_node old node
     → (node ≡ Union [] → ⊥)
@@ -96,10 +115,14 @@ leaf old new node p next s e g w f = rw g (record {
   entry = λ nfa h text. f nfa h.forward text (is_new old node nfa h w s e);
 })
 
-pub byte_begun : (old new : BuilderValue) (t : Transition) (s : ℕ) → s ≡ length old.states
-    → new ≡ with_node old (ByteRange t) → IsBegun old new (re.Byte ((t.start, t.end) ∷ [])) t.next s
-byte_begun old new t s e g = leaf old new (ByteRange t) (re.Byte ((t.start, t.end) ∷ [])) t.next s e g
-    (λ z. let k : ByteRange t ≡ Union [] = z in cc) (λ nfa r text i. byte_entry nfa text t s i)
+pub byte_begun : (old new : BuilderValue) (t : Transition) (s : ℕ) → HasNode old new (ByteRange t) s
+    → IsBegun old new (re.Byte ((t.start, t.end) ∷ [])) t.next s
+byte_begun old new t s h = record {
+  extends = h.extends;
+  entry = λ nfa c text.
+      let is = node_at new (ByteRange t) s h.node_is (λ z. let k : ByteRange t ≡ Union [] = z in cc) nfa c in
+      byte_entry nfa text t s is;
+}
 
 pub sparse_begun : (old new : BuilderValue) (ranges : List (ℕ × ℕ)) (next s : ℕ) → s ≡ length old.states
     → new ≡ with_node old (Sparse (leading next ranges)) → IsBegun old new (re.Byte ranges) next s
@@ -120,15 +143,14 @@ class_none old new ts [] next s d l e g = fail_begun old new next s e g
 class_none old new ts (r ∷ rest) next s d l e g = absurd (omega (arith, l, ap length d))
 
 pub class_one : (old new : BuilderValue) (ts : List Transition) (t : Transition) (ranges : List (ℕ × ℕ)) (next s : ℕ)
-    → ts ≡ leading next ranges → length ts ≡ 1 → t ≡ slice_index_or ts 0 t → s ≡ length old.states
-    → new ≡ with_node old (ByteRange t) → IsBegun old new (re.Byte ranges) next s
-class_one old new ts t [] next s d l i e g = absurd (omega (arith, l, ap length d))
-class_one old new ts t (r ∷ []) next s d l i e g =
+    → ts ≡ leading next ranges → length ts ≡ 1 → t ≡ slice_index_or ts 0 t → HasNode old new (ByteRange t) s
+    → IsBegun old new (re.Byte ranges) next s
+class_one old new ts t [] next s d l i h = absurd (omega (arith, l, ap length d))
+class_one old new ts t (r ∷ []) next s d l i h =
     let is : t ≡ record { start = r.0; end = r.1; next = next }
     = i ∙ ap (λ (w : List Transition). slice_index_or w 0 t) d in
-    byte_begun old new (record { start = r.0; end = r.1; next = next }) s e
-    (g ∙ ap (λ (w : Transition). with_node old (ByteRange w)) is)
-class_one old new ts t (r ∷ q ∷ rest) next s d l i e g = absurd (omega (arith, l, ap length d))
+    byte_begun old new (record { start = r.0; end = r.1; next = next }) s (rw is at h)
+class_one old new ts t (r ∷ q ∷ rest) next s d l i h = absurd (omega (arith, l, ap length d))
 
 pub then_begun : (a b : Re) (old mid new : BuilderValue) (next m s : ℕ) → IsBegun old mid b next m
     → IsBegun mid new a m s → IsBegun old new (re.Then a b) next s
@@ -224,9 +246,7 @@ unread_fails old new p (Err e) f g = tt
 pub unread_kept : (b : BuilderValue) (p : Re) (s : ℕ) → slice_get b.states s ≡ Some Fail → IsUnread b b p s
 unread_kept b p s e = record {
   extends = extends_same b;
-  fails = inr (λ nfa c.
-      let is : slice_index_or b.states s Fail ≡ Fail = get_or_from_slice_get b.states s Fail Fail e in
-      c.states s (slice_get_within b.states s Fail e) (λ z. let y : Fail ≡ Union [] = sym is ∙ z in cc) ∙ is);
+  fails = inr (node_at b Fail s e (λ z. let y : Fail ≡ Union [] = z in cc));
 }
 
 pub precedes_none : (first : ℕ) (b : BuilderValue) (a : Re) (ids : List ℕ)

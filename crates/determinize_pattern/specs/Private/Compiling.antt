@@ -22,6 +22,11 @@ pub record Extends (old new : BuilderValue) : Type 0 where
       → slice_index_or new.states q Fail ≡ slice_index_or old.states q Fail
   pub terminator : new.terminator ≡ old.terminator
 
+-- the new builder has the states of the old one, and this one with the id
+pub record HasNode (old new : BuilderValue) (node : Node) (id : ℕ) : Type 0 where
+  pub extends : Extends old new
+  pub node_is : slice_get new.states id ≡ Some node
+
 -- for each state that was added, one of what was left was spent
 abbrev pub Paid : BuilderValue → ℕ → BuilderValue → ℕ → Type 0
 Paid old before new after = length new.states + after ≤ length old.states + before

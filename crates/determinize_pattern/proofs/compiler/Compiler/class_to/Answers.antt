@@ -1,4 +1,5 @@
 use Rattle.std.proofs.Common.{ap, arith}
+use Rattle.std.proofs.lemmas.Result.{IfOk-weaker}
 use Rattle.determinize_pattern.proofs.compiled.Compiling.{class_none, class_one, ok_both, sparse_begun}
 use Rattle.determinize_pattern.proofs.compiled.Growing.{node_paid}
 use Rattle.determinize_pattern.proofs.compiler.Compiler.class_to.Goals as goal
@@ -9,9 +10,9 @@ returns-in-0-clause-begun g c = ok_both c.fail.result c.fail.ensures.id c.fail.e
     (rw c.ranges-2.ensures at c.in_ok-transitions.ensures) (omega arith) e k)
 
 pub returns-in-1-clause-begun : goal.returns-in-1-clause-begun
-returns-in-1-clause-begun g c = ok_both c.range.result c.range.ensures.id c.range.ensures.added
-    (λ s e k. class_one _ _ c.in_ok-transitions.transitions.items _ c.args.class.now c.args.next s
-    (rw c.ranges-2.ensures at c.in_ok-transitions.ensures) (omega arith) c.index.ensures e k)
+returns-in-1-clause-begun g c = IfOk-weaker c.range.result _ _
+    (λ s h. class_one _ _ c.in_ok-transitions.transitions.items _ c.args.class.now c.args.next s
+    (rw c.ranges-2.ensures at c.in_ok-transitions.ensures) (omega arith) c.index.ensures h) c.range.ensures.node
 
 pub returns-clause-begun : goal.returns-clause-begun
 returns-clause-begun g c =

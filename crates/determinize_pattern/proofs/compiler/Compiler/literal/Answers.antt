@@ -23,7 +23,7 @@ loop-i-preserved g c =
     let byte = slice_index c.args.bytes.now (i - 1) in (
       rw (drop_more c.args.bytes.now (i - 1) 0 (omega arith), back)
           (then_begun (re.Byte ((byte, byte) ∷ [])) _ _ _ _ _ _ _ c.loop-i.invariant.0
-          (byte_begun _ _ _ _ c.in_ok-entry.ensures.id c.in_ok-entry.ensures.added)),
+          (byte_begun _ _ _ _ c.in_ok-entry.ensures.node)),
       omega (arith, c.loop-i.invariant.1, c.in_ok-entry.ensures.paid),
     )
 
