@@ -5,9 +5,9 @@
 #[cfg(test)]
 mod tests;
 
-use determinize_replay::error::ReplayError;
 use determinize_replay::run;
 use example_walks::arguments::arguments;
+use example_walks::error::ReplayError;
 use std::io;
 use std::process::ExitCode;
 

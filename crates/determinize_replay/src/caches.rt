@@ -17,18 +17,14 @@ pub struct Automaton<'t> {
     kind: MatchKind,
 }
 
-/// Returns whether two jobs have the same text at a key.
-fn agree_at(fields: &Fields<'_>, other: &Fields<'_>, key: &str) -> bool {
-    fields.value_or_none(key) == other.value_or_none(key)
-}
-
 /// Returns whether the texts that give an NFA and a match kind are equal.
 fn are_alike(fields: &Fields<'_>, other: &Fields<'_>) -> bool {
-    let is_kind_same = agree_at(fields, other, "kind");
-    let is_direction_same = agree_at(fields, other, "dir");
-    let is_terminator_same = agree_at(fields, other, "term");
-    let are_states_same = fields.states.unwrap_or("") == other.states.unwrap_or("");
-    is_kind_same && is_direction_same && is_terminator_same && are_states_same
+    for key in ["kind", "dir", "term"] {
+        if fields.value_or_none(key) != other.value_or_none(key) {
+            return false;
+        }
+    }
+    fields.states.unwrap_or("") == other.states.unwrap_or("")
 }
 
 /// Returns the index of the NFA of a job, or `None` if the job is no walk or it is not present.

@@ -1,8 +1,7 @@
 //! A job: a verb, and its fields.
 
-use crate::error::ReadError;
 use crate::values;
-use example_walks::error::TextError;
+use example_walks::error::{ReadError, TextError};
 use example_walks::fields::Fields;
 use example_walks::values::number;
 
@@ -65,8 +64,8 @@ impl<'a> Job<'a> {
         check_needed(&fields, keys)?;
         check_marks(&fields)?;
         match (has_nfa, fields.states) {
-            (true, None) => Err(ReadError::States("the states of the NFA are missing")),
-            (false, Some(_)) => Err(ReadError::States("the verb takes no states")),
+            (true, None) => Err(ReadError::Line("the states of the NFA are missing")),
+            (false, Some(_)) => Err(ReadError::Line("the verb takes no states")),
             _ => Ok(Job { verb, fields }),
         }
     }

@@ -3,14 +3,11 @@
 //!
 //! [`job`] parses a job, [`verbs`] runs it through public calls and writes its output, and
 //! [`replay`] compares that with the expected lines. [`run`] is the program `determinize_bench`
-//! over any reader and writers. [`outputs`] has the outputs of the example walks, worked out by
-//! hand.
+//! over any reader and writers.
 #![tactic(auto)]
 
 pub mod caches;
-pub mod error;
 pub mod job;
-pub mod outputs;
 pub mod records;
 pub mod replay;
 pub mod run;

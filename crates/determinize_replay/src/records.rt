@@ -7,7 +7,7 @@ use determinize_below::{LookSet, PatternID, SparseSet, StateID};
 use determinize_core::state::{State, StateBuilderEmpty, StateBuilderMatches, StateBuilderNFA};
 use example_walks::error::{Part, TextError};
 use example_walks::fields::Fields;
-use example_walks::values::{is_none, state_id};
+use example_walks::values::{Ids, is_none, items, state_id};
 use std::alloc::{AllocError, Allocator, Global};
 
 /// The flags and assertions of a record.
@@ -55,7 +55,7 @@ pub fn builder(alloc: Global, fields: &Fields<'_>) -> Result<StateBuilderNFA, Te
 
 /// Returns a builder with the patterns of the job.
 fn matches(alloc: Global, fields: &Fields<'_>) -> Result<StateBuilderMatches, TextError> {
-    let patterns = values::pattern_ids(alloc, fields.value_or_none("pids"))?;
+    let patterns = items::<PatternID, Global>(alloc, fields.value_or_none("pids"))?;
     with_patterns(alloc, patterns.as_slice())
 }
 
@@ -145,28 +145,20 @@ pub fn resolves<A: Allocator>(state: &State<A>, count: usize) -> bool
 pub fn write_readers(alloc: Global, text: &mut String, state: &State) -> Result<(), AllocError> {
     write_match_readers(text, state)?;
     write_flag_readers(text, state)?;
-    text.push_str("ids=")?;
     let ids: Vec<StateID> = state.iter_nfa_state_ids().collect(alloc)?;
-    values::write_ids(text, ids.as_slice())?;
-    text.push('\n')
+    writeln!(text, "ids={}", Ids(ids.as_slice()))
 }
 
 /// Writes the matches and the size of a state, in a line.
 fn write_match_readers(text: &mut String, state: &State) -> Result<(), AllocError> {
     let is_match = u8::from(state.is_match());
-    let count = state.match_len();
+    let (count, usage) = (state.match_len(), state.memory_usage());
     write!(text, "match={is_match} len={count} pids=")?;
-    write_patterns(text, state)?;
-    let usage = state.memory_usage();
-    writeln!(text, " usage={usage}")
-}
-
-/// Writes the patterns of a state, or `none` if it is no match state.
-fn write_patterns(text: &mut String, state: &State) -> Result<(), AllocError> {
     match state.match_pattern_ids()? {
-        None => text.push_str("none"),
-        Some(ids) => values::write_ids(text, ids.as_slice()),
+        None => text.push_str("none")?,
+        Some(ids) => write!(text, "{}", Ids(ids.as_slice()))?,
     }
+    writeln!(text, " usage={usage}")
 }
 
 /// Writes the flags and the assertions of a state, in a line.

@@ -7,10 +7,9 @@
 ghost use Rattle.std.specs.Prelude.{◌≡◌, ◌≤◌, ◌↔◌, IsTrue};
 
 use crate::caches::Caches;
-use crate::error::{ReadError, ReplayError};
 use crate::job::Job;
 use crate::verbs;
-use example_walks::error::TextError;
+use example_walks::error::{ReadError, ReplayError, TextError};
 use std::alloc::{AllocError, Global};
 use std::io::Write;
 use std::{fmt, io};
@@ -112,7 +111,8 @@ pub struct Replay<'t> {
     job: Option<(u64, &'t str)>,
     expected: String,
     output: String,
-    tally: Tally,
+    /// The counts so far.
+    pub tally: Tally,
 }
 
 impl<'t> Replay<'t> {
@@ -129,10 +129,10 @@ impl<'t> Replay<'t> {
     }
 
     /// Returns the error for the next line, which cannot be read for this reason, or is not UTF-8.
-    pub fn unreadable(&self, end: &io::Result<usize>) -> ReplayError {
+    pub fn unreadable(&self, end: &io::Result<usize>) -> ReplayError<'t> {
         match end {
-            Ok(_) => ReplayError::of_line(self.alloc, self.line, "can't be read"),
-            Err(error) => ReplayError::of_reading(self.alloc, self.line, error),
+            Ok(_) => ReplayError::of_line(self.line, "can't be read"),
+            Err(error) => ReplayError::of_reading(self.line, error),
         }
     }
 
@@ -147,7 +147,7 @@ impl<'t> Replay<'t> {
         caches: &mut Caches<'_, '_>,
         text: &'t str,
         out: &mut W,
-    ) -> Result<(), ReplayError> {
+    ) -> Result<(), ReplayError<'t>> {
         let line = self.line;
         self.line = line.saturating_add(1);
         if text.starts_with('#') {
@@ -159,7 +159,7 @@ impl<'t> Replay<'t> {
             return Ok(());
         }
         if self.job.is_none() {
-            return Err(ReplayError::of_line(self.alloc, line, "an answer without a job"));
+            return Err(ReplayError::of_line(line, "an answer without a job"));
         }
         self.add_expected(text)?;
         Ok(())
@@ -171,28 +171,18 @@ impl<'t> Replay<'t> {
         self.expected.push('\n')
     }
 
-    /// Judges the last job and returns the counts.
-    pub fn finish<W: Write>(
-        &mut self,
-        caches: &mut Caches<'_, '_>,
-        out: &mut W,
-    ) -> Result<Tally, ReplayError> {
-        self.judge(caches, out)?;
-        Ok(self.tally)
-    }
-
     /// Runs the current job, if there is one, compares its output with the expected one, and clears
     /// it.
-    fn judge<W: Write>(
+    pub fn judge<W: Write>(
         &mut self,
         caches: &mut Caches<'_, '_>,
         out: &mut W,
-    ) -> Result<(), ReplayError> {
+    ) -> Result<(), ReplayError<'t>> {
         if let Some((line, job)) = self.job.take() {
             self.tally.jobs = self.tally.jobs.saturating_add(1);
             match write_output_of(self.alloc, caches, job, &mut self.output) {
                 Ok(extent) => self.compare(job, extent, out)?,
-                Err(error) => return Err(ReplayError::of_job(self.alloc, line, error)),
+                Err(error) => return Err(ReplayError::of_job(line, error)),
             }
         }
         self.expected.clear();

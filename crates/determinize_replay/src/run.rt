@@ -3,9 +3,9 @@
 ghost use Rattle.std.specs.Prelude.{◌≡◌, ◌≤◌, ◌↔◌, IfOk, OnErr};
 
 use crate::caches::{Caches, add_all};
-use crate::error::ReplayError;
 use crate::replay::{Replay, Tally};
-use example_walks::values::number;
+use example_walks::error::ReplayError;
+use example_walks::values::{number, text_of};
 use std::alloc::Global;
 use std::io::{self, Read, Write};
 
@@ -31,21 +31,21 @@ pub fn run<R: Read + Drop, W: Write, E: Write>(
 ) -> u8
     ensures { result ≤ 2 }
 {
-    let outcome = match limit(words) {
-        None => Err(ReplayError::Arguments),
-        Some((is_search, limit)) => {
-            let mut bytes = Vec::new(alloc);
-            let end = input.read_to_end(&mut bytes);
-            replay_bytes(alloc, is_search, limit, bytes.as_slice(), &end, out)
-        }
+    let Some((is_search, limit)) = limit(words) else {
+        return report(Err(ReplayError::Arguments), err);
     };
-    report(outcome, err)
+    let mut bytes = Vec::new(alloc);
+    let end = input.read_to_end(&mut bytes);
+    report(
+        replay_bytes(alloc, is_search, limit, bytes.as_slice(), &end, out),
+        err,
+    )
 }
 
 /// Returns the exit status of a replay. If there is no verdict, writes the reason to `err`.
-pub fn report<E: Write>(outcome: Result<Tally, ReplayError>, err: &mut E) -> u8
-    ensures agree { IfOk outcome (λ tally. (result ≡ 0) ↔ (tally.differ ≡ 0)) }
-    ensures none { OnErr outcome (result ≡ 2) }
+pub fn report<E: Write>(outcome: Result<Tally, ReplayError<'_>>, err: &mut E) -> u8
+    ensures agree { IfOk outcome.entry (λ tally. (result ≡ 0) ↔ (tally.differ ≡ 0)) }
+    ensures none { OnErr outcome.entry (result ≡ 2) }
     ensures most { result ≤ 2 }
 {
     match outcome {
@@ -78,23 +78,15 @@ fn limit(words: &[String]) -> Option<(bool, Option<usize>)> {
     }
 }
 
-/// Returns the longest text that these bytes begin with.
-fn text_of(bytes: &[u8]) -> &str {
-    match bytes.utf8_chunks().next() {
-        Some(chunk) => chunk.valid(),
-        None => "",
-    }
-}
-
 /// Replays the lines of the input, of which these bytes were read before its end or an error.
-fn replay_bytes<W: Write>(
+fn replay_bytes<'t, W: Write>(
     alloc: Global,
     is_search: bool,
     limit: Option<usize>,
-    bytes: &[u8],
+    bytes: &'t [u8],
     end: &io::Result<usize>,
     out: &mut W,
-) -> Result<Tally, ReplayError> {
+) -> Result<Tally, ReplayError<'t>> {
     let text = text_of(bytes);
     let mut automata = Vec::new(alloc);
     if limit.is_some() {
@@ -107,14 +99,14 @@ fn replay_bytes<W: Write>(
 
 /// Replays the lines of a text, which is the whole input, or else what comes before its end or an
 /// error.
-fn replay_text<W: Write>(
+fn replay_text<'t, W: Write>(
     alloc: Global,
     caches: &mut Caches<'_, '_>,
-    text: &str,
+    text: &'t str,
     is_whole: bool,
     end: &io::Result<usize>,
     out: &mut W,
-) -> Result<Tally, ReplayError> {
+) -> Result<Tally, ReplayError<'t>> {
     let mut replay = Replay::new(alloc);
     if is_whole {
         replay_all(&mut replay, caches, text, out)
@@ -129,11 +121,12 @@ fn replay_all<'t, W: Write>(
     caches: &mut Caches<'_, '_>,
     text: &'t str,
     out: &mut W,
-) -> Result<Tally, ReplayError> {
+) -> Result<Tally, ReplayError<'t>> {
     for line in text.lines() {
         replay.take_line(caches, line, out)?;
     }
-    let tally = replay.finish(caches, out)?;
+    replay.judge(caches, out)?;
+    let tally = replay.tally;
     writeln!(out, "{tally}")?;
     if tally.is_empty() {
         return Err(ReplayError::Nothing);
@@ -149,7 +142,7 @@ fn replay_part<'t, W: Write>(
     text: &'t str,
     end: &io::Result<usize>,
     out: &mut W,
-) -> ReplayError {
+) -> ReplayError<'t> {
     let number = text.split('\n').count();
     for line in text.lines().take(number.saturating_sub(1)) {
         if let Err(error) = replay.take_line(caches, line, out) {

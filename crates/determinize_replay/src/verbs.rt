@@ -3,8 +3,8 @@
 mod automata;
 mod small;
 
-use crate::error::told;
 use crate::job::Job;
+use crate::values::told;
 pub use automata::write_through;
 use example_walks::error::TextError;
 use std::alloc::Global;

@@ -1,13 +1,8 @@
 -- The names of the example walks.
-use Rattle.std.specs.Prelude.{ℕ, Bool, false, List, [], ◌∷◌, String, bytes_eq, codes, map, string_bytes}
+use Rattle.std.specs.Prelude.{ℕ, Bool, false, List, [], ◌∷◌, String, bytes_eq, codes, string_bytes}
 use Rattle.std.specs.List.{list_any}
-use Rattle.example_walks.specs.declared.examples.Example.{Example}
 
--- the names of these examples
-unfoldable pub names_of : List Example → List (List ℕ)
-names_of examples = map (λ example. example.name.now) examples
-
--- the names of all examples
+-- the names of the examples
 unfoldable pub names : List (List ℕ)
 names = codes "2" ∷ codes "3" ∷ codes "4a" ∷ codes "4b" ∷ codes "5" ∷ codes "6" ∷ codes "7"
     ∷ codes "8a" ∷ codes "8b" ∷ codes "8c" ∷ codes "9a" ∷ codes "9b" ∷ codes "9c" ∷ codes "10a"
@@ -26,7 +21,3 @@ is_name text = list_any (λ name. bytes_eq name text) names
 abbrev pub are_name : {A : Type 0} → List (String A) → Bool
 are_name (word ∷ []) = is_name (string_bytes word)
 are_name _ = false
-
--- whether an example has this name
-abbrev pub has_name : List ℕ → Example → Bool
-has_name name example = bytes_eq example.name.now name

@@ -1,45 +1,40 @@
-//! The errors of texts of walks, of NFAs and of values.
+//! The errors of texts: of a value or an NFA, of a job, and of all jobs of an input.
 
 use determinize_below::BuildError;
 use std::alloc::{AllocError, AllocFailed};
-use std::fmt;
 use std::num::ParseIntError;
+use std::{fmt, io};
 
-/// The part of a text that is malformed or that the preconditions of a call exclude.
+/// The part of a text that is malformed or that the preconditions of a call exclude. The text of
+/// each says what it is.
 #[derive(Clone, Copy)]
 pub enum Part {
-    /// The match kind.
     MatchKind,
-    /// The direction.
     Direction,
-    /// A range of a haystack.
     Range,
-    /// The number of a state of a walk.
     Position,
-    /// A start kind.
     StartKind,
-    /// A decimal number.
     Number,
-    /// A flag.
     Flag,
-    /// Two hexadecimal digits.
     Digit,
-    /// An id of an NFA state.
     StateId,
-    /// An id that is not below the number of states.
     Unresolved,
-    /// An id of a pattern.
     PatternId,
-    /// The name of an assertion.
     Look,
-    /// An NFA state.
     State,
-    /// A transition.
     Transition,
-    /// A range of bytes whose first is above its last.
     ByteRange,
-    /// A union of two states.
     Union,
+    Head,
+    Key,
+    Word,
+    Count,
+    CharRange,
+    Character,
+    Rounds,
+    Greed,
+    Levels,
+    Matches,
 }
 
 impl fmt::Display for Part {
@@ -61,11 +56,21 @@ impl fmt::Display for Part {
             Part::Transition => "a transition",
             Part::ByteRange => "a range of bytes, the least first",
             Part::Union => "a union of two states",
+            Part::Head => "keys and patterns",
+            Part::Key => "a key with a value",
+            Part::Word => "a word of a pattern",
+            Part::Count => "as many patterns as its words need",
+            Part::CharRange => "a range of characters",
+            Part::Character => "the number of a character in hexadecimal",
+            Part::Rounds => "the counts of a repetition",
+            Part::Greed => "a greedy or a lazy repetition",
+            Part::Levels => "a number of rounds or of levels",
+            Part::Matches => "a text and its matches",
         })
     }
 }
 
-/// An error from a text.
+/// An error from a text of a value, of a pattern or of the states of an NFA.
 #[derive(Clone, Copy)]
 pub enum TextError {
     /// An allocation failed.
@@ -119,5 +124,116 @@ impl fmt::Display for TextError {
 impl fmt::Debug for TextError {
     fn fmt<W: fmt::Write>(&self, f: &mut fmt::Formatter<W>) -> fmt::Result {
         fmt::Display::fmt(self, f)
+    }
+}
+
+/// An error from the text of a job.
+#[derive(Clone, Copy)]
+pub enum ReadError<'t> {
+    /// A word is not accepted: the reason, and the word.
+    Word(&'static str, &'t str),
+    /// A key is not accepted or is missing: the key, and the reason.
+    Key(&'t str, &'static str),
+    /// The line is not accepted, for this reason.
+    Line(&'static str),
+    /// The words are known, and a value or the states have this error.
+    Text(TextError),
+}
+
+impl From<TextError> for ReadError<'_> {
+    fn from(error: TextError) -> Self {
+        ReadError::Text(error)
+    }
+}
+
+impl fmt::Display for ReadError<'_> {
+    fn fmt<W: fmt::Write>(&self, f: &mut fmt::Formatter<W>) -> fmt::Result {
+        match self {
+            ReadError::Word(reason, word) => write!(f, "{reason} {word:?}"),
+            ReadError::Key(key, reason) => write!(f, "key {key} {reason}"),
+            ReadError::Line(reason) => f.write_str(reason),
+            ReadError::Text(error) => write!(f, "{error}"),
+        }
+    }
+}
+
+impl fmt::Debug for ReadError<'_> {
+    fn fmt<W: fmt::Write>(&self, f: &mut fmt::Formatter<W>) -> fmt::Result {
+        write!(f, "{self}")
+    }
+}
+
+/// A reason why a replay of jobs has no verdict.
+#[derive(Clone, Copy)]
+pub enum ReplayError<'t> {
+    /// The arguments are invalid.
+    Arguments,
+    /// The line with this number, starting from 1, is invalid.
+    Line(u64, ReadError<'t>),
+    /// There was no job.
+    Nothing,
+    /// An allocation failed.
+    OutOfMemory,
+    /// The output cannot be written.
+    Output,
+}
+
+impl<'t> ReplayError<'t> {
+    /// Returns the error for the line with this number, starting from 1, for this reason.
+    pub fn of_line(number: u64, reason: &'static str) -> ReplayError<'t> {
+        ReplayError::Line(number, ReadError::Line(reason))
+    }
+
+    /// Returns the error for the job of this line.
+    pub fn of_job(number: u64, error: ReadError<'t>) -> ReplayError<'t> {
+        match error {
+            ReadError::Text(TextError::OutOfMemory) => ReplayError::OutOfMemory,
+            _ => ReplayError::Line(number, error),
+        }
+    }
+
+    /// Returns the error for arguments that cannot be read.
+    pub fn of_arguments(error: &io::Error) -> ReplayError<'t> {
+        if is_out_of_memory(error) {
+            return ReplayError::OutOfMemory;
+        }
+        ReplayError::Arguments
+    }
+
+    /// Returns the error for a line that cannot be read.
+    pub fn of_reading(number: u64, error: &io::Error) -> ReplayError<'t> {
+        if is_out_of_memory(error) {
+            return ReplayError::OutOfMemory;
+        }
+        ReplayError::of_line(number, "can't be read")
+    }
+}
+
+/// Returns whether an error is that of a failed allocation.
+pub fn is_out_of_memory(error: &io::Error) -> bool {
+    matches!(error.kind(), io::ErrorKind::OutOfMemory)
+}
+
+impl From<AllocError> for ReplayError<'_> {
+    fn from(_: AllocError) -> Self {
+        ReplayError::OutOfMemory
+    }
+}
+
+impl From<io::Error> for ReplayError<'_> {
+    fn from(_: io::Error) -> Self {
+        ReplayError::Output
+    }
+}
+
+impl fmt::Display for ReplayError<'_> {
+    fn fmt<W: fmt::Write>(&self, f: &mut fmt::Formatter<W>) -> fmt::Result {
+        match self {
+            ReplayError::Arguments => f.write_str("arguments are not taken"),
+            ReplayError::Line(number, error) => write!(f, "line {number}: {error}"),
+            ReplayError::Nothing => f.write_str("no job was replayed"),
+            ReplayError::OutOfMemory => f.write_str("out of memory"),
+            ReplayError::Output => f.write_str("the output can't be written"),
+        }
     }
 }

@@ -129,7 +129,7 @@ fn print_row<A: Allocator + Copy, W: Write>(
     let Some(example) = named(word.as_str()) else {
         return Err(RowError::NoSuchRow);
     };
-    print_walk(alloc, example, out)
+    print_walk(alloc, &example, out)
 }
 
 /// Prints the walk of an example.

@@ -118,7 +118,7 @@ fn look<A: Allocator>(parts: &str) -> Result<State<A>, TextError> {
 /// Returns a union.
 fn union<A: Allocator + Copy>(alloc: A, parts: &str) -> Result<State<A>, TextError> {
     Ok(State::Union {
-        alternates: values::state_ids(alloc, parts)?,
+        alternates: values::items(alloc, parts)?,
     })
 }
 

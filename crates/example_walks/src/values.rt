@@ -35,6 +35,14 @@ pub fn looks() -> &'static [(&'static str, Look)] {
     LOOKS.as_slice()
 }
 
+/// Returns the longest text that these bytes begin with.
+pub fn text_of(bytes: &[u8]) -> &str {
+    match bytes.utf8_chunks().next() {
+        Some(chunk) => chunk.valid(),
+        None => "",
+    }
+}
+
 /// Returns whether the text is that of no value or of an empty list.
 pub fn is_none(text: &str) -> bool {
     matches!(text, "" | "-")
@@ -129,6 +137,12 @@ impl Item for StateID {
     }
 }
 
+impl Item for PatternID {
+    fn read(text: &str) -> Result<PatternID, TextError> {
+        pattern_id(text)
+    }
+}
+
 /// Adds the values of a list that is not empty.
 fn add_items<T: Item, A: Allocator>(items: &mut Vec<T, A>, text: &str) -> Result<(), TextError> {
     for word in text.split(',') {
@@ -137,18 +151,13 @@ fn add_items<T: Item, A: Allocator>(items: &mut Vec<T, A>, text: &str) -> Result
     Ok(())
 }
 
-/// Returns the values of a list. An empty text is an empty list.
+/// Returns the values of a list, which is empty for `-` and for an empty text.
 pub fn items<T: Item, A: Allocator>(alloc: A, text: &str) -> Result<Vec<T, A>, TextError> {
     let mut items = Vec::new(alloc);
-    if !text.is_empty() {
+    if !is_none(text) {
         add_items(&mut items, text)?;
     }
     Ok(items)
-}
-
-/// Returns a list of ids of NFA states, which is empty for `-` and for an empty text.
-pub fn state_ids<A: Allocator>(alloc: A, text: &str) -> Result<Vec<StateID, A>, TextError> {
-    items(alloc, if is_none(text) { "" } else { text })
 }
 
 /// Returns the assertion of this name.
@@ -169,6 +178,24 @@ impl fmt::Display for Hex<'_> {
     fn fmt<W: fmt::Write>(&self, f: &mut fmt::Formatter<W>) -> fmt::Result {
         for byte in self.0 {
             write!(f, "{byte:02x}")?;
+        }
+        Ok(())
+    }
+}
+
+/// Ids, joined by commas, or `-` if there is none.
+#[derive(Clone, Copy)]
+pub struct Ids<'a, T>(pub &'a [T]);
+
+impl<T: fmt::Display> fmt::Display for Ids<'_, T> {
+    fn fmt<W: fmt::Write>(&self, f: &mut fmt::Formatter<W>) -> fmt::Result {
+        if self.0.is_empty() {
+            return f.write_str("-");
+        }
+        let mut comma = "";
+        for id in self.0 {
+            write!(f, "{comma}{id}")?;
+            comma = ",";
         }
         Ok(())
     }

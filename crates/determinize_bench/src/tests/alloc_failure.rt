@@ -23,9 +23,8 @@ use determinize_below::{Anchored, HalfMatch, Input, MatchKind, NFA};
 use determinize_core::determinize::{last_match, walk, walk_between};
 use determinize_core::state::State;
 use determinize_lazy::Lazy;
-use determinize_replay::outputs::output_of;
 use example_walks::error::TextError;
-use example_walks::examples::{Example, examples};
+use example_walks::examples::{Example, names};
 use example_walks::fields::Fields;
 use example_walks::values::bytes;
 use failing_alloc::{FailingAllocator, Outcome, fail_each_allocation};
@@ -217,7 +216,7 @@ impl Row {
 
 /// Returns an example walk, with its matches.
 fn found_row<R: Abort + AllocGlobal>(rt: &R, example: &Example) -> Row {
-    let mut row = Row::of(rt, &example.fields(), output_of(example.name));
+    let mut row = Row::of(rt, &example.fields(), example.output);
     (row.last, row.found) = row.matches(rt);
     row
 }
@@ -225,8 +224,9 @@ fn found_row<R: Abort + AllocGlobal>(rt: &R, example: &Example) -> Row {
 /// Returns all example walks, with their matches.
 pub fn rows<R: Abort + AllocGlobal>(rt: &R) -> Vec<Row> {
     let mut rows = Vec::new(rt.alloc());
-    for example in examples() {
-        rows.push(found_row(rt, example)).expect(rt, "memory");
+    for name in names() {
+        rows.push(found_row(rt, &Example::of(name)))
+            .expect(rt, "memory");
     }
     rows
 }

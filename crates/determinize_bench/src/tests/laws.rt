@@ -1,13 +1,15 @@
 //! The results of the functions whose contracts are laws of states, which are generic, at one
-//! allocator.
+//! allocator; and sizes of values.
 
 use crate::tests::same;
 use crate::tests::states::built;
 use determinize_below::{PatternID, StateID};
+use determinize_core::determinize::Steps;
 use determinize_core::state::{State, StateBuilderNFA};
 use determinize_core::state_laws::{
     are_equal, is_built, nfa_states_read, patterns_read, same_built_bytes, same_bytes,
 };
+use std::marker::Brand;
 use std::process::Abort;
 
 /// Compares the results for one of the patterns of a state.
@@ -39,4 +41,14 @@ fn laws_of_states(rt: HostRuntime) {
     let builder = built(&rt, "build fw=0 half=0 pids=2,0,1 ids=1,3,2");
     let state = builder.to_state().expect(&rt, "memory");
     expect_laws(&rt, &state, &builder);
+}
+
+/// A step counter without a count has size zero, and a short state is stored inline.
+#[test]
+fn sizes(rt: HostRuntime) {
+    same(
+        &rt,
+        (size_of::<Steps<Brand>>(), size_of::<State>()),
+        (0, 32),
+    );
 }

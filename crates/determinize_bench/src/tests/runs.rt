@@ -1,9 +1,8 @@
 //! The work of the program: its exit statuses, and readers and writers that fail.
 
 use crate::tests::{parts_of, same, same_at};
-use determinize_replay::error::{ReadError, ReplayError};
 use determinize_replay::run::{report, run};
-use example_walks::error::TextError;
+use example_walks::error::{ReadError, ReplayError, TextError};
 use example_walks::rows::run_rows;
 use std::alloc::AllocError;
 use std::io;
@@ -393,7 +392,7 @@ fn keeps_its_status_where_errors_fail(rt: HostRuntime) {
 }
 
 /// Compares the status and the message of an error.
-fn expect_told<R: Abort + AllocGlobal>(rt: &R, error: ReplayError, told: &str) {
+fn expect_told<R: Abort + AllocGlobal>(rt: &R, error: ReplayError<'_>, told: &str) {
     let mut err = Vec::new(rt.alloc());
     let status = report(Err(error), &mut err);
     same(rt, (status, err.as_slice()), (2, told.as_bytes()));
@@ -405,13 +404,9 @@ fn tells_of_each_error(rt: HostRuntime) {
     let other = io::Error::from(io::ErrorKind::InvalidData);
     let of_job = ReadError::from(TextError::from(AllocError));
     expect_told(&rt, ReplayError::from(AllocError), "out of memory\n");
-    let unread = ReplayError::of_reading(rt.alloc(), 3, &memory);
+    let unread = ReplayError::of_reading(3, &memory);
     expect_told(&rt, unread, "out of memory\n");
     expect_told(&rt, ReplayError::of_arguments(&memory), "out of memory\n");
-    expect_told(
-        &rt,
-        ReplayError::of_job(rt.alloc(), 3, of_job),
-        "out of memory\n",
-    );
+    expect_told(&rt, ReplayError::of_job(3, of_job), "out of memory\n");
     expect_told(&rt, ReplayError::of_arguments(&other), NOT_TAKEN);
 }

@@ -1,9 +1,11 @@
 //! Builders and assertions, as values for other tests.
 
-use determinize_below::{Look, LookSet};
+use determinize_below::{Look, LookSet, PatternID};
 use determinize_core::state::{StateBuilderMatches, StateBuilderNFA};
 use determinize_replay::job::Job;
-use determinize_replay::{records, values};
+use determinize_replay::records;
+use example_walks::values::items;
+use std::alloc::Global;
 use std::process::Abort;
 
 /// Returns the builder of a job of the verb `build`.
@@ -19,6 +21,6 @@ pub fn with_start(have: LookSet) -> LookSet {
 
 /// Returns a builder with these patterns.
 pub fn with_patterns<R: Abort + AllocGlobal>(rt: &R, numbers: &str) -> StateBuilderMatches {
-    let ids = values::pattern_ids(rt.alloc(), numbers).expect(rt, "ids of patterns");
+    let ids = items::<PatternID, Global>(rt.alloc(), numbers).expect(rt, "ids of patterns");
     records::with_patterns(rt.alloc(), ids.as_slice()).expect(rt, "each pattern once")
 }

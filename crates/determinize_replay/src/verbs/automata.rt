@@ -11,7 +11,7 @@ use determinize_core::state::{State, StateBuilderEmpty, StateBuilderNFA};
 use determinize_lazy::Lazy;
 use example_walks::error::{Part, TextError};
 use example_walks::fields::Fields;
-use example_walks::values::{LastMatch, byte, number, state_id, state_ids};
+use example_walks::values::{Ids, LastMatch, byte, items, number, state_id};
 use example_walks::walk::{self, Place};
 use std::alloc::{AllocError, Global};
 
@@ -106,7 +106,7 @@ fn write_readers(
 fn set(alloc: Global, fields: &Fields<'_>, key: &str, nfa: &NFA) -> Result<SparseSet, TextError>
     ensures { IfOk result (λ set. set.capacity ≡ length nfa.now.states) }
 {
-    let ids = state_ids(alloc, fields.value_or_none(key))?;
+    let ids = items::<StateID, Global>(alloc, fields.value_or_none(key))?;
     records::set(alloc, nfa.len(), ids.as_slice())
 }
 
@@ -118,7 +118,7 @@ fn closure(
     text: &mut String,
 ) -> Result<(), TextError> {
     let set = closed_set(alloc, fields, nfa)?;
-    write_set(alloc, text, &set)?;
+    writeln!(text, "set {}", Ids(set.as_slice()))?;
     Ok(())
 }
 
@@ -130,14 +130,6 @@ fn closed_set(alloc: Global, fields: &Fields<'_>, nfa: &NFA) -> Result<SparseSet
     let mut stack = Vec::new(alloc);
     determinize::epsilon_closure(nfa, start, look_have, &mut stack, &mut set)?;
     Ok(set)
-}
-
-/// Writes the ids of a set in a line.
-fn write_set(alloc: Global, text: &mut String, set: &SparseSet) -> Result<(), AllocError> {
-    text.push_str("set ")?;
-    let ids: Vec<StateID> = set.iter().collect(alloc)?;
-    values::write_ids(text, ids.as_slice())?;
-    text.push('\n')
 }
 
 /// Returns the start kind of this name.
@@ -193,8 +185,8 @@ fn sparse_sets(alloc: Global, fields: &Fields<'_>, nfa: &NFA) -> Result<SparseSe
     ensures set1 { IfOk result (λ sparses. sparses.set1.capacity ≡ length nfa.now.states) }
     ensures set2 { IfOk result (λ sparses. sparses.set2.capacity ≡ length nfa.now.states) }
 {
-    let held1 = state_ids(alloc, fields.value_or_none("set1"))?;
-    let held2 = state_ids(alloc, fields.value_or_none("set2"))?;
+    let held1 = items::<StateID, Global>(alloc, fields.value_or_none("set1"))?;
+    let held2 = items::<StateID, Global>(alloc, fields.value_or_none("set2"))?;
     filled_sets(alloc, nfa, held1.as_slice(), held2.as_slice())
 }
 

@@ -1,6 +1,6 @@
 //! The verbs without an NFA.
 
-use crate::error::told;
+use crate::values::told;
 use crate::{records, values};
 use determinize_below::{BuildError, Input, LookMatcher, NFA, PatternID, StateID, nfa};
 use determinize_core::start::{Config, Start, StartByteMap};
@@ -69,15 +69,11 @@ pub fn bytemap(fields: &Fields<'_>, text: &mut String) -> Result<(), TextError> 
     let asked = optional_byte(fields.value_or_none("byte"))?;
     for byte in 0..=255 {
         if asked.unwrap_or(byte) == byte {
-            write_kind(text, byte, map.get(byte))?;
+            let kind = map.get(byte);
+            writeln!(text, "{byte:02x} {kind:?}")?;
         }
     }
     Ok(())
-}
-
-/// Writes a byte and its start kind.
-fn write_kind(text: &mut String, byte: u8, kind: Start) -> Result<(), AllocError> {
-    writeln!(text, "{byte:02x} {kind:?}")
 }
 
 /// Runs `fromusize`: writes the start kind with a number.

@@ -8,9 +8,8 @@ use crate::tests::{by_class, ended, expect_debug, expect_text, holds, same};
 use determinize_below::{Anchored, Input, LookMatcher, MatchKind, NFA, PatternID, StateID};
 use determinize_dense::{Dfa, DfaError};
 use determinize_lazy::Lazy;
-use determinize_replay::outputs::output_of;
 use determinize_uses::dfa::smallest;
-use example_walks::examples::examples;
+use example_walks::examples::{Example, names};
 use example_walks::fields::Fields;
 use example_walks::values::LastMatch;
 use example_walks::{states, walk};
@@ -244,15 +243,16 @@ fn expect_job<R: Abort + AllocGlobal>(rt: &R, line: &str, last: &str) {
 /// Each of the 45 examples and of the 42 stored walks has a DFA of at most 1000 states.
 #[test]
 fn dense_walks(rt: HostRuntime) {
-    for example in examples() {
-        let last = output_of(example.name).lines().last().unwrap_or("");
+    for name in names() {
+        let example = Example::of(name);
+        let last = example.output.lines().last().unwrap_or("");
         expect_job(&rt, example.job, last);
     }
     for line in STORED.lines() {
         let (job, last) = line.split_once(" = ").unwrap_or((line, ""));
         expect_job(&rt, job, last);
     }
-    same(&rt, (examples().len(), STORED.lines().count()), (45, 42));
+    same(&rt, (names().len(), STORED.lines().count()), (45, 42));
 }
 
 /// The states of an NFA, a match kind, a text with the byte after it, and the patterns that match

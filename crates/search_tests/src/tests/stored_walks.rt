@@ -14,7 +14,7 @@ use determinize_below::{Anchored, HalfMatch, Input, MatchKind, NFA, StateID, Tra
 use determinize_find::{Finder, Match, Plain, Regex, find_all, prefix};
 use determinize_lazy::Lazy;
 use determinize_replay::job::Job;
-use example_walks::examples::examples;
+use example_walks::examples::{Example, names};
 use example_walks::fields::Fields;
 use example_walks::states;
 use example_walks::values::LastMatch;
@@ -207,8 +207,8 @@ fn expect_stored<R: Abort + AllocGlobal>(rt: &R, line: &str) {
 /// The matches of the 45 examples and of the stored walks.
 #[test]
 fn stored_walks(rt: HostRuntime) {
-    for example in examples() {
-        expect_walk(&rt, &example.fields());
+    for name in names() {
+        expect_walk(&rt, &Example::of(name).fields());
     }
     for line in STORED.lines() {
         expect_stored(&rt, line);

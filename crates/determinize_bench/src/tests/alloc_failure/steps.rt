@@ -18,14 +18,13 @@ use determinize_core::recording::add_state;
 use determinize_core::start::{Start, StartByteMap};
 use determinize_core::state::{State, StateBuilderEmpty, StateBuilderNFA};
 use determinize_replay::job::Job;
-use determinize_replay::outputs::output_of;
 use determinize_replay::{records, values};
 use example_walks::error::TextError;
-use example_walks::examples::examples;
+use example_walks::examples::{Example, names};
 use example_walks::fields::Fields;
 use example_walks::rows::run_rows;
-use example_walks::values::{state_id, state_ids};
-use std::alloc::{AllocError, Allocator};
+use example_walks::values::{items, state_id};
+use std::alloc::{AllocError, Allocator, Global};
 use std::marker::Brand;
 use std::process::Abort;
 use std::sync::ledger::{Blank, Ledger};
@@ -54,7 +53,7 @@ impl Closing {
     fn of<R: Abort + AllocGlobal>(rt: &R, fields: &Fields<'_>) -> Closing {
         let start = state_id(fields.value_or_none("from")).expect(rt, "an id");
         let have = values::look_set(fields.value_or_none("look"));
-        let held = state_ids(rt.alloc(), fields.value_or_none("held"));
+        let held = items::<StateID, Global>(rt.alloc(), fields.value_or_none("held"));
         Closing {
             nfa: fields.nfa_from(rt.alloc(), start).expect(rt, "an NFA"),
             have: have.expect(rt, "assertions"),
@@ -96,7 +95,7 @@ pub fn close<R: Abort, A: Allocator + Copy>(
 
 /// Computes the closure of a job while each allocation fails in turn.
 fn fail_each_in_closure<R: Abort + AllocGlobal>(rt: &R, job: &str, ids: &str) {
-    let wanted = state_ids(rt.alloc(), ids).expect(rt, "ids");
+    let wanted = items::<StateID, Global>(rt.alloc(), ids).expect(rt, "ids");
     let job = Job::read(job).expect(rt, "a job");
     let closing = Closing::of(rt, job.fields());
     fail_each_in_turn(rt, &Trial::Close(&closing, wanted.as_slice()));
@@ -365,9 +364,9 @@ pub fn print<R: Abort + AllocGlobal, A: Allocator + Copy>(
 
 #[test]
 fn prints_each_walk_or_fails_to_allocate(rt: HostRuntime) {
-    for example in examples() {
-        let words = words(&rt, example.name);
-        let lines = output_of(example.name);
+    for name in names() {
+        let words = words(&rt, name);
+        let lines = Example::of(name).output;
         fail_each_in_turn(&rt, &Trial::Print(words.as_slice(), lines));
     }
 }
