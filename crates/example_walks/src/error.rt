@@ -25,16 +25,6 @@ pub enum Part {
     Transition,
     ByteRange,
     Union,
-    Head,
-    Key,
-    Word,
-    Count,
-    CharRange,
-    Character,
-    Rounds,
-    Greed,
-    Levels,
-    Matches,
 }
 
 impl fmt::Display for Part {
@@ -56,16 +46,6 @@ impl fmt::Display for Part {
             Part::Transition => "a transition",
             Part::ByteRange => "a range of bytes, the least first",
             Part::Union => "a union of two states",
-            Part::Head => "keys and patterns",
-            Part::Key => "a key with a value",
-            Part::Word => "a word of a pattern",
-            Part::Count => "as many patterns as its words need",
-            Part::CharRange => "a range of characters",
-            Part::Character => "the number of a character in hexadecimal",
-            Part::Rounds => "the counts of a repetition",
-            Part::Greed => "a greedy or a lazy repetition",
-            Part::Levels => "a number of rounds or of levels",
-            Part::Matches => "a text and its matches",
         })
     }
 }
