@@ -1,7 +1,7 @@
 //! Texts that the matches of patterns contain, by the form of the patterns. At each place of a text
 //! is one byte or one of a few, as the two cases of a letter.
 
-use crate::blocks::set_of;
+use crate::pairs::Pair;
 use byte_set::ByteSet;
 use determinize_regex::{ClassBytes, Pattern};
 use std::alloc::{AllocError, Global};
@@ -25,8 +25,18 @@ pub struct Literals {
     literals: Vec<Literal>,
     /// The bytes of the rarest place of each.
     rarest: ByteSet,
+    /// Two bytes of the text, if there is one text.
+    pair: Option<Places>,
     /// Whether each of the texts is a match, wherever it occurs.
     are_matches: bool,
+}
+
+/// Two places of a text with one byte each.
+#[derive(Clone, Copy)]
+struct Places {
+    pair: Pair,
+    /// How far the rarest place of the text is behind the first of them.
+    to_rarest: usize,
 }
 
 /// A text that each match of a branch contains.
@@ -73,6 +83,10 @@ impl Literals {
         let are_sought = are_sought(&literals, terminator);
         let literals = Literals {
             rarest: rarest_of(&literals),
+            pair: match literals.as_slice() {
+                [literal] => literal.rarest_pair(),
+                _ => None,
+            },
             are_matches: are_matches(&literals),
             literals,
         };
@@ -91,13 +105,24 @@ impl Literals {
             if from >= block.len() {
                 break;
             }
-            let at = self.rarest.find(block, from, block.len())?;
+            let at = self.candidate(block, from)?;
             if self.is_at(block, at) {
                 return Some(at);
             }
-            from = at + 1;
+            from = at.saturating_add(1);
         }
         None
+    }
+
+    /// Returns the first index from `from` on at which one of the texts may have its rarest place.
+    fn candidate(&self, block: &[u8], from: usize) -> Option<usize> {
+        let Some(places) = &self.pair else {
+            return self.rarest.find(block, from.min(block.len()), block.len());
+        };
+        let first = places
+            .pair
+            .find(block, from.saturating_sub(places.to_rarest))?;
+        Some(first.saturating_add(places.to_rarest))
     }
 
     /// Returns whether one of the texts is in a block, its rarest byte at an index.
@@ -160,6 +185,32 @@ impl Literal {
             rarest,
             is_match,
         }
+    }
+
+    /// Returns its rarest place and the rarest of the others, if both have one byte. A byte that is
+    /// rare alone is found sooner.
+    fn rarest_pair(&self) -> Option<Places> {
+        if self.places.get(self.rarest)?.rank >= FREQUENT.len() {
+            return None;
+        }
+        let (mut other, mut highest) = (None, 0);
+        for (index, place) in self.places.iter().enumerate() {
+            if index != self.rarest && place.rank >= highest {
+                (other, highest) = (Some(index), place.rank);
+            }
+        }
+        let (first, last) = (self.rarest.min(other?), self.rarest.max(other?));
+        let (start, end) = (self.byte_at(first)?, self.byte_at(last)?);
+        Some(Places {
+            pair: Pair::new(start, end, last.saturating_sub(first)),
+            to_rarest: self.rarest.saturating_sub(first),
+        })
+    }
+
+    /// Returns the byte of a place, if it has one byte.
+    fn byte_at(&self, index: usize) -> Option<u8> {
+        let byte = self.places.get(index)?.bytes[0];
+        (self.places.get(index)?.bytes == [byte; FEW]).then_some(byte)
     }
 
     /// Returns whether a search for the text passes most lines: whether it has several places, or a

@@ -12,6 +12,7 @@ mod globs;
 mod lines;
 mod literals;
 mod options;
+mod pairs;
 mod patterns;
 mod printer;
 mod quoted;
