@@ -19,7 +19,7 @@ fn main(rt: HostRuntime) -> ExitCode {
             let input = rt.reader();
             run::run(rt.alloc(), words.as_slice(), input, &mut out, &mut err)
         }
-        Err(error) => run::report(Err(ReplayError::of_arguments(&error)), &mut err),
+        Err(error) => run::report(Err(ReplayError::Arguments.because(&error)), &mut err),
     };
     ExitCode::from(status)
 }

@@ -15,19 +15,18 @@ mod caches;
 mod invalid_jobs;
 mod large;
 mod laws;
+mod map_text;
 mod parts;
 mod rows;
 mod runs;
 mod starts;
-mod states;
 mod texts;
 mod worked;
 
-use determinize_below::{HalfMatch, NFA, PatternID};
+use determinize_below::{HalfMatch, Look, LookSet, PatternID};
+use determinize_core::state::StateBuilderNFA;
 use determinize_replay::job::Job;
-use determinize_replay::verbs;
-use example_walks::examples::{Example, names};
-use example_walks::fields::Fields;
+use determinize_replay::records;
 use std::fmt::{Debug, Display};
 use std::process::Abort;
 
@@ -51,12 +50,6 @@ pub fn holds<R: Abort>(rt: &R, is_so: bool)
     ensures { is_so ≡ true }
 {
     assert!(rt; is_so);
-}
-
-/// Returns the NFA of a walk, which starts where the walk does.
-pub fn nfa_of<R: Abort + AllocGlobal>(rt: &R, fields: &Fields<'_>) -> NFA {
-    let start = fields.start().expect(rt, "a start");
-    fields.nfa_from(rt.alloc(), start).expect(rt, "an NFA")
 }
 
 /// Returns the match of pattern 0 that ends at this offset, if there is one.
@@ -97,22 +90,13 @@ pub fn joined<R: Abort + AllocGlobal, T: Display + Copy>(
     format!(in rt.alloc(); "{before}{value}{after}").expect(rt, "memory")
 }
 
-/// Runs the job of an example and compares its output.
-fn replay<R: Abort + AllocGlobal>(rt: &R, example: &Example) {
-    let job = Job::read(example.job).expect(rt, "a job");
-    let output = verbs::output(rt.alloc(), &job).expect(rt, "an output");
-    same_at(rt, example.name, output.as_str(), example.output);
+/// Returns the builder of a job of the verb `build`.
+pub fn built<R: Abort + AllocGlobal>(rt: &R, line: &str) -> StateBuilderNFA {
+    let job = Job::read(line).expect(rt, "a job");
+    records::builder(rt.alloc(), job.fields()).expect(rt, "a record")
 }
 
-#[test]
-fn walks(rt: HostRuntime) {
-    for name in names() {
-        replay(&rt, &Example::of(name));
-    }
-}
-
-#[test]
-fn single_calls(rt: HostRuntime) {
-    let counts = "77 jobs, 0 differ, 0 skipped\n";
-    runs::expect(&rt, "", worked::CALLS.as_bytes(), 0, counts, "");
+/// Returns these assertions and `Start`.
+pub fn with_start(have: LookSet) -> LookSet {
+    have.insert(Look::Start)
 }

@@ -6,7 +6,8 @@ use example_walks::fields::Fields;
 use example_walks::values::number;
 
 /// The keys that each verb takes, in a line that begins with its name. The names of the verbs over
-/// an NFA have a mark `|`. A job must have the keys with a mark `!`.
+/// an NFA have a mark `|`. A job must have the keys with a mark `!`. Only [`keys`] names this text:
+/// a proof reads all of it at each mention.
 const KEYS: &str = "\
 walk| id fix dir term kind start lb text after
 readers| id fix dir term kind start lb text after at!
@@ -21,16 +22,10 @@ dead id fix
 build id fix fw! half! have need pids ids
 size id fix states! matches!";
 
-/// Returns the lines of the verbs. Only this function names the text: a proof reads all of it at
-/// each mention.
-fn lines_of_keys() -> &'static str {
-    KEYS
-}
-
 /// Returns whether the verb of this name is over an NFA and the keys that it takes, or `None` if
 /// there is no such verb.
 fn keys(name: &str) -> Option<(bool, &'static str)> {
-    for line in lines_of_keys().lines() {
+    for line in KEYS.lines() {
         if let Some((verb, keys)) = line.split_once(' ') {
             let stem = verb.strip_suffix('|');
             if stem.unwrap_or(verb) == name {

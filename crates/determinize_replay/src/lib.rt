@@ -6,7 +6,7 @@
 //! over any reader and writers.
 #![tactic(auto)]
 
-pub mod caches;
+pub mod automata;
 pub mod job;
 pub mod records;
 pub mod replay;

@@ -4,12 +4,15 @@
 //! that output is known only at the next job or after the last line; the job is run and judged
 //! then.
 
-ghost use Rattle.std.specs.Prelude.{◌≡◌, ◌≤◌, ◌↔◌, IsTrue};
+ghost use Rattle.std.specs.Prelude.{◌≡◌, ◌≤◌, ◌↔◌};
 
-use crate::caches::Caches;
 use crate::job::Job;
-use crate::verbs;
+use crate::{automata, verbs};
+use determinize_below::NFA;
+use determinize_lazy::LazyDfa;
 use example_walks::error::{ReadError, ReplayError, TextError};
+use example_walks::fields::Fields;
+use example_walks::walk::Place;
 use std::alloc::{AllocError, Global};
 use std::io::Write;
 use std::{fmt, io};
@@ -24,13 +27,6 @@ pub struct Tally {
 }
 
 impl Tally {
-    /// Returns whether there was no job.
-    pub fn is_empty(self) -> bool
-        ensures { IsTrue result ↔ (self.jobs ≡ 0) }
-    {
-        self.jobs == 0
-    }
-
     /// Returns the exit status of the counts: 0 if no job differs, otherwise 1.
     pub fn status(self) -> u8
         ensures agree { (result ≡ 0) ↔ (self.differ ≡ 0) }
@@ -48,65 +44,60 @@ impl fmt::Display for Tally {
     }
 }
 
-/// The output of a job: all lines, or only the last one.
+/// How walks are made.
 #[derive(Clone, Copy)]
-enum Extent {
-    All,
-    Last,
+pub enum Mode {
+    /// Each by itself.
+    Alone,
+    /// Through caches of at most this many states, one for each NFA and match kind.
+    Cached(usize),
+    /// By searches through such caches, which give only the last line of the output.
+    Searched(usize),
 }
 
-impl Extent {
-    /// Returns whether an output is the expected one, or its last line.
-    fn agrees(self, output: &str, expected: &str) -> bool {
-        match self {
-            Extent::All => output == expected,
-            Extent::Last => output.lines().last() == expected.lines().last(),
-        }
-    }
+/// A cache, and the fields of the first walk through it.
+#[derive(Drop)]
+struct Cache<'t> {
+    fields: Fields<'t>,
+    lazy: LazyDfa<NFA>,
 }
 
-/// Writes the output of a job. A walk whose NFA has a cache goes through it, or is replaced by a
-/// search, which gives only the last line.
-fn write_output(
-    alloc: Global,
-    caches: &mut Caches<'_, '_>,
-    job: &Job<'_>,
-    output: &mut String,
-) -> Result<Extent, TextError> {
-    let is_search = caches.is_search;
-    match caches.of(job) {
-        None => verbs::write_output(alloc, job, output)?,
-        Some(cache) => {
-            verbs::write_through(alloc, job.fields(), is_search, cache, output)?;
-            if is_search {
-                return Ok(Extent::Last);
+impl Cache<'_> {
+    /// Returns whether a walk with these fields has the NFA and the match kind of this cache.
+    fn serves(&self, fields: &Fields<'_>) -> bool {
+        for key in ["kind", "dir", "term", "start"] {
+            if self.fields.value_or_none(key) != fields.value_or_none(key) {
+                return false;
             }
         }
+        self.fields.states.unwrap_or("") == fields.states.unwrap_or("")
     }
-    Ok(Extent::All)
+
+    /// Writes the output of a walk through the cache, or only its last line, by a search.
+    fn write_walk(
+        &mut self,
+        place: &Place,
+        is_search: bool,
+        text: &mut String,
+    ) -> Result<(), AllocError> {
+        let (start, behind) = (self.lazy.nfa().start_anchored(), place.behind);
+        let bytes = place.text.as_slice();
+        if is_search {
+            let found = self.lazy.search(start, behind, bytes, place.ahead)?;
+            return automata::write_match(text, found);
+        }
+        let states = self.lazy.walk_between(start, behind, bytes, place.ahead)?;
+        automata::write_states(text, states.as_slice())
+    }
 }
 
-/// Writes the output of the job of this text.
-fn write_output_of<'t>(
-    alloc: Global,
-    caches: &mut Caches<'_, '_>,
-    text: &'t str,
-    output: &mut String,
-) -> Result<Extent, ReadError<'t>> {
-    match Job::read(text) {
-        Ok(job) => match write_output(alloc, caches, &job, output) {
-            Ok(extent) => Ok(extent),
-            Err(error) => Err(ReadError::Text(error)),
-        },
-        Err(error) => Err(error),
-    }
-}
-
-/// A replay in progress: the current job with the number of its line, the lines of its expected
-/// output so far, and a place for its output.
+/// A replay in progress: its caches, the current job with the number of its line, the lines of its
+/// expected output so far, and a place for its output.
 #[derive(Drop)]
 pub struct Replay<'t> {
     alloc: Global,
+    mode: Mode,
+    caches: Vec<Cache<'t>>,
     line: u64,
     job: Option<(u64, &'t str)>,
     expected: String,
@@ -117,9 +108,11 @@ pub struct Replay<'t> {
 
 impl<'t> Replay<'t> {
     /// Returns a replay that has read no line.
-    pub fn new(alloc: Global) -> Replay<'t> {
+    pub fn new(alloc: Global, mode: Mode) -> Replay<'t> {
         Replay {
             alloc,
+            mode,
+            caches: Vec::new(alloc),
             line: 1,
             job: None,
             expected: String::new(alloc),
@@ -130,9 +123,10 @@ impl<'t> Replay<'t> {
 
     /// Returns the error for the next line, which cannot be read for this reason, or is not UTF-8.
     pub fn unreadable(&self, end: &io::Result<usize>) -> ReplayError<'t> {
+        let unread = ReplayError::of_line(self.line, ReadError::Line("can't be read"));
         match end {
-            Ok(_) => ReplayError::of_line(self.line, "can't be read"),
-            Err(error) => ReplayError::of_reading(self.line, error),
+            Ok(_) => unread,
+            Err(error) => unread.because(error),
         }
     }
 
@@ -144,7 +138,6 @@ impl<'t> Replay<'t> {
     /// results of further calls are unspecified.
     pub fn take_line<W: Write>(
         &mut self,
-        caches: &mut Caches<'_, '_>,
         text: &'t str,
         out: &mut W,
     ) -> Result<(), ReplayError<'t>> {
@@ -154,35 +147,28 @@ impl<'t> Replay<'t> {
             return Ok(());
         }
         if let Some(job) = text.strip_prefix("> ") {
-            self.judge(caches, out)?;
+            self.judge(out)?;
             self.job = Some((line, job));
             return Ok(());
         }
         if self.job.is_none() {
-            return Err(ReplayError::of_line(line, "an answer without a job"));
+            let reason = ReadError::Line("an answer without a job");
+            return Err(ReplayError::of_line(line, reason));
         }
-        self.add_expected(text)?;
-        Ok(())
-    }
-
-    /// Adds a line to the expected output of the current job.
-    fn add_expected(&mut self, text: &str) -> Result<(), AllocError> {
         self.expected.push_str(text)?;
-        self.expected.push('\n')
+        self.expected.push('\n')?;
+        Ok(())
     }
 
     /// Runs the current job, if there is one, compares its output with the expected one, and clears
     /// it.
-    pub fn judge<W: Write>(
-        &mut self,
-        caches: &mut Caches<'_, '_>,
-        out: &mut W,
-    ) -> Result<(), ReplayError<'t>> {
+    pub fn judge<W: Write>(&mut self, out: &mut W) -> Result<(), ReplayError<'t>> {
         if let Some((line, job)) = self.job.take() {
             self.tally.jobs = self.tally.jobs.saturating_add(1);
-            match write_output_of(self.alloc, caches, job, &mut self.output) {
-                Ok(extent) => self.compare(job, extent, out)?,
-                Err(error) => return Err(ReplayError::of_job(line, error)),
+            match self.agrees(job) {
+                Ok(true) => {}
+                Ok(false) => self.write_difference(job, out)?,
+                Err(error) => return Err(ReplayError::of_line(line, error)),
             }
         }
         self.expected.clear();
@@ -190,14 +176,60 @@ impl<'t> Replay<'t> {
         Ok(())
     }
 
-    /// Compares the output of a job with the expected one. If it differs, counts and prints the
-    /// job.
-    fn compare<W: Write>(&mut self, job: &str, extent: Extent, out: &mut W) -> io::Result<()> {
-        let (output, expected) = (self.output.as_str(), self.expected.as_str());
-        if extent.agrees(output, expected) {
-            return Ok(());
-        }
+    /// Counts and prints a job whose output differs.
+    fn write_difference<W: Write>(&mut self, job: &str, out: &mut W) -> io::Result<()> {
         self.tally.differ = self.tally.differ.saturating_add(1);
+        let (expected, output) = (self.expected.as_str(), self.output.as_str());
         write!(out, "> {job}\nexpected:\n{expected}got:\n{output}")
+    }
+
+    /// Runs a job. Returns whether its output is the expected one or, for a search, its last line.
+    fn agrees(&mut self, text: &'t str) -> Result<bool, ReadError<'t>> {
+        let job = Job::read(text)?;
+        let (limit, is_search) = match self.mode {
+            Mode::Cached(limit) if job.verb() == "walk" => (limit, false),
+            Mode::Searched(limit) if job.verb() == "walk" => (limit, true),
+            _ => {
+                verbs::write_output(self.alloc, &job, &mut self.output)?;
+                return Ok(self.output.as_str() == self.expected.as_str());
+            }
+        };
+        self.write_walk(job.fields(), limit, is_search)?;
+        let (output, expected) = (self.output.as_str(), self.expected.as_str());
+        if is_search {
+            return Ok(output.lines().last() == expected.lines().last());
+        }
+        Ok(output == expected)
+    }
+
+    /// Writes the output of a walk through its cache of at most `limit` states, or only its last
+    /// line, by a search.
+    fn write_walk(
+        &mut self,
+        fields: &Fields<'t>,
+        limit: usize,
+        is_search: bool,
+    ) -> Result<(), TextError> {
+        let place = Place::of(self.alloc, fields)?;
+        for cache in &mut self.caches {
+            if cache.serves(fields) {
+                cache.write_walk(&place, is_search, &mut self.output)?;
+                return Ok(());
+            }
+        }
+        let mut cache = self.new_cache(fields, limit)?;
+        cache.write_walk(&place, is_search, &mut self.output)?;
+        self.caches.push(cache)?;
+        Ok(())
+    }
+
+    /// Returns an empty cache for a walk.
+    fn new_cache(&self, fields: &Fields<'t>, limit: usize) -> Result<Cache<'t>, TextError> {
+        let kind = fields.match_kind()?;
+        let nfa = fields.nfa(self.alloc)?;
+        Ok(Cache {
+            fields: *fields,
+            lazy: LazyDfa::new(self.alloc, nfa, kind, limit),
+        })
     }
 }

@@ -2,8 +2,7 @@
 
 ghost use Rattle.std.specs.Prelude.{◌≡◌, ◌≤◌, ◌↔◌, IfOk, OnErr};
 
-use crate::caches::{Caches, add_all};
-use crate::replay::{Replay, Tally};
+use crate::replay::{Mode, Replay, Tally};
 use example_walks::error::ReplayError;
 use example_walks::values::{number, text_of};
 use std::alloc::Global;
@@ -31,15 +30,12 @@ pub fn run<R: Read + Drop, W: Write, E: Write>(
 ) -> u8
     ensures { result ≤ 2 }
 {
-    let Some((is_search, limit)) = limit(words) else {
+    let Some(mode) = mode(words) else {
         return report(Err(ReplayError::Arguments), err);
     };
     let mut bytes = Vec::new(alloc);
     let end = input.read_to_end(&mut bytes);
-    report(
-        replay_bytes(alloc, is_search, limit, bytes.as_slice(), &end, out),
-        err,
-    )
+    report(replay(alloc, mode, bytes.as_slice(), &end, out), err)
 }
 
 /// Returns the exit status of a replay. If there is no verdict, writes the reason to `err`.
@@ -57,97 +53,48 @@ pub fn report<E: Write>(outcome: Result<Tally, ReplayError<'_>>, err: &mut E) ->
     }
 }
 
-/// Reads the arguments: none, or `cache` or `search` and a limit. Returns whether walks are
-/// replaced by searches, and the limit of the caches, if there are any; or `None` for any other
-/// arguments.
-fn limit(words: &[String]) -> Option<(bool, Option<usize>)> {
-    let [word, limit] = words else {
-        return if words.is_empty() {
-            Some((false, None))
-        } else {
-            None
-        };
-    };
-    let is_search = word.as_str() == "search";
-    if !is_search && word.as_str() != "cache" {
-        return None;
-    }
-    match number(limit.as_str()) {
-        Ok(limit) => Some((is_search, Some(limit))),
-        Err(_) => None,
+/// Reads the arguments: none, or `cache` or `search` and a limit. Returns `None` for any others.
+fn mode(words: &[String]) -> Option<Mode> {
+    match words {
+        [] => Some(Mode::Alone),
+        [word, limit] => match (word.as_str(), number(limit.as_str())) {
+            ("cache", Ok(limit)) => Some(Mode::Cached(limit)),
+            ("search", Ok(limit)) => Some(Mode::Searched(limit)),
+            _ => None,
+        },
+        _ => None,
     }
 }
 
-/// Replays the lines of the input, of which these bytes were read before its end or an error.
-fn replay_bytes<'t, W: Write>(
+/// Replays the lines of the input, of which these bytes were read before its end or an error, and
+/// writes the counts. If it was not read to its end or is not UTF-8, replays the lines before the
+/// one that cannot be read, of which the text may have the first part, and returns the error.
+fn replay<'t, W: Write>(
     alloc: Global,
-    is_search: bool,
-    limit: Option<usize>,
+    mode: Mode,
     bytes: &'t [u8],
     end: &io::Result<usize>,
     out: &mut W,
 ) -> Result<Tally, ReplayError<'t>> {
-    let text = text_of(bytes);
-    let mut automata = Vec::new(alloc);
-    if limit.is_some() {
-        add_all(alloc, &mut automata, text)?;
-    }
-    let mut caches = Caches::new(alloc, automata.as_slice(), is_search, limit.unwrap_or(0))?;
+    let (text, mut replay) = (text_of(bytes), Replay::new(alloc, mode));
     let is_whole = end.is_ok() && text.len() == bytes.len();
-    replay_text(alloc, &mut caches, text, is_whole, end, out)
-}
-
-/// Replays the lines of a text, which is the whole input, or else what comes before its end or an
-/// error.
-fn replay_text<'t, W: Write>(
-    alloc: Global,
-    caches: &mut Caches<'_, '_>,
-    text: &'t str,
-    is_whole: bool,
-    end: &io::Result<usize>,
-    out: &mut W,
-) -> Result<Tally, ReplayError<'t>> {
-    let mut replay = Replay::new(alloc);
-    if is_whole {
-        replay_all(&mut replay, caches, text, out)
+    let count = text.split('\n').count();
+    let readable = if is_whole {
+        count
     } else {
-        Err(replay_part(&mut replay, caches, text, end, out))
+        count.saturating_sub(1)
+    };
+    for line in text.lines().take(readable) {
+        replay.take_line(line, out)?;
     }
-}
-
-/// Replays the lines of the whole input, and writes the counts.
-fn replay_all<'t, W: Write>(
-    replay: &mut Replay<'t>,
-    caches: &mut Caches<'_, '_>,
-    text: &'t str,
-    out: &mut W,
-) -> Result<Tally, ReplayError<'t>> {
-    for line in text.lines() {
-        replay.take_line(caches, line, out)?;
+    if !is_whole {
+        return Err(replay.unreadable(end));
     }
-    replay.judge(caches, out)?;
+    replay.judge(out)?;
     let tally = replay.tally;
     writeln!(out, "{tally}")?;
-    if tally.is_empty() {
+    if tally.jobs == 0 {
         return Err(ReplayError::Nothing);
     }
     Ok(tally)
-}
-
-/// Replays the lines before one that cannot be read, of which the text may have the first part, and
-/// returns the error.
-fn replay_part<'t, W: Write>(
-    replay: &mut Replay<'t>,
-    caches: &mut Caches<'_, '_>,
-    text: &'t str,
-    end: &io::Result<usize>,
-    out: &mut W,
-) -> ReplayError<'t> {
-    let number = text.split('\n').count();
-    for line in text.lines().take(number.saturating_sub(1)) {
-        if let Err(error) = replay.take_line(caches, line, out) {
-            return error;
-        }
-    }
-    replay.unreadable(end)
 }

@@ -1,17 +1,10 @@
-//! Reads and writes the values of jobs that no walk has: flags and sets of assertions.
+//! Reads and writes the values of jobs that no walk has: flags, ids and sets of assertions.
 
 use determinize_below::LookSet;
 use example_walks::error::{Part, TextError};
 use example_walks::values::{Hex, is_none, look, looks};
 use std::alloc::AllocError;
-
-/// Returns the outcome of a call that allocates, with its error as one of texts.
-pub fn told(made: Result<(), AllocError>) -> Result<(), TextError> {
-    match made {
-        Ok(()) => Ok(()),
-        Err(_) => Err(TextError::OutOfMemory),
-    }
-}
+use std::fmt::Display;
 
 /// Returns a flag, `0` or `1`.
 pub fn flag(text: &str) -> Result<bool, TextError> {
@@ -27,10 +20,7 @@ pub fn look_set(text: &str) -> Result<LookSet, TextError> {
     let mut set = LookSet::empty();
     if !is_none(text) {
         for name in text.split(',') {
-            match look(name) {
-                Ok(look) => set = set.insert(look),
-                Err(error) => return Err(error),
-            }
+            set = set.insert(look(name)?);
         }
     }
     Ok(set)
@@ -38,23 +28,32 @@ pub fn look_set(text: &str) -> Result<LookSet, TextError> {
 
 /// Writes bytes as hexadecimal digits, and a line break.
 pub fn write_bytes(text: &mut String, bytes: &[u8]) -> Result<(), AllocError> {
-    let bytes = Hex(bytes);
-    writeln!(text, "{bytes}")
+    writeln!(text, "{}", Hex(bytes))
+}
+
+/// Writes ids joined by commas, or `-` if there is none.
+pub fn write_ids<T: Display>(text: &mut String, ids: &[T]) -> Result<(), AllocError> {
+    let mut before = "";
+    for id in ids {
+        write!(text, "{before}{id}")?;
+        before = ",";
+    }
+    if before.is_empty() {
+        text.push('-')?;
+    }
+    Ok(())
 }
 
 /// Writes the names of a set of assertions joined by commas, or `-` if it is empty.
 pub fn write_looks(text: &mut String, set: LookSet) -> Result<(), AllocError> {
-    let mut is_first = true;
+    let mut before = "";
     for (name, look) in looks() {
         if set.contains(*look) {
-            if !is_first {
-                text.push(',')?;
-            }
-            text.push_str(name)?;
-            is_first = false;
+            write!(text, "{before}{name}")?;
+            before = ",";
         }
     }
-    if is_first {
+    if before.is_empty() {
         text.push('-')?;
     }
     Ok(())

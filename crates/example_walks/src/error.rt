@@ -2,7 +2,6 @@
 
 use determinize_below::BuildError;
 use std::alloc::{AllocError, AllocFailed};
-use std::num::ParseIntError;
 use std::{fmt, io};
 
 /// The part of a text that is malformed or that the preconditions of a call exclude. The text of
@@ -84,12 +83,6 @@ impl From<BuildError> for TextError {
     }
 }
 
-impl From<ParseIntError> for TextError {
-    fn from(_: ParseIntError) -> TextError {
-        TextError::Malformed(Part::Number)
-    }
-}
-
 impl fmt::Display for TextError {
     fn fmt<W: fmt::Write>(&self, f: &mut fmt::Formatter<W>) -> fmt::Result {
         match self {
@@ -159,39 +152,21 @@ pub enum ReplayError<'t> {
 }
 
 impl<'t> ReplayError<'t> {
-    /// Returns the error for the line with this number, starting from 1, for this reason.
-    pub fn of_line(number: u64, reason: &'static str) -> ReplayError<'t> {
-        ReplayError::Line(number, ReadError::Line(reason))
-    }
-
-    /// Returns the error for the job of this line.
-    pub fn of_job(number: u64, error: ReadError<'t>) -> ReplayError<'t> {
+    /// Returns the error for the line with this number, starting from 1.
+    pub fn of_line(number: u64, error: ReadError<'t>) -> ReplayError<'t> {
         match error {
             ReadError::Text(TextError::OutOfMemory) => ReplayError::OutOfMemory,
             _ => ReplayError::Line(number, error),
         }
     }
 
-    /// Returns the error for arguments that cannot be read.
-    pub fn of_arguments(error: &io::Error) -> ReplayError<'t> {
-        if is_out_of_memory(error) {
-            return ReplayError::OutOfMemory;
+    /// Returns this error of a failed input, or that of a failed allocation if this is why.
+    pub fn because(self, error: &io::Error) -> ReplayError<'t> {
+        match error.kind() {
+            io::ErrorKind::OutOfMemory => ReplayError::OutOfMemory,
+            _ => self,
         }
-        ReplayError::Arguments
     }
-
-    /// Returns the error for a line that cannot be read.
-    pub fn of_reading(number: u64, error: &io::Error) -> ReplayError<'t> {
-        if is_out_of_memory(error) {
-            return ReplayError::OutOfMemory;
-        }
-        ReplayError::of_line(number, "can't be read")
-    }
-}
-
-/// Returns whether an error is that of a failed allocation.
-pub fn is_out_of_memory(error: &io::Error) -> bool {
-    matches!(error.kind(), io::ErrorKind::OutOfMemory)
 }
 
 impl From<AllocError> for ReplayError<'_> {
@@ -208,12 +183,12 @@ impl From<io::Error> for ReplayError<'_> {
 
 impl fmt::Display for ReplayError<'_> {
     fn fmt<W: fmt::Write>(&self, f: &mut fmt::Formatter<W>) -> fmt::Result {
-        match self {
-            ReplayError::Arguments => f.write_str("arguments are not taken"),
-            ReplayError::Line(number, error) => write!(f, "line {number}: {error}"),
-            ReplayError::Nothing => f.write_str("no job was replayed"),
-            ReplayError::OutOfMemory => f.write_str("out of memory"),
-            ReplayError::Output => f.write_str("the output can't be written"),
-        }
+        f.write_str(match self {
+            ReplayError::Line(number, error) => return write!(f, "line {number}: {error}"),
+            ReplayError::Arguments => "arguments are not taken",
+            ReplayError::Nothing => "no job was replayed",
+            ReplayError::OutOfMemory => "out of memory",
+            ReplayError::Output => "the output can't be written",
+        })
     }
 }

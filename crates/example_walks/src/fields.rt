@@ -1,8 +1,9 @@
 //! The fields of a job, and what those of a walk mean.
 
 use crate::error::{Part, TextError};
-use crate::{states, values};
-use determinize_below::{LookMatcher, MatchKind, NFA, StateID};
+use crate::states;
+use crate::values::{self, Item};
+use determinize_below::{BuildError, LookMatcher, MatchKind, NFA, StateID};
 use std::alloc::Allocator;
 
 /// The fields of a job: words `key=value`, and the states of an NFA.
@@ -68,7 +69,7 @@ impl<'t> Fields<'t> {
 
     /// Returns the id of the state that a walk starts from, by default 0.
     pub fn start(&self) -> Result<StateID, TextError> {
-        values::state_id(self.value("start").unwrap_or("0"))
+        StateID::read(self.value("start").unwrap_or("0"))
     }
 
     /// Returns the byte behind the text of a walk.
@@ -86,12 +87,13 @@ impl<'t> Fields<'t> {
         values::optional_byte(self.value_or_none("after"))
     }
 
-    /// Returns the NFA. Both start states are state 0.
+    /// Returns the NFA, whose start states are where a walk starts.
     pub fn nfa<A: Allocator + Copy>(&self, alloc: A) -> Result<NFA<A>, TextError> {
-        self.nfa_from(alloc, StateID::ZERO)
+        self.nfa_from(alloc, self.start()?)
     }
 
-    /// Returns the NFA with this state as both start states.
+    /// Returns the NFA with this state as both start states. A state behind the first that the NFA
+    /// does not have is malformed.
     pub fn nfa_from<A: Allocator + Copy>(
         &self,
         alloc: A,
@@ -99,8 +101,13 @@ impl<'t> Fields<'t> {
     ) -> Result<NFA<A>, TextError> {
         let (is_reverse, matcher) = (self.is_reverse()?, self.matcher()?);
         let states = states::states(alloc, self.states.unwrap_or(""))?;
-        let nfa = NFA::from_parts(alloc, states, start, start, is_reverse, matcher)?;
-        Ok(nfa)
+        match NFA::from_parts(alloc, states, start, start, is_reverse, matcher) {
+            Ok(nfa) => Ok(nfa),
+            Err(BuildError::UnresolvedStart) if start.as_usize() > 0 => {
+                Err(TextError::Malformed(Part::Unresolved))
+            }
+            Err(error) => Err(TextError::from(error)),
+        }
     }
 }
 

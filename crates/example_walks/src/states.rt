@@ -3,7 +3,7 @@
 use crate::error::{Part, TextError};
 use crate::values::{self, Item};
 use determinize_below::nfa::State;
-use determinize_below::{DenseTransitions, SparseTransitions, StateID, Transition};
+use determinize_below::{DenseTransitions, PatternID, SparseTransitions, StateID, Transition};
 use std::alloc::Allocator;
 
 /// Returns the states of a text, one word each.
@@ -31,18 +31,29 @@ fn add_states<A: Allocator + Copy>(
 /// Returns the state of a word such as `BU:4,1`.
 fn state<A: Allocator + Copy>(alloc: A, word: &str) -> Result<State<A>, TextError> {
     let (kind, parts) = word.split_once(':').unwrap_or((word, ""));
-    match kind {
-        "B" => byte_range(parts),
-        "S" => sparse(alloc, parts),
-        "D" => dense(alloc, parts),
-        "L" => look(parts),
-        "U" => union(alloc, parts),
-        "BU" => binary_union(parts),
-        "C" => capture(parts),
-        "F" => Ok(State::Fail),
-        "M" => matching(parts),
-        _ => Err(TextError::Malformed(Part::State)),
-    }
+    let state = match kind {
+        "B" => State::ByteRange {
+            trans: Transition::read(parts)?,
+        },
+        "S" => State::Sparse(SparseTransitions {
+            transitions: values::items(alloc, parts)?,
+        }),
+        "D" => dense(alloc, parts)?,
+        "L" => look(parts)?,
+        "U" => State::Union {
+            alternates: values::items(alloc, parts)?,
+        },
+        "BU" => binary_union(parts)?,
+        "C" => State::Capture {
+            next: StateID::read(parts)?,
+        },
+        "F" => State::Fail,
+        "M" => State::Match {
+            pattern_id: PatternID::read(parts)?,
+        },
+        _ => return Err(TextError::Malformed(Part::State)),
+    };
+    Ok(state)
 }
 
 impl Item for Transition {
@@ -55,35 +66,24 @@ impl Item for Transition {
         Ok(Transition {
             start: values::byte(start)?,
             end: values::byte(end)?,
-            next: values::state_id(next)?,
+            next: StateID::read(next)?,
         })
     }
-}
-
-/// Returns a state with one transition.
-fn byte_range<A: Allocator>(parts: &str) -> Result<State<A>, TextError> {
-    Ok(State::ByteRange {
-        trans: Transition::read(parts)?,
-    })
-}
-
-/// Returns a sparse state.
-fn sparse<A: Allocator>(alloc: A, parts: &str) -> Result<State<A>, TextError> {
-    Ok(State::Sparse(SparseTransitions {
-        transitions: values::items(alloc, parts)?,
-    }))
 }
 
 /// Writes the transitions of a text into a table. Returns an error for a range whose first byte is
 /// above its last, since it would write nothing.
 fn write_ranges(table: &mut [StateID; 256], parts: &str) -> Result<(), TextError> {
-    if !parts.is_empty() {
-        for part in parts.split(',') {
-            let read = Transition::read(part)?;
-            if read.start > read.end {
-                return Err(TextError::Malformed(Part::ByteRange));
-            }
-            write_range(table, read);
+    if parts.is_empty() {
+        return Ok(());
+    }
+    for part in parts.split(',') {
+        let Transition { start, end, next } = Transition::read(part)?;
+        if start > end {
+            return Err(TextError::Malformed(Part::ByteRange));
+        }
+        for byte in start..=end {
+            table[usize::from(byte)] = next;
         }
     }
     Ok(())
@@ -97,13 +97,6 @@ fn dense<A: Allocator>(alloc: A, parts: &str) -> Result<State<A>, TextError> {
     Ok(State::Dense(DenseTransitions { transitions }))
 }
 
-/// Writes the target of a transition at each of its bytes.
-fn write_range(table: &mut [StateID; 256], transition: Transition) {
-    for byte in transition.start..=transition.end {
-        table[usize::from(byte)] = transition.next;
-    }
-}
-
 /// Returns a `Look` state.
 fn look<A: Allocator>(parts: &str) -> Result<State<A>, TextError> {
     let Some((name, next)) = parts.split_once('>') else {
@@ -111,14 +104,7 @@ fn look<A: Allocator>(parts: &str) -> Result<State<A>, TextError> {
     };
     Ok(State::Look {
         look: values::look(name)?,
-        next: values::state_id(next)?,
-    })
-}
-
-/// Returns a union.
-fn union<A: Allocator + Copy>(alloc: A, parts: &str) -> Result<State<A>, TextError> {
-    Ok(State::Union {
-        alternates: values::items(alloc, parts)?,
+        next: StateID::read(next)?,
     })
 }
 
@@ -128,21 +114,7 @@ fn binary_union<A: Allocator>(parts: &str) -> Result<State<A>, TextError> {
         return Err(TextError::Malformed(Part::Union));
     };
     Ok(State::BinaryUnion {
-        alt1: values::state_id(first)?,
-        alt2: values::state_id(second)?,
-    })
-}
-
-/// Returns a capture.
-fn capture<A: Allocator>(parts: &str) -> Result<State<A>, TextError> {
-    Ok(State::Capture {
-        next: values::state_id(parts)?,
-    })
-}
-
-/// Returns a `Match` state.
-fn matching<A: Allocator>(parts: &str) -> Result<State<A>, TextError> {
-    Ok(State::Match {
-        pattern_id: values::pattern_id(parts)?,
+        alt1: StateID::read(first)?,
+        alt2: StateID::read(second)?,
     })
 }

@@ -61,13 +61,12 @@ fn digit(byte: u8) -> Option<u8>
 
 /// Returns the byte of two hexadecimal digits.
 fn pair(digits: &[u8]) -> Result<u8, TextError> {
-    let [high, low] = digits else {
-        return Err(TextError::Malformed(Part::Digit));
-    };
-    match (digit(*high), digit(*low)) {
-        (Some(high), Some(low)) => Ok(high * 16 + low),
-        _ => Err(TextError::Malformed(Part::Digit)),
+    if let [high, low] = digits {
+        if let (Some(high), Some(low)) = (digit(*high), digit(*low)) {
+            return Ok(high * 16 + low);
+        }
     }
+    Err(TextError::Malformed(Part::Digit))
 }
 
 /// Returns the byte of a text of two hexadecimal digits.
@@ -103,25 +102,9 @@ pub fn bytes<A: Allocator>(alloc: A, text: &str) -> Result<Vec<u8, A>, TextError
 
 /// Returns a decimal number, which has digits only.
 pub fn number(text: &str) -> Result<usize, TextError> {
-    if text.starts_with('+') {
-        return Err(TextError::Malformed(Part::Number));
-    }
-    Ok(text.parse::<usize>()?)
-}
-
-/// Returns the id of an NFA state.
-pub fn state_id(text: &str) -> Result<StateID, TextError> {
-    match StateID::new(number(text)?) {
-        Ok(id) => Ok(id),
-        Err(_) => Err(TextError::Malformed(Part::StateId)),
-    }
-}
-
-/// Returns the id of a pattern.
-pub fn pattern_id(text: &str) -> Result<PatternID, TextError> {
-    match PatternID::new(number(text)?) {
-        Ok(id) => Ok(id),
-        Err(_) => Err(TextError::Malformed(Part::PatternId)),
+    match text.parse::<usize>() {
+        Ok(number) if !text.starts_with('+') => Ok(number),
+        _ => Err(TextError::Malformed(Part::Number)),
     }
 }
 
@@ -133,13 +116,19 @@ pub trait Item: Copy {
 
 impl Item for StateID {
     fn read(text: &str) -> Result<StateID, TextError> {
-        state_id(text)
+        match StateID::new(number(text)?) {
+            Ok(id) => Ok(id),
+            Err(_) => Err(TextError::Malformed(Part::StateId)),
+        }
     }
 }
 
 impl Item for PatternID {
     fn read(text: &str) -> Result<PatternID, TextError> {
-        pattern_id(text)
+        match PatternID::new(number(text)?) {
+            Ok(id) => Ok(id),
+            Err(_) => Err(TextError::Malformed(Part::PatternId)),
+        }
     }
 }
 
@@ -178,24 +167,6 @@ impl fmt::Display for Hex<'_> {
     fn fmt<W: fmt::Write>(&self, f: &mut fmt::Formatter<W>) -> fmt::Result {
         for byte in self.0 {
             write!(f, "{byte:02x}")?;
-        }
-        Ok(())
-    }
-}
-
-/// Ids, joined by commas, or `-` if there is none.
-#[derive(Clone, Copy)]
-pub struct Ids<'a, T>(pub &'a [T]);
-
-impl<T: fmt::Display> fmt::Display for Ids<'_, T> {
-    fn fmt<W: fmt::Write>(&self, f: &mut fmt::Formatter<W>) -> fmt::Result {
-        if self.0.is_empty() {
-            return f.write_str("-");
-        }
-        let mut comma = "";
-        for id in self.0 {
-            write!(f, "{comma}{id}")?;
-            comma = ",";
         }
         Ok(())
     }

@@ -42,30 +42,18 @@ fn insert_down<R: Abort>(rt: &R, set: &mut SparseSet, is_new: bool) {
     }
 }
 
-/// Returns an empty set for ids below the capacity.
-fn set_of<R: Abort + AllocGlobal>(rt: &R, capacity: usize) -> SparseSet {
-    holds(rt, capacity <= 128);
-    SparseSet::new(rt.alloc(), capacity).expect(rt, "memory")
-}
-
+/// Fills a set from the greatest id down, reads it, clears it, and fills it again.
 #[test]
 fn sparse_sets(rt: HostRuntime) {
     for capacity in [0, 1, 63, 64, 65, 128] {
-        let mut set = set_of(&rt, capacity);
+        holds(&rt, capacity <= 128);
+        let mut set = SparseSet::new(rt.alloc(), capacity).expect(&rt, "memory");
         insert_down(&rt, &mut set, true);
         insert_down(&rt, &mut set, false);
         same(&rt, set.len(), capacity);
         for (id, number) in set.iter().zip((0..capacity).rev()) {
             same(&rt, id.as_usize(), number);
         }
-    }
-}
-
-#[test]
-fn cleared_sparse_sets(rt: HostRuntime) {
-    for capacity in [0, 1, 63, 64, 65, 128] {
-        let mut set = set_of(&rt, capacity);
-        insert_down(&rt, &mut set, true);
         set.clear();
         insert_down(&rt, &mut set, true);
     }

@@ -1,322 +1,245 @@
 //! Walks and searches through one cache: what they find, what is cached, and what is computed.
 
-ghost use Rattle.std.specs.Prelude.{◌≡◌, ◌<◌, length, true};
+ghost use Rattle.std.specs.Prelude.{◌≡◌, true};
 ghost use Rattle.determinize_engine.specs.Searches.{has_start};
 
-use crate::tests::{ended, holds, nfa_of, same, same_at, texts, write_numbers};
-use determinize_below::{Anchored, Input, MatchKind, NFA, StateID};
-use determinize_core::determinize::{last_match, walk_between};
+use crate::tests::{ended, holds, parts_of, same, same_at, texts, write_numbers};
+use determinize_below::{Anchored, Input, MatchKind, NFA};
+use determinize_core::determinize::last_match;
 use determinize_core::state::State;
 use determinize_lazy::Lazy;
 use example_walks::fields::Fields;
-use std::alloc::{AllocError, Allocator, Global};
+use example_walks::values::{bytes, number};
+use example_walks::walk::Place;
 use std::process::Abort;
 
 /// `\b\w+\b` of ASCII words.
 const WORDS: &str = "L:WordAscii>1 S:30-39>2,41-5a>2,5f-5f>2,61-7a>2 BU:1,3 L:WordAscii>4 M:0";
 
-/// Returns the NFA of these states, which starts in the first one, for forward or reverse scans.
-pub fn nfa<R: Abort + AllocGlobal>(rt: &R, states: &str, is_backward: bool) -> NFA {
-    let direction = if is_backward { "dir=rev" } else { "dir=fwd" };
+/// Calls through caches, which follow a line with the limit and the NFA of their cache.
+///
+/// `walk` makes a walk whose last match, of pattern 0, ends at this offset, and `second` are the
+/// bytes of its second state. `search` searches a range of a haystack. `counts` has the numbers of
+/// computed transitions and of cached states.
+const CALLS: &str = "\
+# what is kept of walks over a word, also after it is cleared
+= cache kind=leftmost-first limit=16 | WORDS
+walk text=71756172747a end=6
+counts computed=7 kept=3
+debug LazyDfa { match_kind: LeftmostFirst, limit: 16, states_kept: 3, computed: 7, .. }
+walk text=71756172747a end=6
+counts computed=7 kept=3
+= cache kind=leftmost-first limit=16 | WORDS
+walk text=71756172747a end=6
+clear
+walk text=71756172747a end=6
+counts computed=14 kept=3
+# the word without its first byte, which then is the look-behind
+= cache kind=leftmost-first limit=16 | WORDS
+walk text=756172747a end=5
+counts computed=6 kept=3
+walk lb=71 text=756172747a end=-
+counts computed=12 kept=5
+# what small caches keep
+= cache kind=leftmost-first limit=2 | WORDS
+walk text=71756172747a end=6
+counts computed=7 kept=2
+walk text=71756172747a end=6
+counts computed=14 kept=2
+= cache kind=leftmost-first limit=0 | WORDS
+walk text=71756172747a end=6
+counts computed=7 kept=0
+walk text=71756172747a end=6
+counts computed=14 kept=0
+= cache kind=leftmost-first limit=1 | WORDS
+walk lb=71 text=756172747a end=-
+counts computed=6 kept=1
+walk lb=71 text=756172747a end=-
+counts computed=12 kept=1
+# the beginning of a word before a word byte, before another byte, and before EOI
+= cache kind=leftmost-first limit=16 | WORDS
+walk text=71756172 after=74 end=-
+walk text=71756172 after=20 end=4
+walk text=71756172 end=4
+# a boundary of Unicode words, unanchored: an empty text, and one with a byte that is no word byte
+= cache limit=16 | BU:2,1 B:00-ff>0 L:WordUnicode>3 M:0
+walk text=- end=- second=000000000000000000
+walk text=00 end=- second=000040010000010000000401
+# in a haystack: a whole word, its first half, its second half, a range that ends before its start
+= cache kind=all limit=16 | WORDS
+search hay=3d3d2071756172747a203d3d from=3 to=9 end=9
+search hay=3d3d2071756172747a203d3d from=3 to=6 end=-
+search hay=3d3d2071756172747a203d3d from=6 to=9 end=-
+search hay=3d3d2071756172747a203d3d from=4 to=3 end=-
+= cache kind=leftmost-first limit=16 | WORDS
+search hay=3d3d2071756172747a203d3d from=3 to=9 end=9
+search hay=3d3d2071756172747a203d3d from=3 to=6 end=-
+search hay=3d3d2071756172747a203d3d from=6 to=9 end=-
+search hay=3d3d2071756172747a203d3d from=4 to=3 end=-
+# a range that ends before its start, and an empty one
+= cache limit=16 | M:0
+search hay=3d3d2071756172747a203d3d from=4 to=3 end=-
+counts computed=0 kept=0
+search hay=3d3d2071756172747a203d3d from=4 to=4 end=4
+counts computed=1 kept=2
+= cache dir=rev limit=16 | M:0
+search hay=3d3d2071756172747a203d3d from=4 to=3 end=-
+counts computed=0 kept=0
+search hay=3d3d2071756172747a203d3d from=4 to=4 end=4
+counts computed=1 kept=2
+";
+
+/// Returns the NFA of these states, which starts in the first one, for a direction.
+pub fn nfa<R: Abort + AllocGlobal>(rt: &R, states: &str, direction: &str) -> NFA {
     let fields = Fields {
         words: Some(direction),
         states: Some(states),
     };
-    nfa_of(rt, &fields)
+    fields.nfa(rt.alloc()).expect(rt, "an NFA")
 }
 
-/// Returns the state of the NFA of a cache where its walks start.
-pub fn start_of<A: Allocator + Copy>(lazy: &Lazy<'_, Global, A>) -> StateID
-    ensures { result < length lazy.now.nfa.states }
-{
-    lazy.nfa().start_anchored()
-}
-
-/// Returns a new cache with a limit.
-fn cache<'n, R: Abort + AllocGlobal>(
-    rt: &R,
-    nfa: &'n NFA,
-    kind: MatchKind,
-    limit: usize,
-) -> Lazy<'n> {
-    let lazy = Lazy::new(rt.alloc(), nfa, kind, limit);
-    same(rt, (lazy.limit(), lazy.memory_usage()), (limit, 0));
-    lazy
-}
-
-/// Returns the states of a walk through a cache.
-pub fn states_through<A: Allocator + Copy>(
-    lazy: &mut Lazy<'_, Global, A>,
-    behind: Option<u8>,
-    text: &[u8],
-    ahead: Option<u8>,
-) -> Result<Vec<State<A>, A>, AllocError> {
-    let start = start_of(lazy);
-    match ahead {
-        None => lazy.walk(start, behind, text),
-        ahead => lazy.walk_between(start, behind, text, ahead),
+/// Returns the number of a key, or `None` for `-`.
+fn number_of<R: Abort>(rt: &R, fields: &Fields<'_>, key: &str) -> Option<usize> {
+    match fields.value_or_none(key) {
+        "-" => None,
+        text => Some(number(text).expect(rt, "a number")),
     }
 }
 
-/// Returns the states of a walk through the cache, which are those of a walk without it.
-fn walk_through<R: Abort + AllocGlobal>(
-    rt: &R,
-    lazy: &mut Lazy<'_>,
-    behind: Option<u8>,
-    text: &[u8],
-    ahead: Option<u8>,
-) -> Vec<State> {
-    let states = states_through(lazy, behind, text, ahead).expect(rt, "memory");
-    let (nfa, kind, start) = (lazy.nfa(), lazy.match_kind(), start_of(lazy));
-    let wanted = walk_between(rt.alloc(), nfa, kind, start, behind, text, ahead);
-    holds(rt, wanted.expect(rt, "memory") == states);
-    states
+/// Makes a walk through a cache, and compares the end of its last match and, if they are known, the
+/// bytes of its second state.
+fn walk<R: Abort + AllocGlobal>(rt: &R, lazy: &mut Lazy<'_>, call: &Fields<'_>) {
+    let (start, wanted) = (lazy.nfa().start_anchored(), number_of(rt, call, "end"));
+    let place = Place::of(rt.alloc(), call).expect(rt, "a place");
+    let states = lazy.walk_between(start, place.behind, place.text.as_slice(), place.ahead);
+    let states = states.expect(rt, "memory");
+    same_at(rt, call.words, last_match(states.as_slice()), ended(wanted));
+    if let Some(text) = call.value("second") {
+        let wanted = bytes(rt.alloc(), text).expect(rt, "bytes");
+        let second = states.get(1).expect(rt, "two states");
+        same(rt, second.as_bytes(), wanted.as_slice());
+    }
 }
 
-/// Searches an input, whose anchored mode names no pattern, and tests whether it has a match.
+/// Searches an input for a match of pattern 0 that ends here, and tests whether it has a match.
 fn search<R: Abort>(rt: &R, lazy: &mut Lazy<'_>, input: &Input<'_>, wanted: Option<usize>)
     requires { has_start input.now.anchored ≡ true }
 {
     let found = (lazy.search_input(input), lazy.is_match(input));
-    same(rt, found, (Ok(ended(wanted)), Ok(wanted.is_some())));
+    same_at(
+        rt,
+        input.start(),
+        found,
+        (Ok(ended(wanted)), Ok(wanted.is_some())),
+    );
 }
 
-/// Walks over a text, whose last match ends at this offset.
-fn walk<R: Abort + AllocGlobal>(
-    rt: &R,
-    lazy: &mut Lazy<'_>,
-    behind: Option<u8>,
-    text: &[u8],
-    ahead: Option<u8>,
-    wanted: Option<usize>,
-) {
-    let states = walk_through(rt, lazy, behind, text, ahead);
-    let found = last_match(states.as_slice());
-    same_at(rt, text, found, ended(wanted));
-}
-
-/// Walks over a text, and compares the bytes of the second state.
-fn second<R: Abort + AllocGlobal>(rt: &R, lazy: &mut Lazy<'_>, text: &[u8], wanted: &[u8]) {
-    let states = walk_through(rt, lazy, None, text, None);
-    let second = states.get(1).expect(rt, "two states");
-    same(rt, second.as_bytes(), wanted);
-}
-
-/// Searches a text, whose match of pattern 0 ends at this offset.
-fn search_text<R: Abort>(rt: &R, lazy: &mut Lazy<'_>, text: &[u8], wanted: Option<usize>) {
-    let found = lazy.search(start_of(lazy), None, text, None);
-    same(rt, found, Ok(ended(wanted)));
+/// Searches a range of a haystack.
+fn search_range<R: Abort + AllocGlobal>(rt: &R, lazy: &mut Lazy<'_>, call: &Fields<'_>) {
+    let haystack = bytes(rt.alloc(), call.value_or_none("hay")).expect(rt, "bytes");
+    let start = number_of(rt, call, "from").unwrap_or(0);
+    let end = number_of(rt, call, "to").unwrap_or(0);
+    holds(rt, end <= haystack.len());
+    holds(rt, start <= end + 1);
+    let input = Input::new(haystack.as_slice()).range(start..end);
+    same(rt, input.is_done(), start > end);
+    search(rt, lazy, &input, number_of(rt, call, "end"));
 }
 
 /// Compares the numbers of computed transitions and of cached states.
-fn counts<R: Abort>(rt: &R, lazy: &Lazy<'_>, computed: u64, kept: usize) {
-    let found = (lazy.computed(), lazy.states_kept());
-    same_at(rt, lazy.limit(), found, (computed, kept));
+fn counts<R: Abort>(rt: &R, lazy: &Lazy<'_>, computed: usize, kept: usize) {
+    let found = (usize::try_from(lazy.computed()).ok(), lazy.states_kept());
+    same_at(rt, lazy.limit(), found, (Some(computed), kept));
 }
 
-/// Returns the input of a search of a range of a haystack.
-fn input_of<'h, R: Abort>(rt: &R, haystack: &'h [u8], start: usize, end: usize) -> Input<'h>
-    ensures { has_start result.anchored ≡ true }
-{
-    holds(rt, end <= haystack.len());
-    holds(rt, start <= end + 1);
-    Input::new(haystack).range(start..end)
-}
-
-/// Letters after bytes ff.
-const LETTERS: &[u8] = b"\xff\xffaa\xffa";
-
-/// Searches for letters that begin after a byte ff which is in the range, and before it. Searches
-/// for letters that end after the last letter, and before the byte ff in front of it.
-fn expect_letters<R: Abort>(rt: &R, lazy: &mut Lazy<'_>) {
-    let mut input = Input::new(LETTERS).range(1..4).anchored(Anchored::Yes);
-    search(rt, lazy, &input, Some(1));
-    input.set_start(2);
-    search(rt, lazy, &input, None);
-    input.set_range(1..6);
-    search(rt, lazy, &input, Some(4));
-    input.set_end(4);
-    search(rt, lazy, &input, Some(1));
-}
-
-/// A call through a cache, and what it finds.
-#[derive(Clone, Copy)]
-enum Call<'t> {
-    /// Walks over a text between these bytes, where the last match ends at this offset.
-    Walk(Option<u8>, &'t [u8], Option<u8>, Option<usize>),
-    /// Searches a text, where the match ends at this offset.
-    SearchText(&'t [u8], Option<usize>),
-    /// Searches the range of a haystack from the first offset to the second one, where the match
-    /// ends at the last one.
-    Search(&'t [u8], usize, usize, Option<usize>),
-    /// Compares the numbers of computed transitions and of cached states.
-    Counts(u64, usize),
-    /// Clears the cache.
-    Clear,
-    /// Compares the debug text of the cache.
-    Text(&'t str),
-}
-
-/// Makes these calls through a cache.
-fn make_calls<R: Abort + AllocGlobal>(rt: &R, lazy: &mut Lazy<'_>, calls: &[Call<'_>]) {
-    for call in calls {
-        match *call {
-            Call::Walk(behind, text, ahead, end) => walk(rt, lazy, behind, text, ahead, end),
-            Call::SearchText(text, end) => search_text(rt, lazy, text, end),
-            Call::Search(haystack, start, end, wanted) => {
-                search(rt, lazy, &input_of(rt, haystack, start, end), wanted)
-            }
-            Call::Counts(computed, kept) => counts(rt, lazy, computed, kept),
-            Call::Clear => lazy.clear(),
-            Call::Text(wanted) => texts::expect_text(rt, lazy, wanted),
+/// Makes a call through a cache.
+fn make<R: Abort + AllocGlobal>(rt: &R, lazy: &mut Lazy<'_>, line: &str) {
+    let (verb, call) = Fields::split(line);
+    match verb {
+        "walk" => walk(rt, lazy, &call),
+        "search" => search_range(rt, lazy, &call),
+        "counts" => {
+            let computed = number_of(rt, &call, "computed").unwrap_or(0);
+            counts(
+                rt,
+                lazy,
+                computed,
+                number_of(rt, &call, "kept").unwrap_or(0),
+            );
         }
+        "clear" => lazy.clear(),
+        "debug" => texts::expect_text(rt, lazy, parts_of(line, " ").1),
+        _ => holds(rt, verb == "#"),
     }
 }
 
-/// Makes calls through a new cache with a limit, over the NFA of these states.
-fn make<R: Abort + AllocGlobal>(
-    rt: &R,
-    states: &str,
-    is_backward: bool,
-    kind: MatchKind,
-    limit: usize,
-    calls: &[Call<'_>],
-) {
-    let nfa = nfa(rt, states, is_backward);
-    make_calls(rt, &mut cache(rt, &nfa, kind, limit), calls);
-}
-
-/// Walks over a word.
-const WALK: Call<'static> = Call::Walk(None, b"quartz", None, Some(6));
-
-/// Walks over the word without its first byte, which is the look-behind.
-const INSIDE: Call<'static> = Call::Walk(Some(b'q'), b"uartz", None, None);
-
-/// Walks over the word without its first byte.
-const REST: Call<'static> = Call::Walk(None, b"uartz", None, Some(5));
-
-/// The text of a cache after a walk over `quartz`, with three states and seven transitions.
-const TEXT: Call<'static> = Call::Text(
-    "LazyDfa { match_kind: LeftmostFirst, limit: 16, states_kept: 3, computed: 7, .. }",
-);
-
-#[test]
-fn what_is_kept(rt: HostRuntime) {
-    let first = MatchKind::LeftmostFirst;
-    let all = [WALK, Call::Counts(7, 3), TEXT, WALK, Call::Counts(7, 3)];
-    make(&rt, WORDS, false, first, 16, &all);
-    let cleared = [WALK, Call::Clear, WALK, Call::Counts(14, 3)];
-    make(&rt, WORDS, false, first, 16, &cleared);
-    let rest = [REST, Call::Counts(6, 3), INSIDE, Call::Counts(12, 5)];
-    make(&rt, WORDS, false, first, 16, &rest);
+/// Makes the calls of these lines, of which the first describes the cache.
+fn make_each<R: Abort + AllocGlobal>(rt: &R, head: &str, lines: &str) {
+    let (_, given) = Fields::split(head);
+    let mut fields = given;
+    if fields.states == Some("WORDS") {
+        fields.states = Some(WORDS);
+    }
+    let nfa = fields.nfa(rt.alloc()).expect(rt, "an NFA");
+    let kind = fields.match_kind().expect(rt, "a match kind");
+    let limit = number_of(rt, &fields, "limit").unwrap_or(0);
+    let mut lazy = Lazy::new(rt.alloc(), &nfa, kind, limit);
+    same(rt, (lazy.limit(), lazy.memory_usage()), (limit, 0));
+    for line in lines.lines() {
+        make(rt, &mut lazy, line);
+    }
 }
 
 #[test]
-fn what_small_caches_keep(rt: HostRuntime) {
-    let first = MatchKind::LeftmostFirst;
-    let two = [WALK, Call::Counts(7, 2), WALK, Call::Counts(14, 2)];
-    make(&rt, WORDS, false, first, 2, &two);
-    let none = [WALK, Call::Counts(7, 0), WALK, Call::Counts(14, 0)];
-    make(&rt, WORDS, false, first, 0, &none);
-    let inside = [INSIDE, Call::Counts(6, 1), INSIDE, Call::Counts(12, 1)];
-    make(&rt, WORDS, false, first, 1, &inside);
+fn calls(rt: HostRuntime) {
+    for part in CALLS.split("= ").skip(1) {
+        let (head, lines) = parts_of(part, "\n");
+        make_each(&rt, head, lines);
+    }
 }
 
-/// The beginning of a word before a word byte, before another byte, and before EOI.
-#[test]
-fn bytes_ahead(rt: HostRuntime) {
-    let calls = [
-        Call::Walk(None, b"quar", Some(b't'), None),
-        Call::Walk(None, b"quar", Some(b' '), Some(4)),
-        Call::Walk(None, b"quar", None, Some(4)),
-    ];
-    make(&rt, WORDS, false, MatchKind::LeftmostFirst, 16, &calls);
-}
-
-/// `\b` of Unicode words, unanchored: an empty text, and one with a byte that is no word byte.
-#[test]
-fn the_end_is_no_byte(rt: HostRuntime) {
-    let nfa = nfa(&rt, "BU:2,1 B:00-ff>0 L:WordUnicode>3 M:0", false);
-    let mut lazy = cache(&rt, &nfa, MatchKind::All, 16);
-    second(&rt, &mut lazy, b"", &[0; 9]);
-    let wanted = b"\0\0\x40\x01\0\0\x01\0\0\0\x04\x01";
-    second(&rt, &mut lazy, b"\0", wanted);
-}
-
-/// A word between other bytes.
-const HAYSTACK: &[u8] = b"== quartz ==";
-
-/// A whole word, its first half, its second half, and a range that ends before its start: only the
-/// whole word has a match.
-#[test]
-fn ranges_of_words(rt: HostRuntime) {
-    let calls = [
-        Call::Search(HAYSTACK, 3, 9, Some(9)),
-        Call::Search(HAYSTACK, 3, 6, None),
-        Call::Search(HAYSTACK, 6, 9, None),
-        Call::Search(HAYSTACK, 4, 3, None),
-    ];
-    make(&rt, WORDS, false, MatchKind::All, 16, &calls);
-    make(&rt, WORDS, false, MatchKind::LeftmostFirst, 16, &calls);
-}
-
-/// A range that ends before its start, and an empty one.
-#[test]
-fn nothing_to_search(rt: HostRuntime) {
-    same(&rt, Input::new(HAYSTACK).range(4..3).is_done(), true);
-    let calls = [
-        Call::Search(HAYSTACK, 4, 3, None),
-        Call::Counts(0, 0),
-        Call::Search(HAYSTACK, 4, 4, Some(4)),
-        Call::Counts(1, 2),
-    ];
-    make(&rt, "M:0", false, MatchKind::All, 16, &calls);
-    make(&rt, "M:0", true, MatchKind::All, 16, &calls);
-}
-
-/// Letters after a byte ff, by searches in reverse from the end of a range.
+/// Searches in reverse for letters that begin after a byte ff which is in the range, and before it,
+/// and for letters that end after the last letter, and before the byte ff in front of it.
 #[test]
 fn ranges_backward(rt: HostRuntime) {
-    let nfa = nfa(&rt, "BU:1,2 B:61>0 B:ff>3 M:0", true);
-    expect_letters(&rt, &mut cache(&rt, &nfa, MatchKind::All, 16));
+    let nfa = nfa(&rt, "BU:1,2 B:61>0 B:ff>3 M:0", "dir=rev");
+    let mut lazy = Lazy::new(rt.alloc(), &nfa, MatchKind::All, 16);
+    let mut input = Input::new(b"\xff\xffaa\xffa")
+        .range(1..4)
+        .anchored(Anchored::Yes);
+    search(&rt, &mut lazy, &input, Some(1));
+    input.set_start(2);
+    search(&rt, &mut lazy, &input, None);
+    input.set_range(1..6);
+    search(&rt, &mut lazy, &input, Some(4));
+    input.set_end(4);
+    search(&rt, &mut lazy, &input, Some(1));
 }
 
-/// Returns a word of `len` bytes.
-fn word<R: Abort + AllocGlobal>(rt: &R, len: usize) -> Vec<u8> {
-    vec![in rt.alloc(); b'a'; len].expect(rt, "memory")
-}
-
-/// Searches a haystack that is one word of `len` bytes, for which three transitions and states are
-/// enough. The match ends at the end of the word or, in reverse, at its start.
-fn expect_word<R: Abort + AllocGlobal>(rt: &R, kind: MatchKind, is_backward: bool, len: usize) {
-    let word = word(rt, len);
-    let end = if is_backward { 0 } else { len };
-    let calls = [
-        Call::Search(word.as_slice(), 0, len, Some(end)),
-        Call::Counts(3, 3),
-    ];
-    make(rt, WORDS, is_backward, kind, 16, &calls);
+/// Searches a haystack that is one word, for which three transitions and states are enough. The
+/// match ends at the end of the word or, in reverse, at its start.
+fn expect_word<R: Abort + AllocGlobal>(rt: &R, kind: MatchKind, direction: &str, len: usize) {
+    let word = vec![in rt.alloc(); b'a'; len].expect(rt, "memory");
+    let nfa = nfa(rt, WORDS, direction);
+    let mut lazy = Lazy::new(rt.alloc(), &nfa, kind, 16);
+    let end = if nfa.is_reverse() { 0 } else { len };
+    search(rt, &mut lazy, &Input::new(word.as_slice()), Some(end));
+    counts(rt, &lazy, 3, 3);
+    let start = lazy.nfa().start_anchored();
+    let found = lazy.search(start, None, word.as_slice(), None);
+    same(rt, found, Ok(ended(Some(len))));
 }
 
 #[test]
 fn long_haystacks_forward(rt: HostRuntime) {
-    expect_word(&rt, MatchKind::LeftmostFirst, false, 10_000_000);
-    expect_word(&rt, MatchKind::All, false, 1_000_000);
+    expect_word(&rt, MatchKind::LeftmostFirst, "dir=fwd", 10_000_000);
+    expect_word(&rt, MatchKind::All, "dir=fwd", 1_000_000);
 }
 
 #[test]
 fn long_haystacks_backward(rt: HostRuntime) {
-    expect_word(&rt, MatchKind::All, true, 10_000_000);
-    expect_word(&rt, MatchKind::LeftmostFirst, true, 1_000_000);
-}
-
-/// A text that is one word of a million bytes.
-#[test]
-fn long_text_under_both_kinds(rt: HostRuntime) {
-    let word = word(&rt, 1_000_000);
-    let calls = [Call::SearchText(word.as_slice(), Some(1_000_000))];
-    make(&rt, WORDS, false, MatchKind::All, 16, &calls);
-    make(&rt, WORDS, false, MatchKind::LeftmostFirst, 16, &calls);
+    expect_word(&rt, MatchKind::All, "dir=rev", 10_000_000);
+    expect_word(&rt, MatchKind::LeftmostFirst, "dir=rev", 1_000_000);
 }
 
 /// The bytes that a cached state uses: a row of 258 numbers, the state in the list and as a key,
@@ -347,32 +270,26 @@ fn heap_bytes(states: &[State]) -> usize {
     bytes
 }
 
-/// Compares the memory of a cache after one walk, of these states, with its memory after it is
-/// cleared, which is that of the sets and of the builder.
-fn expect_taken<R: Abort>(rt: &R, lazy: &mut Lazy<'_>, states: &[State]) {
-    let cached = lazy.states_kept().saturating_mul(STATE);
-    let used = lazy.memory_usage();
-    lazy.clear();
-    let left = lazy.memory_usage();
-    let taken = cached.saturating_add(heap_bytes(states));
-    same(rt, used, left.saturating_add(taken));
-    same(rt, (left > 0, left < 600), (true, true));
-}
-
 /// Walks over a text through a new cache, and compares the numbers of transitions computed and of
-/// states cached, and the memory that they use.
+/// states cached, and its memory with that after it is cleared: that of the sets and the builder.
 fn expect_memory<R: Abort + AllocGlobal>(
     rt: &R,
     states: &str,
     text: &[u8],
-    computed: u64,
+    computed: usize,
     kept: usize,
 ) {
-    let nfa = nfa(rt, states, false);
-    let mut lazy = cache(rt, &nfa, MatchKind::All, 2_100);
-    let states = walk_through(rt, &mut lazy, None, text, None);
+    let nfa = nfa(rt, states, "dir=fwd");
+    let mut lazy = Lazy::new(rt.alloc(), &nfa, MatchKind::All, 2_100);
+    let states = lazy.walk(nfa.start_anchored(), None, text);
+    let states = states.expect(rt, "memory");
     counts(rt, &lazy, computed, kept);
-    expect_taken(rt, &mut lazy, states.as_slice());
+    let used = lazy.memory_usage();
+    lazy.clear();
+    let (left, cached) = (lazy.memory_usage(), kept.saturating_mul(STATE));
+    let taken = cached.saturating_add(heap_bytes(states.as_slice()));
+    same(rt, used, left.saturating_add(taken));
+    same(rt, (left > 0, left < 600), (true, true));
 }
 
 /// Returns the `count` states of `[01]*1[01]{n}`, where `n` is `count` minus 4. A match ends after

@@ -2,7 +2,7 @@
 //! numbers of patterns and NFA states of each state follow from the shape of the NFA.
 
 use crate::tests::texts::expect_text;
-use crate::tests::{ended, nfa_of, same, same_at, write_numbers};
+use crate::tests::{ended, same, same_at, write_numbers};
 use determinize_below::{HalfMatch, MatchKind, NFA};
 use determinize_core::determinize::{last_match, walk};
 use determinize_core::state::State;
@@ -22,7 +22,7 @@ fn nfa<R: Abort + AllocGlobal>(rt: &R, states: &str, start: &str) -> NFA {
         words: Some(start),
         states: Some(states),
     };
-    nfa_of(rt, &fields)
+    fields.nfa(rt.alloc()).expect(rt, "an NFA")
 }
 
 /// Returns a text between two others, this number of times.
@@ -43,21 +43,6 @@ pub fn repeated<R: Abort + AllocGlobal>(
 
 /// The numbers of patterns and of NFA states of a state.
 type Sizes = (usize, usize);
-
-/// Returns the numbers of patterns and of NFA states of a state.
-fn sizes_of<R: Abort + AllocGlobal>(rt: &R, state: &State) -> Sizes {
-    let ids = state.iter_nfa_state_ids().collect::<Vec<_>>(rt.alloc());
-    (state.match_len(), ids.expect(rt, "memory").len())
-}
-
-/// Compares the sizes of each state.
-fn expect_sizes<R: Abort + AllocGlobal>(rt: &R, states: &[State], wanted: &[Sizes]) {
-    same(rt, states.len(), wanted.len());
-    for (index, state) in states.iter().enumerate() {
-        let sizes = sizes_of(rt, state);
-        same_at(rt, index, Some(&sizes), wanted.get(index));
-    }
-}
 
 /// Returns the states of a walk over a text.
 fn states_of<R: Abort + AllocGlobal>(
@@ -80,8 +65,12 @@ fn expect<R: Abort + AllocGlobal>(
     last: Option<HalfMatch>,
 ) {
     let states = states_of(rt, kind, nfa, b"ab");
-    expect_sizes(rt, states.as_slice(), &wanted);
-    same(rt, last_match(states.as_slice()), last);
+    same(rt, (states.len(), last_match(states.as_slice())), (4, last));
+    for (index, state) in states.iter().enumerate() {
+        let ids = state.iter_nfa_state_ids().collect::<Vec<_>>(rt.alloc());
+        let sizes = (state.match_len(), ids.expect(rt, "memory").len());
+        same_at(rt, index, Some(&sizes), wanted.get(index));
+    }
 }
 
 /// Walks over `ab` by the NFA of a chain, each of whose states is written as the id of the next one

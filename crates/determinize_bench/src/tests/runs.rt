@@ -201,6 +201,18 @@ none--
 ==
 0
 --
+> walk text=61 | B:61>1 M:0
+00000000000000000000
+# a comment is no line of an answer
+00000000000000000002
+010000000000000000
+match 0 1
+--
+1 jobs, 0 differ, 0 skipped
+--
+==
+0
+--
 > walk after=62 | M:0
 00000000000000000000
 010000000000000000
@@ -363,20 +375,22 @@ fn lines_that_cannot_be_read(rt: HostRuntime) {
     );
 }
 
-/// Compares the status and the message of a run whose output fails after a number of writes.
-fn expect_failing<R: Abort + AllocGlobal>(rt: &R, left: u32, status: u8, told: &str) {
-    let mut out = Failing { left };
-    let mut err = Vec::new(rt.alloc());
-    let found = run(rt.alloc(), &[], WRONG_FIRST.as_bytes(), &mut out, &mut err);
-    same_at(rt, left, (found, err.as_slice()), (status, told.as_bytes()));
-}
-
 #[test]
 fn output_that_fails(rt: HostRuntime) {
-    for left in 0u32..8 {
-        expect_failing(&rt, left, 2, "the output can't be written\n");
+    for left in [0u32, 1, 2, 3, 4, 5, 6, 7, 1000] {
+        let (mut out, mut err) = (Failing { left }, Vec::new(rt.alloc()));
+        let found = run(rt.alloc(), &[], WRONG_FIRST.as_bytes(), &mut out, &mut err);
+        let (status, told) = match left {
+            1000 => (1, ""),
+            _ => (2, "the output can't be written\n"),
+        };
+        same_at(
+            &rt,
+            left,
+            (found, err.as_slice()),
+            (status, told.as_bytes()),
+        );
     }
-    expect_failing(&rt, 1000, 1, "");
 }
 
 /// Both programs keep their status if the error can't be written. `rows` is given a word that names
@@ -391,22 +405,19 @@ fn keeps_its_status_where_errors_fail(rt: HostRuntime) {
     same(&rt, (of_jobs, of_rows, out.as_slice()), (2, 2, b""));
 }
 
-/// Compares the status and the message of an error.
-fn expect_told<R: Abort + AllocGlobal>(rt: &R, error: ReplayError<'_>, told: &str) {
-    let mut err = Vec::new(rt.alloc());
-    let status = report(Err(error), &mut err);
-    same(rt, (status, err.as_slice()), (2, told.as_bytes()));
-}
-
 #[test]
 fn tells_of_each_error(rt: HostRuntime) {
     let memory = io::Error::from(io::ErrorKind::OutOfMemory);
     let other = io::Error::from(io::ErrorKind::InvalidData);
     let of_job = ReadError::from(TextError::from(AllocError));
-    expect_told(&rt, ReplayError::from(AllocError), "out of memory\n");
-    let unread = ReplayError::of_reading(3, &memory);
-    expect_told(&rt, unread, "out of memory\n");
-    expect_told(&rt, ReplayError::of_arguments(&memory), "out of memory\n");
-    expect_told(&rt, ReplayError::of_job(3, of_job), "out of memory\n");
-    expect_told(&rt, ReplayError::of_arguments(&other), NOT_TAKEN);
+    for (error, told) in [
+        (ReplayError::from(AllocError), "out of memory\n"),
+        (ReplayError::Arguments.because(&memory), "out of memory\n"),
+        (ReplayError::of_line(3, of_job), "out of memory\n"),
+        (ReplayError::Arguments.because(&other), NOT_TAKEN),
+    ] {
+        let mut err = Vec::new(rt.alloc());
+        let status = report(Err(error), &mut err);
+        same(&rt, (status, err.as_slice()), (2, told.as_bytes()));
+    }
 }

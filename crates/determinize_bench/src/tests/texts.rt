@@ -1,10 +1,11 @@
 //! The debug texts of states, builders and NFAs.
 
 use crate::tests::caches::nfa;
-use crate::tests::states::{built, with_patterns, with_start};
-use crate::tests::{joined, parts_of, same};
+use crate::tests::{built, joined, parts_of, same};
 use determinize_below::StateID;
-use determinize_core::state::{StateBuilderEmpty, StateBuilderMatches};
+use determinize_core::state::StateBuilderEmpty;
+use determinize_replay::records;
+use example_walks::fields::Fields;
 use std::fmt::Debug;
 use std::process::Abort;
 
@@ -29,19 +30,12 @@ look_have: LookSet { bits: 0 }, look_need: LookSet { bits: 0 }, \
 match_pattern_ids: [], nfa_state_ids: [] }, \
 StateBuilderEmpty { .. })";
 
-/// Returns a builder with the flag from-word, patterns and look-have.
-fn entered<R: Abort + AllocGlobal>(rt: &R) -> StateBuilderMatches {
-    let mut builder = with_patterns(rt, "1,0");
-    builder.set_is_from_word();
-    builder.set_look_have(with_start);
-    builder
-}
-
 #[test]
 fn texts_of_builders(rt: HostRuntime) {
-    let entered = entered(&rt);
-    let mut half = with_patterns(&rt, "-");
-    half.set_is_half_crlf();
+    let (_, entered) = Fields::split("build fw=1 half=0 have=Start pids=1,0");
+    let entered = records::entered(rt.alloc(), &entered).expect(&rt, "a record");
+    let (_, half) = Fields::split("build fw=0 half=1");
+    let half = records::entered(rt.alloc(), &half).expect(&rt, "a record");
     let empty = StateBuilderEmpty::new(rt.alloc());
     expect_text(&rt, &(&entered, &half, &empty), BUILDERS);
 }
@@ -60,17 +54,13 @@ match_pattern_ids: [PatternID(2), PatternID(0), PatternID(1)], \
 nfa_state_ids: [StateID(1), StateID(3), StateID(2)]
 ";
 
-/// Compares the debug text of a value, which is a name and a brace, and these fields.
-fn expect_fields<R: Abort + AllocGlobal, T: Debug>(rt: &R, value: &T, name: &str, fields: &str) {
-    expect_text(rt, value, joined(rt, name, fields, " }").as_str());
-}
-
 /// Compares the debug texts of the builder and of the state of a job.
 fn expect_built<R: Abort + AllocGlobal>(rt: &R, job: &str, fields: &str) {
     let builder = built(rt, job);
-    expect_fields(rt, &builder, "StateBuilderNFA { ", fields);
-    let state = builder.to_state().expect(rt, "memory");
-    expect_fields(rt, &state, "State { ", fields);
+    let wanted = joined(rt, "StateBuilderNFA { ", fields, " }");
+    expect_text(rt, &builder, wanted.as_str());
+    let wanted = joined(rt, "State { ", fields, " }");
+    expect_text(rt, &builder.into_state(), wanted.as_str());
 }
 
 #[test]
@@ -103,6 +93,6 @@ start_anchored: 0, start_unanchored: 0, reverse: true, line_terminator: 0a
 
 #[test]
 fn text_of_an_nfa(rt: HostRuntime) {
-    let nfa = nfa(&rt, "S:30-39>2,41-5a>3 BU:0,2 C:3 M:0", true);
+    let nfa = nfa(&rt, "S:30-39>2,41-5a>3 BU:0,2 C:3 M:0", "dir=rev");
     expect_text(&rt, &nfa, STATES);
 }

@@ -188,10 +188,12 @@ fw=0 half=0 have=- need=-
 ids=1,3,2
 > size id=7 states=3 matches=2
 states 3
-> walk text=61 | B:61>1 M:0
-00000000000000000000
-# a comment is no line of an answer
-00000000000000000002
-010000000000000000
-match 0 1
+> closure from=0 | U:1,2,3 M:2 M:0 M:1
+set 0,1,2,3
+> closure from=0 | BU:4,1 B:00-ff>0 L:WordAscii>5 B:25>5 BU:2,3 BU:4,6 M:0
+set 0,4,2,3,1
+> closure from=4 | BU:4,1 B:00-ff>0 L:WordAscii>5 B:25>5 BU:2,3 BU:4,6 M:0
+set 4,2,3
+> closure from=0 | BU:2,1 B:00-ff>0 U:3,6 B:61-7a>4 BU:3,5 M:0 B:30-39>7 BU:6,8 M:1
+set 0,2,3,6,1
 ";

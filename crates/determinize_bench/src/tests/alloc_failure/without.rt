@@ -3,37 +3,30 @@
 
 ghost use Rattle.std.specs.Prelude.{◌≡◌, ◌<◌, [], length};
 
-use crate::tests::alloc_failure::steps::start_kind;
-use crate::tests::alloc_failure::values::{builder_of, clone_of};
 use crate::tests::alloc_failure::{Heap, Row, rows};
-use crate::tests::states::with_start;
-use crate::tests::{holds, same};
+use crate::tests::{holds, same, with_start};
 use determinize_below::{
-    HalfMatch, Input, Look, LookSet, MatchKind, PatternID, SparseSet, SparseSets, StateID,
+    Anchored, Input, Look, LookSet, MatchKind, PatternID, SparseSet, SparseSets, StateID,
 };
 use determinize_core::determinize::{epsilon_closure, set_lookbehind_from_start};
-use determinize_core::start::Config;
-use determinize_core::state::{State, StateBuilderEmpty, StateBuilderMatches, StateBuilderNFA};
+use determinize_core::start::{Config, Start};
+use determinize_core::state::{State, StateBuilderEmpty, StateBuilderMatches};
 use determinize_lazy::Lazy;
+use example_walks::walk::walk_over;
 use failing_alloc::FailingAllocator;
 use std::alloc::{Allocator, Global};
 use std::process::Abort;
 
-/// Inserts three ids, and finds each of them.
-fn insert_three<R: Abort, A: Allocator>(rt: &R, set: &mut SparseSet<A>) {
+/// Inserts three ids, and finds each of them. Swaps the set with an empty one, and clears both.
+fn fill<R: Abort, A: Allocator>(rt: &R, sparses: &mut SparseSets<A>) {
     for number in [5, 69, 0] {
         let id = StateID::must(number);
-        holds(rt, number < set.capacity());
-        holds(rt, set.insert(id));
-        holds(rt, number < set.capacity());
-        holds(rt, set.contains(id));
+        holds(rt, number < sparses.set1.capacity());
+        holds(rt, sparses.set1.insert(id));
+        holds(rt, number < sparses.set1.capacity());
+        holds(rt, sparses.set1.contains(id));
     }
-    same(rt, set.iter().count(), 3);
-}
-
-/// Inserts ids into a set, swaps it with another one, and clears both, and one of them again.
-fn fill<R: Abort, A: Allocator>(rt: &R, sparses: &mut SparseSets<A>) {
-    insert_three(rt, &mut sparses.set1);
+    same(rt, sparses.set1.iter().count(), 3);
     sparses.swap();
     same(rt, (sparses.set1.len(), sparses.set2.len()), (0, 3));
     sparses.clear();
@@ -42,63 +35,25 @@ fn fill<R: Abort, A: Allocator>(rt: &R, sparses: &mut SparseSets<A>) {
     same(rt, are_empty, (true, true));
 }
 
-/// Makes the dead state and an empty builder.
-fn make_dead<R: Abort, A: Allocator + Copy>(rt: &R, alloc: A) {
-    let dead = State::dead(alloc).expect(rt, "no allocation");
-    let capacity = StateBuilderEmpty::new(alloc).capacity();
-    same(rt, (dead.as_bytes(), capacity), ([0; 9].as_slice(), 0));
-}
-
-/// Sets flags, an assertion and the pattern `ZERO`.
-fn set_flags<R: Abort, A: Allocator>(rt: &R, matches: &mut StateBuilderMatches<A>)
-    requires { matches.old.patterns ≡ [] }
+/// Sets flags, assertions and the pattern `ZERO` in a builder, converts it to one of NFA states,
+/// changes its assertions, and clears it.
+fn build_in<R: Abort, A: Allocator>(rt: &R, empty: StateBuilderMatches<A>)
+    requires { empty.patterns ≡ [] }
 {
+    let mut matches = empty;
     matches.set_is_from_word();
     matches.set_is_half_crlf();
     matches.set_look_have(with_start);
     let is_set = matches.look_have().contains(Look::Start);
     let is_added = matches.add_match_pattern_id(PatternID::ZERO).is_ok();
     same(rt, (is_set, is_added), (true, true));
-}
-
-/// Returns these assertions without `Start`.
-fn without_start(have: LookSet) -> LookSet {
-    have.remove(Look::Start)
-}
-
-/// Returns these assertions and `End`.
-fn with_end(need: LookSet) -> LookSet {
-    need.insert(Look::End)
-}
-
-/// Removes this assertion, and sets another one.
-fn set_looks<R: Abort, A: Allocator>(rt: &R, builder: &mut StateBuilderNFA<A>) {
-    builder.set_look_have(without_start);
-    builder.set_look_need(with_end);
-    let is_removed = builder.look_have().is_empty();
-    let is_set = builder.look_need().contains(Look::End);
-    let bytes = [13, 0, 0, 0, 0, 2, 0, 0, 0];
-    let found = (is_removed, is_set, builder.as_bytes());
-    same(rt, found, (true, true, bytes.as_slice()));
-}
-
-/// Sets flags, assertions and a pattern in a builder, converts it to one of NFA states, and clears
-/// it.
-fn build_in<R: Abort, A: Allocator>(rt: &R, matches: StateBuilderMatches<A>)
-    requires { matches.patterns ≡ [] }
-{
-    let mut matches = matches;
-    set_flags(rt, &mut matches);
     let mut builder = matches.into_nfa();
-    set_looks(rt, &mut builder);
+    builder.set_look_have(|have| have.remove(Look::Start));
+    builder.set_look_need(|need| need.insert(Look::End));
+    let is_set = builder.look_have().is_empty() && builder.look_need().contains(Look::End);
+    let bytes = [13, 0, 0, 0, 0, 2, 0, 0, 0];
+    same(rt, (is_set, builder.as_bytes()), (true, bytes.as_slice()));
     holds(rt, builder.clear().capacity() > 0);
-}
-
-/// Converts a builder with the pattern 1 to a builder of NFA states, and compares its bytes.
-fn close_patterns<R: Abort, A: Allocator>(rt: &R, matches: StateBuilderMatches<A>) {
-    let builder = matches.into_nfa();
-    let bytes = [3, 0, 0, 0, 0, 0, 0, 0, 0, 1, 0, 0, 0, 1, 0, 0, 0];
-    same(rt, builder.as_bytes(), bytes.as_slice());
 }
 
 /// Returns a builder without patterns.
@@ -117,182 +72,134 @@ fn make_each<R: Abort, A: Allocator + Copy>(rt: &R, heap: &Heap, alloc: A) {
     added.expect(rt, "memory");
     heap.begin();
     fill(rt, &mut sparses);
-    make_dead(rt, alloc);
+    let dead = State::dead(alloc).expect(rt, "no allocation");
+    let capacity = StateBuilderEmpty::new(alloc).capacity();
+    same(rt, (dead.as_bytes(), capacity), ([0; 9].as_slice(), 0));
     build_in(rt, matches);
-    close_patterns(rt, explicit);
+    let builder = explicit.into_nfa();
+    let bytes = [3, 0, 0, 0, 0, 0, 0, 0, 0, 1, 0, 0, 0, 1, 0, 0, 0];
+    same(rt, builder.as_bytes(), bytes.as_slice());
     heap.end();
 }
 
-/// Reads the bytes around the text of a walk, and sets the look-behind of its start in a builder.
+/// Reads the bytes around a text, and sets the look-behind of the start of the text in a builder.
 fn begin_walk<R: Abort, A: Allocator>(rt: &R, heap: &Heap, alloc: A, row: &Row) {
     let mut matches = empty(rt, alloc);
     heap.begin();
-    let input = Input::new(row.text.as_slice());
+    let input = Input::new(row.place.text.as_slice());
     let forward = Config::from_input_forward(&input).get_look_behind();
     let reverse = Config::from_input_reverse(&input).get_look_behind();
     same(rt, (forward, reverse), (None, None));
-    set_lookbehind_from_start(&row.nfa, &start_kind(row), &mut matches);
+    set_lookbehind_from_start(&row.nfa, &Start::Text, &mut matches);
     heap.end();
 }
 
-/// Returns a stack of more capacity than any walk of an example needs if the state is an epsilon
-/// state, and otherwise of no capacity.
-fn stack<R: Abort, A: Allocator>(rt: &R, alloc: A, row: &Row, id: StateID) -> Vec<StateID, A>
-    requires { id < length row.now.nfa.states }
-    ensures { result.items ≡ [] }
-{
-    let capacity = if row.nfa.state(id).is_epsilon() {
-        100
-    } else {
-        0
-    };
-    Vec::with_capacity(alloc, capacity).expect(rt, "memory")
-}
-
-/// Computes the closure of a state into an empty set, with a new [`stack`].
-fn close<R: Abort, A: Allocator + Copy>(
-    rt: &R,
-    heap: &Heap,
-    alloc: A,
-    row: &Row,
-    number: usize,
-    set: &mut SparseSet<A>,
-)
-    requires { number < length row.now.nfa.states }
-{
-    holds(rt, set.capacity() == row.nfa.len());
-    let id = StateID::must(number);
-    let mut stack = stack(rt, alloc, row, id);
-    heap.begin();
-    let closed = epsilon_closure(&row.nfa, id, LookSet::empty(), &mut stack, set);
-    closed.expect(rt, "no allocation");
-    set.clear();
-    heap.end();
-}
-
-/// Computes the closures of all states.
+/// Computes the closure of each state with a stack of more capacity than any example needs if the
+/// state is an epsilon state, and otherwise of no capacity.
 fn close_each<R: Abort, A: Allocator + Copy>(rt: &R, heap: &Heap, alloc: A, row: &Row) {
-    let mut set = SparseSet::new(alloc, row.nfa.len()).expect(rt, "memory");
     for number in 0..row.nfa.len() {
-        close(rt, heap, alloc, row, number, &mut set);
-    }
-    same(rt, set.len(), 0);
-}
-
-/// Clears a cache. Returns whether it then has no states, and before had states and computed
-/// transitions exactly if it was filled.
-fn clear_cache<A: Allocator + Copy>(lazy: &mut Lazy<'_, Global, A>, is_filled: bool) -> bool {
-    let found = (lazy.states_kept() > 0, lazy.computed() > 0);
-    lazy.clear();
-    found == (is_filled, is_filled) && lazy.states_kept() == 0
-}
-
-/// Makes a cache and clears it, empty and with states.
-fn make_cache<R: Abort, A: Allocator + Copy>(rt: &R, heap: &Heap, alloc: A, row: &Row) {
-    heap.begin();
-    let mut lazy = Lazy::new(alloc, &row.nfa, row.kind, 100);
-    holds(rt, clear_cache(&mut lazy, false));
-    heap.end();
-    holds(rt, row.walk_through(&mut lazy).is_ok());
-    heap.begin();
-    holds(rt, clear_cache(&mut lazy, true));
-    heap.end();
-}
-
-/// The matches of a text: the last one, that of a search of it as a haystack, and whether there is
-/// any.
-type Found = (Option<HalfMatch>, Option<HalfMatch>, bool);
-
-/// Searches the text of a walk through a cache.
-fn search_each<R: Abort, A: Allocator + Copy>(
-    rt: &R,
-    lazy: &mut Lazy<'_, Global, A>,
-    row: &Row,
-) -> Found {
-    let last = row.search_text(lazy).expect(rt, "memory");
-    let input = row.input();
-    let found = lazy.search_input(&input).expect(rt, "memory");
-    (last, found, lazy.is_match(&input).expect(rt, "memory"))
-}
-
-/// Searches three times through one cache. The first searches cache each transition, and the second
-/// find the start states in the cache, so that the third only read it.
-fn search_cached<R: Abort, A: Allocator + Copy>(
-    rt: &R,
-    heap: &Heap,
-    lazy: &mut Lazy<'_, Global, A>,
-    row: &Row,
-) {
-    search_each(rt, lazy, row);
-    let wanted = search_each(rt, lazy, row);
-    let computed = lazy.computed();
-    heap.begin();
-    let found = search_each(rt, lazy, row);
-    heap.end();
-    holds(rt, found == wanted);
-    same(rt, lazy.computed(), computed);
-}
-
-/// Searches through a cache under each match kind.
-fn search_under_each<R: Abort, A: Allocator + Copy>(rt: &R, heap: &Heap, alloc: A, row: &Row) {
-    for kind in [MatchKind::All, MatchKind::LeftmostFirst] {
-        let mut lazy = Lazy::new(alloc, &row.nfa, kind, 100);
-        search_cached(rt, heap, &mut lazy, row);
+        let (id, none) = (StateID::must(number), LookSet::empty());
+        let capacity = if row.nfa.state(id).is_epsilon() {
+            100
+        } else {
+            0
+        };
+        let mut set = SparseSet::new(alloc, row.nfa.len()).expect(rt, "memory");
+        let mut stack = Vec::with_capacity(alloc, capacity).expect(rt, "memory");
+        heap.begin();
+        let closed = epsilon_closure(&row.nfa, id, none, &mut stack, &mut set);
+        closed.expect(rt, "no allocation");
+        heap.end();
+        same(rt, set.as_slice().first().copied(), Some(id));
     }
 }
 
-/// Compares the flags of a state with its first byte, and its assertions with each other.
-fn read_flags<R: Abort, A: Allocator>(rt: &R, state: &State<A>, bytes: &[u8]) {
+/// Calls all readers of a state, whose bytes say whether it has patterns and which flags.
+fn read_state<R: Abort, A: Allocator + Copy>(rt: &R, state: &State<A>) {
+    let (bytes, is_match) = (state.as_bytes(), state.is_match());
     let flags = bytes.first().copied().unwrap_or_default();
-    let (have, need) = (state.look_have(), state.look_need());
-    let is_needed = have.is_empty() || !need.is_empty();
-    let told = (state.is_from_word(), state.is_half_crlf(), is_needed);
-    same(rt, (flags & 4 != 0, flags & 8 != 0, true), told);
-}
-
-/// Calls the readers of the patterns of a state.
-fn read_patterns<R: Abort, A: Allocator + Copy>(rt: &R, state: &State<A>) {
-    let count = state.match_len();
-    same(rt, state.is_match(), count > 0);
-    if count > 0 {
+    same(
+        rt,
+        (is_match, state.match_len() > 0),
+        (flags & 1 != 0, is_match),
+    );
+    let found = (
+        state.is_from_word(),
+        state.is_half_crlf(),
+        state.memory_usage(),
+    );
+    same(rt, found, (flags & 4 != 0, flags & 8 != 0, bytes.len()));
+    let is_needed = state.look_have().is_empty() || !state.look_need().is_empty();
+    same(
+        rt,
+        (is_needed, state == state, state <= state),
+        (true, true, true),
+    );
+    if state.match_len() > 0 {
         let _ = state.match_pattern(0);
     } else {
         holds(rt, matches!(state.match_pattern_ids(), Ok(None)));
     }
-}
-
-/// Calls all readers of a state.
-fn read_state<R: Abort, A: Allocator + Copy>(rt: &R, state: &State<A>, bytes: &[u8]) {
-    same(rt, state.as_bytes(), bytes);
-    same(rt, state.memory_usage(), bytes.len());
-    same(rt, (state == state, state <= state), (true, true));
-    read_patterns(rt, state);
-    read_flags(rt, state, bytes);
     for _ in state.iter_nfa_state_ids() {}
-}
-
-/// Calls all readers of each of these states.
-fn read_each<R: Abort, A: Allocator + Copy>(rt: &R, states: &[State<A>], row: &Row) {
-    for (index, state) in states.iter().enumerate() {
-        read_state(rt, state, row.bytes(index));
-    }
 }
 
 /// Calls all readers of each state of a walk.
 fn read_states<R: Abort, A: Allocator + Copy>(rt: &R, heap: &Heap, alloc: A, row: &Row) {
-    let states = row.walk(alloc).expect(rt, "memory");
+    let states = walk_over(alloc, &row.nfa, row.kind, &row.place).expect(rt, "memory");
     heap.begin();
-    read_each(rt, states.as_slice(), row);
+    for state in &states {
+        read_state(rt, state);
+    }
+    heap.end();
+}
+
+/// Searches a text through a cache, also as a haystack.
+fn search_each<R: Abort + AllocGlobal, A: Allocator + Copy>(
+    rt: &R,
+    lazy: &mut Lazy<'_, Global, A>,
+    row: &Row,
+) {
+    let (start, place) = (lazy.nfa().start_anchored(), &row.place);
+    let last = lazy.search(start, place.behind, place.text.as_slice(), place.ahead);
+    holds(rt, lazy.match_kind() != row.kind || row.is_last(rt, last));
+    let input = Input::new(place.text.as_slice()).anchored(Anchored::Yes);
+    let found = lazy.search_input(&input).expect(rt, "memory");
+    same(rt, lazy.is_match(&input), Ok(found.is_some()));
+}
+
+/// Searches three times through one new cache. The first searches cache each transition, and the
+/// second find the start states in the cache, so that the third only read it. Then clears it.
+fn search_cached<R: Abort + AllocGlobal, A: Allocator + Copy>(
+    rt: &R,
+    heap: &Heap,
+    alloc: A,
+    row: &Row,
+    kind: MatchKind,
+) {
+    heap.begin();
+    let mut lazy = Lazy::new(alloc, &row.nfa, kind, 100);
+    lazy.clear();
+    same(rt, (lazy.states_kept(), lazy.computed()), (0, 0));
+    heap.end();
+    search_each(rt, &mut lazy, row);
+    search_each(rt, &mut lazy, row);
+    let computed = lazy.computed();
+    heap.begin();
+    search_each(rt, &mut lazy, row);
+    same(rt, (lazy.computed(), computed > 0), (computed, true));
+    holds(rt, lazy.states_kept() > 0);
+    lazy.clear();
+    same(rt, lazy.states_kept(), 0);
     heap.end();
 }
 
 /// Makes the calls for a walk that do not allocate.
-fn walk<R: Abort, A: Allocator + Copy>(rt: &R, heap: &Heap, alloc: A, row: &Row) {
+fn walk<R: Abort + AllocGlobal, A: Allocator + Copy>(rt: &R, heap: &Heap, alloc: A, row: &Row) {
     begin_walk(rt, heap, alloc, row);
-    make_cache(rt, heap, alloc, row);
     close_each(rt, heap, alloc, row);
     read_states(rt, heap, alloc, row);
-    search_under_each(rt, heap, alloc, row);
+    search_cached(rt, heap, alloc, row, MatchKind::All);
+    search_cached(rt, heap, alloc, row, MatchKind::LeftmostFirst);
 }
 
 #[test]
@@ -305,21 +212,25 @@ fn calls_that_do_not_allocate(rt: HostRuntime) {
     same(&rt, heap.asked(), 0);
 }
 
-/// Makes a state of `len` bytes and clones it. Up to 30 bytes nothing is allocated, and from 31 on
-/// something is.
-fn count_requests<R: Abort, A: Allocator + Copy>(rt: &R, heap: &Heap, alloc: A, len: u8) -> u64 {
-    let builder = builder_of(alloc, len).expect(rt, "memory");
-    heap.begin();
-    holds(rt, clone_of(&builder).is_ok());
-    heap.end();
-    heap.asked()
+/// Makes states of 9 to 70 bytes, each with a clone. Up to 30 bytes nothing is allocated, and from
+/// 31 on something is.
+fn clone_each<R: Abort, A: Allocator + Copy>(rt: &R, heap: &Heap, alloc: A) {
+    let mut builder = empty(rt, alloc).into_nfa();
+    for number in 0..62 {
+        let asked = heap.asked();
+        heap.begin();
+        let state = builder.to_state().expect(rt, "memory");
+        holds(rt, state.clone().is_ok());
+        heap.end();
+        same(rt, state.as_bytes().len(), number + 9);
+        holds(rt, (heap.asked() == asked) == (number + 9 <= 30));
+        let added = builder.add_nfa_state_id(StateID::must(number));
+        added.expect(rt, "memory");
+    }
 }
 
 #[test]
 fn short_states(rt: HostRuntime) {
-    for len in 9..=70 {
-        let heap = FailingAllocator::after(rt.alloc(), u64::MAX);
-        let asked = count_requests(&rt, &heap, &heap, len);
-        holds(&rt, (asked == 0) == (len <= 30));
-    }
+    let heap = FailingAllocator::after(rt.alloc(), u64::MAX);
+    clone_each(&rt, &heap, &heap);
 }

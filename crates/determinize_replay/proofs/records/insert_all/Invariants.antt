@@ -1,5 +1,5 @@
 use Rattle.std.proofs.Common.{◌≡◌}
 use Rattle.determinize_replay.proofs.records.insert_all.Given as goal
 
-abbrev pub invariant-loop-id : goal.invariant-loop-id
-invariant-loop-id g l = l.set.capacity ≡ l.fn.set.capacity
+abbrev pub invariant-loop-word : goal.invariant-loop-word
+invariant-loop-word g l = l.set.capacity ≡ l.fn.set.capacity

@@ -1,0 +1,69 @@
+//! The debug text of a start byte map, written out by its rule.
+
+/// The text of the map for the line terminator `b`.
+pub const MAP_OF_B: &str = "\
+StartByteMap{\
+0 => NonWordByte, 1 => NonWordByte, 2 => NonWordByte, 3 => NonWordByte, \
+4 => NonWordByte, 5 => NonWordByte, 6 => NonWordByte, 7 => NonWordByte, \
+8 => NonWordByte, 9 => NonWordByte, 10 => LineLF, 11 => NonWordByte, \
+12 => NonWordByte, 13 => LineCR, 14 => NonWordByte, 15 => NonWordByte, \
+16 => NonWordByte, 17 => NonWordByte, 18 => NonWordByte, 19 => NonWordByte, \
+20 => NonWordByte, 21 => NonWordByte, 22 => NonWordByte, 23 => NonWordByte, \
+24 => NonWordByte, 25 => NonWordByte, 26 => NonWordByte, 27 => NonWordByte, \
+28 => NonWordByte, 29 => NonWordByte, 30 => NonWordByte, 31 => NonWordByte, \
+32 => NonWordByte, 33 => NonWordByte, 34 => NonWordByte, 35 => NonWordByte, \
+36 => NonWordByte, 37 => NonWordByte, 38 => NonWordByte, 39 => NonWordByte, \
+40 => NonWordByte, 41 => NonWordByte, 42 => NonWordByte, 43 => NonWordByte, \
+44 => NonWordByte, 45 => NonWordByte, 46 => NonWordByte, 47 => NonWordByte, \
+48 => WordByte, 49 => WordByte, 50 => WordByte, 51 => WordByte, \
+52 => WordByte, 53 => WordByte, 54 => WordByte, 55 => WordByte, \
+56 => WordByte, 57 => WordByte, 58 => NonWordByte, 59 => NonWordByte, \
+60 => NonWordByte, 61 => NonWordByte, 62 => NonWordByte, 63 => NonWordByte, \
+64 => NonWordByte, 65 => WordByte, 66 => WordByte, 67 => WordByte, \
+68 => WordByte, 69 => WordByte, 70 => WordByte, 71 => WordByte, \
+72 => WordByte, 73 => WordByte, 74 => WordByte, 75 => WordByte, \
+76 => WordByte, 77 => WordByte, 78 => WordByte, 79 => WordByte, \
+80 => WordByte, 81 => WordByte, 82 => WordByte, 83 => WordByte, \
+84 => WordByte, 85 => WordByte, 86 => WordByte, 87 => WordByte, \
+88 => WordByte, 89 => WordByte, 90 => WordByte, 91 => NonWordByte, \
+92 => NonWordByte, 93 => NonWordByte, 94 => NonWordByte, 95 => WordByte, \
+96 => NonWordByte, 97 => WordByte, 98 => CustomLineTerminator, 99 => WordByte, \
+100 => WordByte, 101 => WordByte, 102 => WordByte, 103 => WordByte, \
+104 => WordByte, 105 => WordByte, 106 => WordByte, 107 => WordByte, \
+108 => WordByte, 109 => WordByte, 110 => WordByte, 111 => WordByte, \
+112 => WordByte, 113 => WordByte, 114 => WordByte, 115 => WordByte, \
+116 => WordByte, 117 => WordByte, 118 => WordByte, 119 => WordByte, \
+120 => WordByte, 121 => WordByte, 122 => WordByte, 123 => NonWordByte, \
+124 => NonWordByte, 125 => NonWordByte, 126 => NonWordByte, 127 => NonWordByte, \
+128 => NonWordByte, 129 => NonWordByte, 130 => NonWordByte, 131 => NonWordByte, \
+132 => NonWordByte, 133 => NonWordByte, 134 => NonWordByte, 135 => NonWordByte, \
+136 => NonWordByte, 137 => NonWordByte, 138 => NonWordByte, 139 => NonWordByte, \
+140 => NonWordByte, 141 => NonWordByte, 142 => NonWordByte, 143 => NonWordByte, \
+144 => NonWordByte, 145 => NonWordByte, 146 => NonWordByte, 147 => NonWordByte, \
+148 => NonWordByte, 149 => NonWordByte, 150 => NonWordByte, 151 => NonWordByte, \
+152 => NonWordByte, 153 => NonWordByte, 154 => NonWordByte, 155 => NonWordByte, \
+156 => NonWordByte, 157 => NonWordByte, 158 => NonWordByte, 159 => NonWordByte, \
+160 => NonWordByte, 161 => NonWordByte, 162 => NonWordByte, 163 => NonWordByte, \
+164 => NonWordByte, 165 => NonWordByte, 166 => NonWordByte, 167 => NonWordByte, \
+168 => NonWordByte, 169 => NonWordByte, 170 => NonWordByte, 171 => NonWordByte, \
+172 => NonWordByte, 173 => NonWordByte, 174 => NonWordByte, 175 => NonWordByte, \
+176 => NonWordByte, 177 => NonWordByte, 178 => NonWordByte, 179 => NonWordByte, \
+180 => NonWordByte, 181 => NonWordByte, 182 => NonWordByte, 183 => NonWordByte, \
+184 => NonWordByte, 185 => NonWordByte, 186 => NonWordByte, 187 => NonWordByte, \
+188 => NonWordByte, 189 => NonWordByte, 190 => NonWordByte, 191 => NonWordByte, \
+192 => NonWordByte, 193 => NonWordByte, 194 => NonWordByte, 195 => NonWordByte, \
+196 => NonWordByte, 197 => NonWordByte, 198 => NonWordByte, 199 => NonWordByte, \
+200 => NonWordByte, 201 => NonWordByte, 202 => NonWordByte, 203 => NonWordByte, \
+204 => NonWordByte, 205 => NonWordByte, 206 => NonWordByte, 207 => NonWordByte, \
+208 => NonWordByte, 209 => NonWordByte, 210 => NonWordByte, 211 => NonWordByte, \
+212 => NonWordByte, 213 => NonWordByte, 214 => NonWordByte, 215 => NonWordByte, \
+216 => NonWordByte, 217 => NonWordByte, 218 => NonWordByte, 219 => NonWordByte, \
+220 => NonWordByte, 221 => NonWordByte, 222 => NonWordByte, 223 => NonWordByte, \
+224 => NonWordByte, 225 => NonWordByte, 226 => NonWordByte, 227 => NonWordByte, \
+228 => NonWordByte, 229 => NonWordByte, 230 => NonWordByte, 231 => NonWordByte, \
+232 => NonWordByte, 233 => NonWordByte, 234 => NonWordByte, 235 => NonWordByte, \
+236 => NonWordByte, 237 => NonWordByte, 238 => NonWordByte, 239 => NonWordByte, \
+240 => NonWordByte, 241 => NonWordByte, 242 => NonWordByte, 243 => NonWordByte, \
+244 => NonWordByte, 245 => NonWordByte, 246 => NonWordByte, 247 => NonWordByte, \
+248 => NonWordByte, 249 => NonWordByte, 250 => NonWordByte, 251 => NonWordByte, \
+252 => NonWordByte, 253 => NonWordByte, 254 => NonWordByte, 255 => NonWordByte}";
