@@ -1,10 +1,8 @@
 //! Caches in which the bytes of a class share computed steps.
 
-use crate::tests::dense::Around;
-use crate::tests::{dense, ended, expect_text, same};
-use determinize_below::{MatchKind, StateID};
+use crate::tests::{dense, ended, same};
+use determinize_below::MatchKind;
 use determinize_lazy::Lazy;
-use example_walks::values::LastMatch;
 use std::process::Abort;
 
 /// `[a-z]+`. Under `LeftmostFirst` its DFA has a state before the first letter, one after it, one
@@ -18,28 +16,13 @@ fn expect_letters<R: Abort>(rt: &R, lazy: &mut Lazy<'_>, computed: u64, kept: us
     same(rt, (lazy.computed(), lazy.states_kept()), (computed, kept));
 }
 
-/// Compares the last match of a search of the text of a walk, which computes steps, and of one that
-/// does not.
-pub fn expect_walk<R: Abort + AllocGlobal>(
-    rt: &R,
-    lazy: &mut Lazy<'_>,
-    around: &Around<'_>,
-    last: &str,
-) {
-    for _ in 0..2u32 {
-        let start = lazy.nfa().start_anchored();
-        let found = lazy.search(start, around.look_behind, around.text, around.look_ahead);
-        expect_text(rt, &LastMatch(found.expect(rt, "memory")), last);
-    }
-}
-
 /// With room for all states, six letters take a step over the first, one over the second, one over
 /// all further ones, and one at the end; by byte there are four over the further ones. With room
 /// for two states the second and the last of these steps clear the cache, so the same search
 /// computes all four again.
 #[test]
 fn steps_by_class(rt: HostRuntime) {
-    let nfa = dense::nfa(&rt, LETTERS, StateID::ZERO);
+    let nfa = dense::nfa(&rt, LETTERS, 0);
     let kind = MatchKind::LeftmostFirst;
     for &(limit, second, kept) in &[(10, 4, 4), (2, 8, 2)] {
         let mut lazy = Lazy::new_by_class(rt.alloc(), &nfa, kind, limit);

@@ -3,7 +3,7 @@
 
 use crate::tests::dense::nfa;
 use crate::tests::{expect_debug, same};
-use determinize_below::{StateID, Unit};
+use determinize_below::Unit;
 use determinize_uses::nfa::digits;
 
 /// The only ranges of the first NFA are the digits and all bytes. In the second one a sparse state
@@ -19,7 +19,7 @@ fn classes_of_bytes(rt: HostRuntime) {
     same(&rt, classes.representatives(), b"\x000".as_slice());
     expect_debug(&rt, &classes, "ByteClasses(0.. => 0, 48.. => 1, 58.. => 0)");
     let states = "U:1,2,3 S:61-63>4,78-78>4 D:62-62>4 B:30-39>4 M:0";
-    let classes = nfa(&rt, states, StateID::ZERO).byte_classes();
+    let classes = nfa(&rt, states, 0).byte_classes();
     expect_debug(
         &rt,
         &classes,

@@ -1,18 +1,13 @@
-//! Whole DFAs of `determinize_dense`: their numbers of states, their searches over the texts of
-//! walks, the patterns where a text ends, and allocations.
+//! Whole DFAs of `determinize_dense`: their numbers of states, the patterns where a text ends, and
+//! allocations.
 
 ghost use Rattle.std.specs.Prelude.{◌≡◌, false};
 
-use crate::tests::stored_walks::STORED;
-use crate::tests::{by_class, ended, expect_debug, expect_text, holds, same};
-use determinize_below::{Anchored, Input, LookMatcher, MatchKind, NFA, PatternID, StateID};
+use crate::tests::{ended, expect_debug, expect_patterns, same};
+use determinize_below::{Anchored, Input, LookMatcher, MatchKind, NFA, StateID};
 use determinize_dense::{Dfa, DfaError};
-use determinize_lazy::Lazy;
 use determinize_uses::dfa::smallest;
-use example_walks::examples::{Example, names};
-use example_walks::fields::Fields;
-use example_walks::values::LastMatch;
-use example_walks::{states, walk};
+use example_walks::states;
 use failing_alloc::FailingAllocator;
 use std::alloc::{AllocError, Allocator, Global};
 use std::process::Abort;
@@ -98,12 +93,13 @@ pub static ROWS: [Row; 6] = [
 ];
 
 /// Returns the NFA of these states, which reads forward and whose unanchored start is 0.
-pub fn nfa<R: Abort + AllocGlobal>(rt: &R, states: &str, start_anchored: StateID) -> NFA
+pub fn nfa<R: Abort + AllocGlobal>(rt: &R, states: &str, start_anchored: u8) -> NFA
     ensures { result.reverse ≡ false }
 {
     let (alloc, matcher) = (rt.alloc(), LookMatcher::new());
     let states = states::states(alloc, states).expect(rt, "states");
-    let nfa = NFA::from_parts(alloc, states, start_anchored, StateID::ZERO, false, matcher);
+    let start = StateID::must(usize::from(start_anchored));
+    let nfa = NFA::from_parts(alloc, states, start, StateID::ZERO, false, matcher);
     nfa.expect(rt, "an NFA")
 }
 
@@ -121,138 +117,51 @@ pub fn dfa<'n, R: Abort + AllocGlobal>(
 }
 
 /// Returns the smallest DFA that lists the same as another one.
-pub fn least<'n, R: Abort + AllocGlobal>(rt: &R, dfa: &Dfa<&'n NFA>) -> Dfa<&'n NFA>
-    ensures nfa { result.nfa ≡ dfa.now.nfa }
-    ensures kind { result.kind ≡ dfa.now.kind }
-{
+pub fn least<'n, R: Abort + AllocGlobal>(rt: &R, dfa: &Dfa<&'n NFA>) -> Dfa<&'n NFA> {
     dfa.minimize(rt.alloc()).expect(rt, "memory")
-}
-
-/// Asserts that the DFA of at most this number of states has this number, or that there is none.
-fn expect_count<R: Abort + AllocGlobal>(
-    rt: &R,
-    nfa: &NFA,
-    kind: MatchKind,
-    limit: usize,
-    wanted: Result<usize, DfaError>,
-) {
-    let found = match Dfa::build(rt.alloc(), nfa, kind, limit) {
-        Ok(dfa) => Ok(dfa.len()),
-        Err(error) => Err(error),
-    };
-    same(rt, found, wanted);
 }
 
 /// Asserts that a DFA has `len` states, and the smallest one `least`: it is built with this limit
 /// and with one more, but not with one less.
 fn expect_counts<R: Abort + AllocGlobal>(rt: &R, nfa: &NFA, kind: MatchKind, wanted: Counts) {
     let Counts { len, least } = wanted;
-    let (fewer, more) = (len.saturating_sub(1), len.saturating_add(1));
-    expect_count(rt, nfa, kind, fewer, Err(DfaError::TooManyStates));
-    expect_count(rt, nfa, kind, len, Ok(len));
-    expect_count(rt, nfa, kind, more, Ok(len));
+    let fewer = Dfa::build(rt.alloc(), nfa, kind, len.saturating_sub(1));
+    same(rt, fewer.err(), Some(DfaError::TooManyStates));
+    same(rt, dfa(rt, nfa, kind, len.saturating_add(1)).len(), len);
     let smallest = smallest(rt.alloc(), nfa, kind, len).expect(rt, "few states");
     same(rt, smallest.len(), least);
-}
-
-/// Returns the NFA of a row.
-fn nfa_of<R: Abort + AllocGlobal>(rt: &R, row: &Row) -> NFA
-    ensures { result.reverse ≡ false }
-{
-    nfa(
-        rt,
-        row.states,
-        StateID::must(usize::from(row.start_anchored)),
-    )
 }
 
 #[test]
 fn dense_counts(rt: HostRuntime) {
     for row in &ROWS {
-        let nfa = nfa_of(&rt, row);
+        let nfa = nfa(&rt, row.states, row.start_anchored);
         for &(kind, counts) in &row.counts {
             expect_counts(&rt, &nfa, kind, counts);
         }
     }
 }
 
-/// The text of a walk, and the bytes around it.
-#[derive(Clone, Copy)]
-pub struct Around<'t> {
-    pub look_behind: Option<u8>,
-    pub text: &'t [u8],
-    pub look_ahead: Option<u8>,
-}
-
-/// Asserts that a search of a text has this match, and that these patterns match where it ends.
-fn expect_found<R: Abort + AllocGlobal>(
+/// Builds the DFA of a row under a match kind, minimizes it, and asserts both numbers of states.
+pub fn build_and_minimize<R: Abort + AllocGlobal, A: Allocator + Copy>(
     rt: &R,
-    dfa: &Dfa<&NFA>,
-    around: &Around<'_>,
-    last: &str,
-    patterns: &[PatternID],
-) {
-    let (behind, text, ahead) = (around.look_behind, around.text, around.look_ahead);
-    let found = dfa.patterns_after(Anchored::Yes, behind, text, ahead);
-    same(rt, found, patterns);
-    let found = dfa.search(Anchored::Yes, behind, text, ahead);
-    expect_text(rt, &LastMatch(found), last);
-}
-
-/// Returns the patterns of the last state of a walk.
-fn last_patterns<R: Abort + AllocGlobal>(rt: &R, fields: &Fields<'_>) -> Vec<PatternID> {
-    let states = walk::walk(rt.alloc(), fields).expect(rt, "a walk");
-    let last = states.last().expect(rt, "a walk has a state");
-    let patterns = last.match_pattern_ids().expect(rt, "memory");
-    patterns.unwrap_or(Vec::new(rt.alloc()))
-}
-
-/// Asserts that searches of the text of a walk by a DFA of at most 1000 states and by the smallest
-/// one have its last match, that the patterns where the text ends are those of its last state, and
-/// that searches through a cache by class have that match.
-fn expect_walk<R: Abort + AllocGlobal>(
-    rt: &R,
-    fields: &Fields<'_>,
-    nfa: &NFA,
+    alloc: A,
+    row: &Row,
     kind: MatchKind,
-    last: &str,
-) {
-    let text = fields.text(rt.alloc()).expect(rt, "bytes");
-    let around = Around {
-        look_behind: fields.look_behind().expect(rt, "a byte"),
-        text: text.as_slice(),
-        look_ahead: fields.look_ahead().expect(rt, "a byte"),
-    };
-    let patterns = last_patterns(rt, fields);
-    let dfa = dfa(rt, nfa, kind, 1000);
-    expect_found(rt, &dfa, &around, last, &patterns);
-    expect_found(rt, &least(rt, &dfa), &around, last, &patterns);
-    let mut lazy = Lazy::new_by_class(rt.alloc(), nfa, kind, 50);
-    by_class::expect_walk(rt, &mut lazy, &around, last);
-}
-
-/// Asserts it of the NFA of a walk.
-fn expect_job<R: Abort + AllocGlobal>(rt: &R, line: &str, last: &str) {
-    let (_, fields) = Fields::split(line);
-    let start = fields.start().expect(rt, "a start");
-    let kind = fields.match_kind().expect(rt, "a match kind");
-    let nfa = fields.nfa_from(rt.alloc(), start).expect(rt, "an NFA");
-    expect_walk(rt, &fields, &nfa, kind, last);
-}
-
-/// Each of the 45 examples and of the 42 stored walks has a DFA of at most 1000 states.
-#[test]
-fn dense_walks(rt: HostRuntime) {
-    for name in names() {
-        let example = Example::of(name);
-        let last = example.output.lines().last().unwrap_or("");
-        expect_job(&rt, example.job, last);
+    wanted: Counts,
+) -> Result<(), AllocError> {
+    let nfa = nfa(rt, row.states, row.start_anchored);
+    match Dfa::build(alloc, &nfa, kind, wanted.len) {
+        Ok(dfa) => {
+            let least = dfa.minimize(alloc)?;
+            same(rt, (dfa.len(), least.len()), (wanted.len, wanted.least));
+            Ok(())
+        }
+        Err(error) => {
+            same(rt, error, DfaError::OutOfMemory);
+            Err(AllocError)
+        }
     }
-    for line in STORED.lines() {
-        let (job, last) = line.split_once(" = ").unwrap_or((line, ""));
-        expect_job(&rt, job, last);
-    }
-    same(&rt, (names().len(), STORED.lines().count()), (45, 42));
 }
 
 /// The states of an NFA, a match kind, a text with the byte after it, and the patterns that match
@@ -313,21 +222,10 @@ static LISTS: [List; 6] = [
     },
 ];
 
-/// Asserts that these patterns match.
-pub fn expect_patterns<R: Abort>(rt: &R, found: &[PatternID], wanted: &[usize]) {
-    same(rt, found.len(), wanted.len());
-    for index in 0..wanted.len() {
-        match (found.get(index), wanted.get(index)) {
-            (Some(found), Some(wanted)) => same(rt, found.as_usize(), *wanted),
-            _ => holds(rt, false),
-        }
-    }
-}
-
 #[test]
 fn dense_patterns(rt: HostRuntime) {
     for list in &LISTS {
-        let nfa = nfa(&rt, list.states, StateID::ZERO);
+        let nfa = nfa(&rt, list.states, 0);
         let dfa = dfa(&rt, &nfa, list.kind, 100);
         let found = dfa.patterns_after(Anchored::Yes, None, list.text, list.look_ahead);
         expect_patterns(&rt, found, list.patterns);
@@ -339,7 +237,7 @@ fn dense_patterns(rt: HostRuntime) {
 /// pattern: that after a word.
 #[test]
 fn dense_size_and_text(rt: HostRuntime) {
-    let nfa = nfa(&rt, WORD, StateID::ZERO);
+    let nfa = nfa(&rt, WORD, 0);
     let dfa = dfa(&rt, &nfa, MatchKind::All, 5);
     same(&rt, dfa.memory_usage(), 5 * 36 + 4);
     let wanted = "Dfa { match_kind: All, len: 5, alphabet_len: 3, .. }";
@@ -347,64 +245,22 @@ fn dense_size_and_text(rt: HostRuntime) {
     same(&rt, least(&rt, &dfa).memory_usage(), 4 * 36 + 4);
 }
 
-/// Minimizes a DFA, and asserts both numbers of states.
-fn minimize<R: Abort, A: Allocator + Copy>(
-    rt: &R,
-    alloc: A,
-    dfa: &Dfa<&NFA, A>,
-    wanted: Counts,
-) -> Result<(), AllocError> {
-    match dfa.minimize(alloc) {
-        Ok(smallest) => {
-            same(rt, (dfa.len(), smallest.len()), (wanted.len, wanted.least));
-            Ok(())
-        }
-        Err(error) => Err(error),
-    }
-}
-
-/// Builds the DFA of a row under a match kind, minimizes it, and asserts both numbers of states.
-pub fn build_and_minimize<R: Abort + AllocGlobal, A: Allocator + Copy>(
-    rt: &R,
-    alloc: A,
-    row: &Row,
-    kind: MatchKind,
-    wanted: Counts,
-) -> Result<(), AllocError> {
-    let nfa = nfa_of(rt, row);
-    match Dfa::build(alloc, &nfa, kind, wanted.len) {
-        Ok(dfa) => minimize(rt, alloc, &dfa, wanted),
-        Err(error) => {
-            same(rt, error, DfaError::OutOfMemory);
-            Err(AllocError)
-        }
-    }
-}
-
-/// Searches by a DFA of `\b\w+\b` in each way, and compares what they find.
-fn expect_searches<R: Abort, A: Allocator + Copy>(rt: &R, dfa: &Dfa<&NFA, A>) {
-    let input = Input::new(b"ab c").anchored(Anchored::Yes);
-    same(
-        rt,
-        dfa.search(Anchored::Yes, None, b"ab", Some(b' ')),
-        ended(2),
-    );
-    same(rt, dfa.search_input(&input), ended(2));
-    same(rt, dfa.is_match(&input), true);
-    let patterns = dfa.patterns_after(Anchored::Yes, None, b"ab", Some(b' '));
-    expect_patterns(rt, patterns, &[0]);
-}
-
-/// Builds a DFA before each allocation would fail, and searches by it.
+/// Builds a DFA of `\b\w+\b` before each allocation would fail, and searches by it in each way.
 fn search_without<R: Abort + AllocGlobal, A: Allocator + Copy>(
     rt: &R,
     heap: &FailingAllocator<Global>,
     alloc: A,
 ) {
-    let nfa = nfa(rt, WORD, StateID::ZERO);
+    let nfa = nfa(rt, WORD, 0);
     let dfa = Dfa::build(alloc, &nfa, MatchKind::All, 5).expect(rt, "five states");
+    let input = Input::new(b"ab c").anchored(Anchored::Yes);
     heap.begin();
-    expect_searches(rt, &dfa);
+    let found = dfa.search(Anchored::Yes, None, b"ab", Some(b' '));
+    same(rt, found, ended(2));
+    same(rt, dfa.search_input(&input), ended(2));
+    same(rt, dfa.is_match(&input), true);
+    let patterns = dfa.patterns_after(Anchored::Yes, None, b"ab", Some(b' '));
+    expect_patterns(rt, patterns, &[0]);
     heap.end();
 }
 

@@ -2,7 +2,7 @@
 
 use crate::tests::dense::nfa;
 use crate::tests::expect_text;
-use determinize_below::{MatchKind, StateID};
+use determinize_below::MatchKind;
 use determinize_draw::{DfaGraph, NfaGraph};
 use determinize_stored::StoredDfa;
 use determinize_uses::dfa::smallest;
@@ -44,7 +44,7 @@ const DFA_TEXT: &str = r#"digraph dfa {
 
 #[test]
 fn graphs(rt: HostRuntime) {
-    let nfa = nfa(&rt, DIGIT, StateID::ZERO);
+    let nfa = nfa(&rt, DIGIT, 0);
     expect_text(&rt, &NfaGraph::new(&nfa), NFA_TEXT);
     let dfa = smallest(rt.alloc(), &nfa, MatchKind::All, 100);
     let dfa = dfa.expect(&rt, "few states");

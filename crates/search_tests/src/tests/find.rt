@@ -1,30 +1,26 @@
 //! The leftmost match and all matches, with both ends: by a `Plain`, by a `Regex` over two caches
 //! or over two whole DFAs, and of a text in pieces.
 
-ghost use Rattle.std.specs.Prelude.{◌≡◌, ◌<◌, false, true};
-ghost use Rattle.determinize_below.specs.declared.search.MatchKind.TheVariants as kinds;
+ghost use Rattle.std.specs.Prelude.{◌≡◌, false, true};
 ghost use Rattle.determinize_engine.specs.Searches.{has_start};
 ghost use Rattle.determinize_find.specs.Prefix.{HasPrefix};
-ghost use Rattle.determinize_find.specs.Reversal.{IsReverseOf};
 
 use crate::tests::kept::{self, Calls};
-use crate::tests::trial::{Trial, build_error, fail_each_in_turn, succeed_if};
-use crate::tests::{dense, ended, holds, same};
-use determinize_below::{BuildError, HalfMatch, Input, MatchKind, NFA, StateID};
-use determinize_find::{Finder, Match, Plain, Regex, Searcher, find_all, has_prefix, reversed};
-use determinize_lazy::Lazy;
+use crate::tests::trial::{Trial, fail_each_in_turn};
+use crate::tests::{Ends, dense, expect_end, expect_matches, holds, same};
+use determinize_below::{AsNfa, BuildError, Input, Match, MatchKind, NFA};
+use determinize_dense::Dfa;
+use determinize_find::{Finder, Plain, Regex, Searcher, find_all, has_prefix, reversed};
+use determinize_lazy::{Engine, Lazy, LazyDfa};
 use determinize_uses::steady;
-use std::alloc::{AllocError, Allocator, Global};
+use std::alloc::{AllocError, Allocator};
 use std::process::Abort;
 
-/// Pattern, start and end of a match.
-pub type Ends = (usize, usize, usize);
-
 /// The states of an NFA with the usual prefix, a haystack, and its matches.
-pub struct Row {
-    pub states: &'static str,
-    pub haystack: &'static [u8],
-    pub matches: &'static [Ends],
+pub struct Row<'r> {
+    pub states: &'r str,
+    pub haystack: &'r [u8],
+    pub matches: &'r [Ends],
 }
 
 /// `\b\w+\b`.
@@ -33,7 +29,7 @@ pub const WORDS: &str =
 
 /// `a*`, `|b`, `b|`, `(?mR)^a*$` and, as patterns 0 and 1, `b` and `ab`; `a+b|a`, where after an
 /// `a` a match is only certain when the run of `a` ends; and words.
-static ROWS: [Row; 9] = [
+static ROWS: [Row<'static>; 9] = [
     Row {
         states: "BU:2,1 B:00-ff>0 BU:3,4 B:61>2 M:0",
         haystack: b"baac",
@@ -86,95 +82,55 @@ pub fn nfa<R: Abort + AllocGlobal>(rt: &R, states: &str) -> NFA
     ensures forward { result.reverse ≡ false }
     ensures prefix { HasPrefix result }
 {
-    let nfa = dense::nfa(rt, states, StateID::must(2));
+    let nfa = dense::nfa(rt, states, 2);
     holds(rt, has_prefix(&nfa));
     nfa
 }
 
-/// Returns the reverse of an NFA.
-pub fn backward_of<R: Abort + AllocGlobal>(rt: &R, nfa: &NFA) -> NFA
-    ensures { IsReverseOf result nfa.now }
-{
-    reversed(rt.alloc(), nfa).expect(rt, "a reverse")
+/// A search by an NFA and its reverse, which it owns.
+pub type Owned = Regex<LazyDfa<NFA>, LazyDfa<NFA>>;
+
+/// Returns a search by the NFA of these states, and caches of at most 100 states.
+pub fn regex<R: Abort + AllocGlobal>(rt: &R, states: &str) -> Owned {
+    Regex::from_nfa(rt.alloc(), nfa(rt, states), 100).expect(rt, "a regex")
 }
 
-/// Compares a match with its pattern and ends.
-fn expect_match<R: Abort>(rt: &R, found: Option<Match>, wanted: Option<Ends>) {
-    let found = match found {
-        Some(m) => Some((m.pattern.as_usize(), m.start, m.end)),
-        None => None,
-    };
-    same(rt, found, wanted);
+/// A search of the haystack of a row.
+#[derive(Clone, Copy)]
+pub enum Search {
+    /// For the first match.
+    Find,
+    /// For all matches.
+    FindAll,
+    /// For all matches in turn, by a cursor.
+    Advance,
+    /// For any match, by a `Regex`.
+    IsMatch,
+    /// For all matches, by a `Regex`, in pieces of this size.
+    Pieces(Calls, usize),
 }
 
-/// Compares matches with their patterns and ends.
-pub fn expect_matches<R: Abort>(rt: &R, found: &[Match], wanted: &[Ends]) {
-    same(rt, found.len(), wanted.len());
-    for index in 0..wanted.len() {
-        expect_match(rt, found.get(index).copied(), wanted.get(index).copied());
-    }
-}
+/// Each search by a `Plain`.
+static PLAIN_SEARCHES: [Search; 3] = [Search::Find, Search::FindAll, Search::Advance];
 
-/// Asserts that a search did not fail, and found matches with these patterns and ends.
-pub fn expect_found<R: Abort>(rt: &R, found: Result<Vec<Match>, AllocError>, wanted: &[Ends]) {
-    matches_if_ok(rt, found, wanted).expect(rt, "memory");
-}
-
-/// Asserts that a search did not fail, and found these matches.
-pub fn expect_same<R: Abort>(rt: &R, found: Result<Vec<Match>, AllocError>, wanted: &[Match]) {
-    same(rt, found.expect(rt, "memory").as_slice(), wanted);
-}
-
-/// Asserts that two matches are the same.
-pub fn same_match<R: Abort>(rt: &R, found: Option<Match>, wanted: Option<Match>) {
-    same(rt, found, wanted);
-}
-
-/// Asserts that a call that may fail returned this match.
-pub fn same_end<R: Abort>(
-    rt: &R,
-    found: Result<Option<HalfMatch>, AllocError>,
-    wanted: Option<HalfMatch>,
-) {
-    same(rt, found, Ok(wanted));
-}
-
-/// Asserts that a search of an input through a cache finds this match.
-pub fn expect_search<R: Abort, N: Allocator>(
-    rt: &R,
-    lazy: &mut Lazy<'_, N>,
-    input: &Input<'_>,
-    wanted: Option<HalfMatch>,
-)
-    requires { has_start input.now.anchored ≡ true }
-{
-    same_end(rt, lazy.search_input(input), wanted);
-}
-
-/// Compares whether there is a match, by a search that may fail. Returns its error if it failed.
-fn is_match_if_ok<R: Abort>(
-    rt: &R,
-    found: Result<bool, AllocError>,
-    wanted: bool,
-) -> Result<(), AllocError> {
-    match found {
-        Ok(found) => {
-            same(rt, found, wanted);
-            Ok(())
-        }
-        Err(error) => Err(error),
-    }
-}
+/// Each search by a `Regex`, with pieces of two bytes.
+static SEARCHES: [Search; 5] = [
+    Search::Find,
+    Search::FindAll,
+    Search::Advance,
+    Search::IsMatch,
+    Search::Pieces(Calls::Feed, 2),
+];
 
 /// Compares the match of a search that may fail. Returns its error if it failed.
-fn match_if_ok<R: Abort>(
+fn first_if_ok<R: Abort>(
     rt: &R,
     found: Result<Option<Match>, AllocError>,
     wanted: Option<Ends>,
 ) -> Result<(), AllocError> {
     match found {
         Ok(found) => {
-            expect_match(rt, found, wanted);
+            expect_matches(rt, found.as_slice(), wanted.as_slice());
             Ok(())
         }
         Err(error) => Err(error),
@@ -182,7 +138,7 @@ fn match_if_ok<R: Abort>(
 }
 
 /// Compares the matches of a search that may fail. Returns its error if it failed.
-fn matches_if_ok<R: Abort, A: Allocator>(
+fn all_if_ok<R: Abort, A: Allocator>(
     rt: &R,
     found: Result<Vec<Match, A>, AllocError>,
     wanted: &[Ends],
@@ -196,121 +152,81 @@ fn matches_if_ok<R: Abort, A: Allocator>(
     }
 }
 
-/// A search by a `Plain`.
-pub enum PlainSearch {
-    /// For the first match.
-    Find,
-    /// For the first match, by a cursor.
-    Advance,
-    /// For all matches.
-    FindAll,
-}
-
-/// A search by a `Regex`.
-#[derive(Drop)]
-pub enum Search {
-    /// For the first match.
-    Find,
-    /// For any match.
-    IsMatch,
-    /// For all matches.
-    FindAll,
-    /// For all matches in turn, by a cursor.
-    Advance,
-    /// For all matches of the haystack in two pieces.
-    Halves,
-    /// For all matches of the haystack, and their bytes, in pieces of this size.
-    Bytes(usize),
-}
-
-/// Each search by a `Plain`.
-static PLAIN_SEARCHES: [PlainSearch; 3] = [
-    PlainSearch::Find,
-    PlainSearch::Advance,
-    PlainSearch::FindAll,
-];
-
-/// Each search by a `Regex`.
-static SEARCHES: [Search; 5] = [
-    Search::Find,
-    Search::IsMatch,
-    Search::FindAll,
-    Search::Advance,
-    Search::Halves,
-];
-
-/// Finds the matches of a row by a `Plain`, through a new cache of this limit.
-pub fn search_plain<R: Abort + AllocGlobal, A: Allocator + Copy>(
-    rt: &R,
-    alloc: A,
-    row: &Row,
-    limit: usize,
-    search: &PlainSearch,
-) -> Result<(), AllocError> {
-    let (input, wanted) = (Input::new(row.haystack), row.matches.first().copied());
-    let nfa = nfa(rt, row.states);
-    let lazy = Lazy::new(alloc, &nfa, MatchKind::LeftmostFirst, limit);
-    let mut plain = Plain::new(&nfa, lazy);
-    match *search {
-        PlainSearch::Find => match_if_ok(rt, plain.find(&input), wanted),
-        PlainSearch::Advance => {
-            match_if_ok(rt, Searcher::new(input).advance(&mut plain), wanted)
-        }
-        PlainSearch::FindAll => {
-            matches_if_ok(rt, find_all(alloc, &mut plain, &input), row.matches)
-        }
-    }
-}
-
 /// Moves a cursor, and compares the match. Returns whether the call did not fail.
-fn has_advanced<R: Abort, A: Allocator + Copy>(
+fn has_advanced<R: Abort, F: Finder<Error = AllocError>>(
     rt: &R,
     searcher: &mut Searcher<'_>,
-    regex: &mut Regex<Lazy<'_, Global, A>, Lazy<'_, A, A>>,
+    finder: &mut F,
     wanted: Option<Ends>,
 ) -> bool {
-    match_if_ok(rt, searcher.advance(regex), wanted).is_ok()
+    first_if_ok(rt, searcher.advance(finder), wanted).is_ok()
 }
 
 /// Moves a cursor over the matches of a row and past the last one, and again where that fails.
-fn advance_over<R: Abort, A: Allocator + Copy>(
+fn advance_over<R: Abort, F: Finder<Error = AllocError>>(
     rt: &R,
-    regex: &mut Regex<Lazy<'_, Global, A>, Lazy<'_, A, A>>,
-    row: &Row,
+    finder: &mut F,
+    row: &Row<'_>,
 ) -> Result<(), AllocError> {
     let mut searcher = Searcher::new(Input::new(row.haystack));
     let mut is_sound = true;
     for index in 0..row.matches.len() + 1 {
         let next = row.matches.get(index).copied();
-        if !has_advanced(rt, &mut searcher, regex, next) {
+        if !has_advanced(rt, &mut searcher, finder, next) {
             is_sound = false;
-            if !has_advanced(rt, &mut searcher, regex, next) {
+            if !has_advanced(rt, &mut searcher, finder, next) {
                 return Err(AllocError);
             }
         }
     }
-    succeed_if(is_sound)
+    if is_sound { Ok(()) } else { Err(AllocError) }
+}
+
+/// Searches by a finder.
+fn search_by<R: Abort, F: Finder<Error = AllocError>, A: Allocator>(
+    rt: &R,
+    alloc: A,
+    finder: &mut F,
+    row: &Row<'_>,
+    search: Search,
+) -> Result<(), AllocError> {
+    let (input, first) = (Input::new(row.haystack), row.matches.first().copied());
+    match search {
+        Search::Find => first_if_ok(rt, finder.find(&input), first),
+        Search::FindAll => all_if_ok(rt, find_all(alloc, finder, &input), row.matches),
+        _ => advance_over(rt, finder, row),
+    }
+}
+
+/// Finds the matches of a row by a `Plain`, through a new cache of this limit.
+pub fn search_plain<R: Abort + AllocGlobal, A: Allocator + Copy>(
+    rt: &R,
+    alloc: A,
+    row: &Row<'_>,
+    limit: usize,
+    search: Search,
+) -> Result<(), AllocError> {
+    let nfa = nfa(rt, row.states);
+    let lazy = Lazy::new(alloc, &nfa, MatchKind::LeftmostFirst, limit);
+    search_by(rt, alloc, &mut Plain::new(&nfa, lazy), row, search)
 }
 
 /// Searches by a `Regex`.
-fn find_by_regex<R: Abort + AllocGlobal, A: Allocator + Copy>(
+fn search_by_two<R: Abort, N: AsNfa, B: Engine<Error = AllocError>, A: Allocator + Copy>(
     rt: &R,
     alloc: A,
-    regex: &mut Regex<Lazy<'_, Global, A>, Lazy<'_, A, A>>,
-    row: &Row,
-    search: &Search,
+    regex: &mut Regex<LazyDfa<N, A>, B>,
+    row: &Row<'_>,
+    search: Search,
 ) -> Result<(), AllocError> {
-    let (input, wanted) = (Input::new(row.haystack), row.matches.first().copied());
-    match *search {
-        Search::Find => match_if_ok(rt, regex.find(&input), wanted),
-        Search::IsMatch => is_match_if_ok(rt, regex.is_match(&input), wanted.is_some()),
-        Search::FindAll => matches_if_ok(rt, regex.find_all(alloc, &input), row.matches),
-        Search::Advance => advance_over(rt, regex, row),
-        Search::Halves => {
-            let (first, second) = row.haystack.split_at(row.haystack.len().min(2));
-            kept::read(rt, alloc, regex, row, &[first, second], &Calls::Feed)
+    match search {
+        Search::IsMatch => {
+            let found = regex.is_match(&Input::new(row.haystack))?;
+            same(rt, found, !row.matches.is_empty());
+            Ok(())
         }
-        Search::Bytes(size) => kept::read_chunks(rt, alloc, regex, row, size, &Calls::Advance),
+        Search::Pieces(calls, size) => kept::read(rt, alloc, regex, row, calls, size),
+        _ => search_by(rt, alloc, regex, row, search),
     }
 }
 
@@ -318,104 +234,98 @@ fn find_by_regex<R: Abort + AllocGlobal, A: Allocator + Copy>(
 pub fn search_regex<R: Abort + AllocGlobal, A: Allocator + Copy>(
     rt: &R,
     alloc: A,
-    row: &Row,
+    row: &Row<'_>,
     limit: usize,
-    search: &Search,
-) -> Result<(), BuildError> {
+    search: Search,
+) -> Result<(), AllocError> {
     let nfa = nfa(rt, row.states);
     match reversed(alloc, &nfa) {
         Ok(backward) => {
             let mut regex = Regex::new(alloc, &nfa, &backward, limit);
-            build_error(find_by_regex(rt, alloc, &mut regex, row, search))
+            search_by_two(rt, alloc, &mut regex, row, search)
         }
-        Err(error) => Err(error),
+        Err(error) => {
+            same(rt, error, BuildError::OutOfMemory);
+            Err(AllocError)
+        }
     }
 }
 
-/// Feeds a haystack in all ways in three pieces, and in pieces of 1, 2 and 3 bytes.
-fn expect_cuts<R: Abort + AllocGlobal>(rt: &R, regex: &mut Regex<Lazy<'_>, Lazy<'_>>, row: &Row) {
-    for second in 0..row.haystack.len() + 1 {
-        let (head, last) = row.haystack.split_at(second);
-        for first in 0..head.len() + 1 {
-            let (one, two) = head.split_at(first);
-            let fed = kept::read(rt, rt.alloc(), regex, row, &[one, two, last], &Calls::Feed);
-            fed.expect(rt, "memory");
-        }
-    }
-    for size in 1..4 {
-        let fed = kept::read_chunks(rt, rt.alloc(), regex, row, size, &Calls::Feed);
-        fed.expect(rt, "memory");
-    }
-}
-
-/// Finds the matches of a row by whole DFAs, at once and one at a time, and by caches in pieces.
-fn expect_row<R: Abort + AllocGlobal>(rt: &R, row: &Row) {
+/// Finds the matches of a row by whole DFAs, at once and one at a time.
+fn expect_whole<R: Abort + AllocGlobal>(rt: &R, row: &Row<'_>) {
     let nfa = nfa(rt, row.states);
-    let backward = backward_of(rt, &nfa);
+    let backward = reversed(rt.alloc(), &nfa).expect(rt, "a reverse");
     let ends = dense::dfa(rt, &nfa, MatchKind::LeftmostFirst, 100);
     let starts = dense::dfa(rt, &backward, MatchKind::All, 100);
-    let mut scanner = Regex::from_engines(&ends, &starts);
-    let found = steady::matches(rt.alloc(), &mut scanner, row.haystack);
-    expect_found(rt, found, row.matches);
-    let mut searcher = Searcher::new(Input::new(row.haystack));
-    for index in 0..row.matches.len() + 1 {
-        let found = steady::next(&mut scanner, &mut searcher);
-        expect_match(rt, found, row.matches.get(index).copied());
-    }
-    expect_cuts(rt, &mut Regex::new(rt.alloc(), &nfa, &backward, 100), row);
+    expect_steady(rt, &mut Regex::from_engines(&ends, &starts), row);
 }
 
-/// Whole DFAs find the same matches as lazy ones, through caches of each limit and while
-/// allocations fail, and so do scans of a text in pieces, however it is cut.
+/// Compares the matches of a row by a search that does not allocate.
+fn expect_steady<R: Abort + AllocGlobal>(
+    rt: &R,
+    scanner: &mut Regex<&Dfa<&NFA>, &Dfa<&NFA>>,
+    row: &Row<'_>,
+) {
+    let found = steady::matches(rt.alloc(), scanner, row.haystack);
+    expect_matches(rt, &found.expect(rt, "memory"), row.matches);
+    let mut searcher = Searcher::new(Input::new(row.haystack));
+    for index in 0..row.matches.len() + 1 {
+        let (found, next) = (steady::next(scanner, &mut searcher), row.matches.get(index));
+        expect_matches(rt, found.as_slice(), next.copied().as_slice());
+    }
+}
+
+/// Whole DFAs find the matches, and so do lazy ones, through caches of each limit and while
+/// allocations fail.
 #[test]
 fn all_matches(rt: HostRuntime) {
     for row in &ROWS {
+        expect_whole(&rt, row);
         for &limit in &[0, 64] {
-            for search in &PLAIN_SEARCHES {
+            for &search in &PLAIN_SEARCHES {
                 fail_each_in_turn(&rt, &Trial::SearchPlain(row, limit, search));
             }
-            for search in &SEARCHES {
+            for &search in &SEARCHES {
                 fail_each_in_turn(&rt, &Trial::Search(row, limit, search));
             }
         }
-        expect_row(&rt, row);
     }
+}
+
+/// Returns the leftmost match of an input.
+pub fn first<R: Abort, F: Finder<Error = AllocError>>(
+    rt: &R,
+    finder: &mut F,
+    input: &Input<'_>,
+) -> Option<Match>
+    requires { has_start input.now.anchored ≡ true }
+{
+    finder.find(input).expect(rt, "memory")
 }
 
 const TEXT: &[u8] = b"abcd e";
 
-/// Finds the leftmost word of a range of the text, by a `Plain`.
-fn expect_word<R: Abort>(
-    rt: &R,
-    plain: &mut Plain<'_, Lazy<'_>>,
-    start: usize,
-    end: usize,
-    wanted: Option<Ends>,
-) {
-    assert!(rt; start <= end && end <= TEXT.len());
-    let found = plain.find(&Input::new(TEXT).range(start..end));
-    expect_match(rt, found.expect(rt, "memory"), wanted);
-}
-
-/// Ranges of the text, and where the word that ends with the range begins.
-static BEGINS: [(usize, usize, usize); 2] = [(0, 4, 0), (1, 6, 5)];
+/// Ranges of the text, the leftmost word of each, and where a word begins that ends with the range.
+static RANGES: [(usize, usize, &[Ends], Option<usize>); 3] = [
+    (0, 4, &[(0, 0, 4)], Some(0)),
+    (1, 4, &[], None),
+    (1, 6, &[(0, 5, 6)], Some(5)),
+];
 
 /// Finds the words of ranges of the text, and where each begins, by a search backward of a range up
 /// to its end.
 #[test]
 fn words_of_ranges(rt: HostRuntime) {
-    let nfa = nfa(&rt, WORDS);
-    let lazy = Lazy::new(rt.alloc(), &nfa, MatchKind::LeftmostFirst, 100);
-    let mut plain = Plain::new(&nfa, lazy);
-    expect_word(&rt, &mut plain, 0, 4, Some((0, 0, 4)));
-    expect_word(&rt, &mut plain, 1, 4, None);
-    expect_word(&rt, &mut plain, 1, 6, Some((0, 5, 6)));
-    holds(&rt, plain.into_engine().states_kept() > 0);
-    let backward = backward_of(&rt, &nfa);
-    let mut lazy = Lazy::new(rt.alloc(), &backward, MatchKind::All, 100);
-    for &(start, end, begin) in &BEGINS {
+    let regex = regex(&rt, WORDS);
+    let lazy = Lazy::new(rt.alloc(), regex.nfa(), MatchKind::LeftmostFirst, 100);
+    let mut plain = Plain::new(regex.nfa(), lazy);
+    let mut backward = Lazy::new(rt.alloc(), regex.reverse(), MatchKind::All, 100);
+    for &(start, end, wanted, begin) in &RANGES {
         assert!(rt; start <= end && end <= TEXT.len());
         let input = Input::new(TEXT).range(start..end);
-        expect_search(&rt, &mut lazy, &input, ended(begin));
+        expect_matches(&rt, first(&rt, &mut plain, &input).as_slice(), wanted);
+        let found = backward.search_input(&input);
+        expect_end(&rt, found.expect(&rt, "memory"), begin);
     }
+    holds(&rt, plain.into_engine().states_kept() > 0);
 }

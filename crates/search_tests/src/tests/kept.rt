@@ -1,20 +1,19 @@
 //! The matches of a text in pieces, and the bytes of each, which are kept until the search
 //! continues.
 
-use crate::tests::find::{Row, Search, WORDS, expect_matches};
+use crate::tests::find::{self, Row, Search, WORDS};
 use crate::tests::patterns::regex_of;
-use crate::tests::trial::{Trial, fail_each_in_turn, succeed_if};
-use crate::tests::{holds, same};
-use determinize_below::PatternID;
-use determinize_find::{Match, Pieces, Regex};
-use determinize_lazy::Lazy;
-use determinize_regex::Stream;
-use std::alloc::{AllocError, Allocator, Global};
+use crate::tests::trial::{Trial, fail_each_in_turn};
+use crate::tests::{expect_matches, holds, same};
+use determinize_below::{AsNfa, Match, PatternID};
+use determinize_find::{Pieces, Regex};
+use determinize_lazy::{Engine, LazyDfa};
+use std::alloc::{AllocError, Allocator};
 use std::process::Abort;
 
 /// Words; `a*`, of which an empty match where the one before ended is skipped; and `b|`, of which
 /// a match is certain at once.
-static ROWS: [Row; 3] = [
+static ROWS: [Row<'static>; 3] = [
     Row {
         states: WORDS,
         haystack: b"-x1- _, abcd",
@@ -32,17 +31,8 @@ static ROWS: [Row; 3] = [
     },
 ];
 
-/// Compares the bytes that are kept of a match with those of the text.
-fn expect_bytes<R: Abort, A: Allocator + Copy>(
-    rt: &R,
-    stream: &Pieces<A>,
-    text: &[u8],
-    found: &Match,
-) {
-    same(rt, stream.bytes_of(found), text.get(found.range()));
-}
-
 /// The calls by which a text in pieces is searched.
+#[derive(Clone, Copy)]
 pub enum Calls {
     /// `feed`, which adds all matches that are certain after a piece.
     Feed,
@@ -50,120 +40,114 @@ pub enum Calls {
     Advance,
 }
 
-/// Adds the matches that are certain after a piece, by `feed`. If that fails, feeds the part that
-/// was not read.
-fn feed_piece<A: Allocator + Copy>(
-    stream: &mut Pieces<A>,
-    regex: &mut Regex<Lazy<'_, Global, A>, Lazy<'_, A, A>>,
-    piece: &[u8],
-    found: &mut Vec<Match, A>,
-    is_sound: &mut bool,
-) -> Result<(), AllocError> {
-    let begin = stream.bytes_read();
-    if stream.feed(regex, piece, found).is_ok() {
-        return Ok(());
-    }
-    *is_sound = false;
-    let read = stream.bytes_read().saturating_sub(begin);
-    stream.feed(regex, piece.get(read..).unwrap_or(piece), found)
+/// Compares the bytes that are kept of a match.
+fn expect_bytes<R: Abort, A: Allocator + Copy>(
+    rt: &R,
+    stream: &Pieces<A>,
+    found: &Match,
+    wanted: Option<&[u8]>,
+) {
+    same(rt, stream.bytes_of(found), wanted);
 }
 
-/// Adds the matches that are certain after a piece, by `advance`, and compares their bytes. A call
-/// that fails is made again, once.
-fn read_piece<R: Abort, A: Allocator + Copy>(
+/// Adds the matches that are certain after a piece. If that fails, feeds the part that was not
+/// read. Returns whether nothing failed.
+fn feed_piece<N: AsNfa, B: Engine<Error = AllocError>, A: Allocator + Copy>(
+    stream: &mut Pieces<A>,
+    regex: &mut Regex<LazyDfa<N, A>, B>,
+    piece: &[u8],
+    found: &mut Vec<Match, A>,
+) -> Result<bool, AllocError> {
+    let begin = stream.bytes_read();
+    if stream.feed(regex, piece, found).is_ok() {
+        return Ok(true);
+    }
+    let read = stream.bytes_read().saturating_sub(begin);
+    stream.feed(regex, piece.get(read..).unwrap_or(piece), found)?;
+    Ok(false)
+}
+
+/// Adds the matches that are certain after a piece, by `advance`, and compares their bytes with
+/// those of the text. A call that fails is made again, once. Returns whether nothing failed.
+fn read_piece<R: Abort, N: AsNfa, B: Engine<Error = AllocError>, A: Allocator + Copy>(
     rt: &R,
     stream: &mut Pieces<A>,
-    regex: &mut Regex<Lazy<'_, Global, A>, Lazy<'_, A, A>>,
+    regex: &mut Regex<LazyDfa<N, A>, B>,
     text: &[u8],
     mut piece: &[u8],
     found: &mut Vec<Match, A>,
-    is_sound: &mut bool,
-) -> Result<(), AllocError> {
+) -> Result<bool, AllocError> {
+    let mut is_sound = true;
     for _ in 0..u64::MAX {
         match stream.advance(regex, &mut piece) {
             Ok(Some(next)) => {
-                expect_bytes(rt, stream, text, &next);
+                expect_bytes(rt, stream, &next, text.get(next.range()));
                 found.push(next)?;
             }
             Ok(None) => break,
-            Err(_) if *is_sound => *is_sound = false,
+            Err(_) if is_sound => is_sound = false,
             Err(error) => return Err(error),
         }
     }
     holds(rt, piece.is_empty());
-    Ok(())
+    Ok(is_sound)
 }
 
-/// Adds the matches that are left, and makes a call that fails again. Compares their bytes.
-fn finish<R: Abort, A: Allocator + Copy>(
+/// Adds the matches that are left, and makes a call that fails again. Compares their bytes. Returns
+/// whether nothing failed.
+fn finish<R: Abort, N: AsNfa, B: Engine<Error = AllocError>, A: Allocator + Copy>(
     rt: &R,
     stream: &Pieces<A>,
-    regex: &mut Regex<Lazy<'_, Global, A>, Lazy<'_, A, A>>,
+    regex: &mut Regex<LazyDfa<N, A>, B>,
     text: &[u8],
     found: &mut Vec<Match, A>,
-    is_sound: &mut bool,
-) -> Result<(), AllocError> {
+) -> Result<bool, AllocError> {
     let count = found.len();
-    if stream.finish(regex, found).is_err() {
-        *is_sound = false;
+    let is_sound = stream.finish(regex, found).is_ok();
+    if !is_sound {
         stream.finish(regex, found)?;
     }
-    for index in count..found.len() {
-        expect_bytes(rt, stream, text, &found[index]);
+    for next in found.get(count..).unwrap_or(&[]) {
+        expect_bytes(rt, stream, next, text.get(next.range()));
     }
-    Ok(())
+    Ok(is_sound)
 }
 
 /// Finds the matches of a row in pieces, and makes a search that fails again: no match is lost, and
 /// none is found twice. Returns an error if an allocation failed.
-fn read_all<R: Abort, A: Allocator + Copy>(
+fn read_all<R: Abort, N: AsNfa, B: Engine<Error = AllocError>, A: Allocator + Copy>(
     rt: &R,
     stream: &mut Pieces<A>,
-    regex: &mut Regex<Lazy<'_, Global, A>, Lazy<'_, A, A>>,
-    row: &Row,
-    pieces: &[&[u8]],
-    calls: &Calls,
+    regex: &mut Regex<LazyDfa<N, A>, B>,
+    row: &Row<'_>,
+    calls: Calls,
+    size: usize,
     found: &mut Vec<Match, A>,
 ) -> Result<(), AllocError> {
     let (text, mut is_sound) = (row.haystack, true);
-    for piece in pieces {
-        match *calls {
-            Calls::Feed => feed_piece(stream, regex, piece, found, &mut is_sound),
-            Calls::Advance => read_piece(rt, stream, regex, text, piece, found, &mut is_sound),
+    for piece in text.chunks(size.max(1)) {
+        let is_read = match calls {
+            Calls::Feed => feed_piece(stream, regex, piece, found),
+            Calls::Advance => read_piece(rt, stream, regex, text, piece, found),
         }?;
+        is_sound = is_sound && is_read;
     }
-    finish(rt, stream, regex, text, found, &mut is_sound)?;
+    is_sound = finish(rt, stream, regex, text, found)? && is_sound;
     expect_matches(rt, found.as_slice(), row.matches);
-    succeed_if(is_sound)
-}
-
-/// Finds the matches of a row in these pieces.
-pub fn read<R: Abort, A: Allocator + Copy>(
-    rt: &R,
-    alloc: A,
-    regex: &mut Regex<Lazy<'_, Global, A>, Lazy<'_, A, A>>,
-    row: &Row,
-    pieces: &[&[u8]],
-    calls: &Calls,
-) -> Result<(), AllocError> {
-    let (mut stream, mut found) = (Pieces::new(alloc), Vec::new(alloc));
-    read_all(rt, &mut stream, regex, row, pieces, calls, &mut found)
+    if is_sound { Ok(()) } else { Err(AllocError) }
 }
 
 /// Finds the matches of a row in pieces of this size.
-pub fn read_chunks<R: Abort + AllocGlobal, A: Allocator + Copy>(
+pub fn read<R: Abort, N: AsNfa, B: Engine<Error = AllocError>, A: Allocator + Copy>(
     rt: &R,
     alloc: A,
-    regex: &mut Regex<Lazy<'_, Global, A>, Lazy<'_, A, A>>,
-    row: &Row,
+    regex: &mut Regex<LazyDfa<N, A>, B>,
+    row: &Row<'_>,
+    calls: Calls,
     size: usize,
-    calls: &Calls,
 ) -> Result<(), AllocError> {
-    let pieces = row
-        .haystack
-        .chunks(size.max(1))
-        .collect::<Vec<_>>(rt.alloc());
-    read(rt, alloc, regex, row, &pieces.expect(rt, "memory"), calls)
+    let (mut stream, mut found) = (Pieces::new(alloc), Vec::new(alloc));
+    read_all(rt, &mut stream, regex, row, calls, size, &mut found)
 }
 
 /// The bytes of each match, with each allocation failing in turn.
@@ -171,33 +155,37 @@ pub fn read_chunks<R: Abort + AllocGlobal, A: Allocator + Copy>(
 fn bytes_of_each_match(rt: HostRuntime) {
     for row in &ROWS {
         for size in 1..=row.haystack.len() {
-            fail_each_in_turn(&rt, &Trial::Search(row, 3, &Search::Bytes(size)));
+            let search = Search::Pieces(Calls::Advance, size);
+            fail_each_in_turn(&rt, &Trial::Search(row, 3, search));
         }
     }
 }
 
 /// Reads 1500 words in one piece of three blocks, of which never more than one and the beginning of
 /// a word are kept. The bytes of the first word are then dropped.
-pub fn expect_sevens<R: Abort + AllocGlobal>(rt: &R, regex: &mut Regex<Lazy<'_>, Lazy<'_>>) {
-    let text = b"seven, ".repeat(rt.alloc(), 1500).expect(rt, "memory");
+#[test]
+fn bytes_of_many_matches(rt: HostRuntime) {
+    let mut regex = find::regex(&rt, WORDS);
+    let text = b"seven, ".repeat(rt.alloc(), 1500).expect(&rt, "memory");
     let (mut stream, mut piece) = (Pieces::new(rt.alloc()), text.as_slice());
-    let mut count = 0usize;
-    for _ in 0..u64::MAX {
-        let Some(next) = stream.advance(regex, &mut piece).expect(rt, "memory") else {
-            break;
-        };
-        same(rt, stream.bytes_of(&next), Some(b"seven".as_slice()));
-        holds(rt, stream.bytes_kept() <= 4096 + 8);
-        count = count.saturating_add(1);
+    for _ in 0..1500u32 {
+        let next = stream.advance(&mut regex, &mut piece).expect(&rt, "memory");
+        let next = next.expect(&rt, "a word");
+        expect_bytes(&rt, &stream, &next, Some(b"seven"));
+        holds(&rt, stream.bytes_kept() <= 4096 + 8);
     }
-    same(rt, count, 1500);
-    holds(rt, stream.bytes_kept() <= 64);
-    let first = Match {
-        pattern: PatternID::ZERO,
-        start: 0,
-        end: 5,
-    };
-    same(rt, stream.bytes_of(&first), None);
+    same(&rt, stream.advance(&mut regex, &mut piece), Ok(None));
+    holds(&rt, stream.bytes_kept() <= 64);
+    let (pattern, start, end) = (PatternID::ZERO, 0, 5);
+    same(
+        &rt,
+        stream.bytes_of(&Match {
+            pattern,
+            start,
+            end,
+        }),
+        None,
+    );
 }
 
 /// The start and the bytes of a word.
@@ -209,23 +197,19 @@ static PIECES: [(&[u8], &[Word]); 2] = [
     (b"f;", &[(8, b"ef")]),
 ];
 
-/// Compares the words in a piece.
-fn expect_piece<R: Abort>(rt: &R, stream: &mut Stream<'_>, mut piece: &[u8], wanted: &[Word]) {
-    for &(start, bytes) in wanted {
-        let found = stream.advance(&mut piece).expect(rt, "memory");
-        let found = found.expect(rt, "a word");
-        same(rt, found.start, start);
-        same(rt, stream.bytes_of(&found), Some(bytes));
-    }
-    same(rt, stream.advance(&mut piece), Ok(None));
-    holds(rt, piece.is_empty());
-}
-
 #[test]
 fn bytes_of_patterns(rt: HostRuntime) {
     let regex = regex_of(&rt, &["[a-z]+"]);
     let mut stream = regex.stream(rt.alloc(), 100);
     for &(piece, wanted) in &PIECES {
-        expect_piece(&rt, &mut stream, piece, wanted);
+        let mut piece = piece;
+        for &(start, bytes) in wanted {
+            let found = stream.advance(&mut piece).expect(&rt, "memory");
+            let found = found.expect(&rt, "a word");
+            same(&rt, found.start, start);
+            same(&rt, stream.bytes_of(&found), Some(bytes));
+        }
+        same(&rt, stream.advance(&mut piece), Ok(None));
+        holds(&rt, piece.is_empty());
     }
 }

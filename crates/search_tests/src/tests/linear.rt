@@ -1,17 +1,15 @@
-//! All matches in a linear number of steps: over an NFA, by a whole DFA, and by the smallest one.
+//! All matches in a linear number of steps: over an NFA and by a whole DFA.
 
 ghost use Rattle.std.specs.Prelude.{◌≡◌, false, true};
 ghost use Rattle.determinize_below.specs.declared.search.MatchKind.TheVariants as kinds;
 ghost use Rattle.determinize_engine.specs.Searches.{has_start};
 
-use crate::tests::find::{Ends, expect_matches, expect_same, same_match};
 use crate::tests::patterns::regex_of;
-use crate::tests::{dense, same};
-use determinize_below::{Anchored, MatchKind, NFA};
+use crate::tests::{Ends, dense, expect_matches, same};
+use determinize_below::{Anchored, Match, MatchKind, NFA};
 use determinize_dense::Dfa;
-use determinize_find::Match;
 use determinize_linear::{dense as by_dfa, find_all};
-use determinize_regex::{Input, Regex};
+use determinize_regex::Input;
 use std::process::Abort;
 
 /// Patterns, a haystack, the start and the end of a range of it, and all matches or tokens in the
@@ -87,7 +85,7 @@ static ANCHORED: [Case; 4] = [
 
 /// Asserts that a whole DFA finds these matches of an input in a linear number of steps, in a list
 /// and one at a time, and then none, and so does its NFA.
-pub fn expect_linear<R: Abort + AllocGlobal>(
+fn expect_linear<R: Abort + AllocGlobal>(
     rt: &R,
     dfa: &Dfa<&NFA>,
     input: &Input<'_>,
@@ -97,12 +95,14 @@ pub fn expect_linear<R: Abort + AllocGlobal>(
     requires kind { dfa.now.kind ≡ kinds.LeftmostFirst }
     requires start { has_start input.now.anchored ≡ true }
 {
-    expect_same(rt, by_dfa::find_all(rt.alloc(), dfa, input), wanted);
+    let found = by_dfa::find_all(rt.alloc(), dfa, input).expect(rt, "memory");
+    same(rt, found.as_slice(), wanted);
     let mut searcher = by_dfa::Searcher::new(rt.alloc(), dfa, input).expect(rt, "memory");
     for index in 0..wanted.len() + 2 {
-        same_match(rt, searcher.advance(), wanted.get(index).copied());
+        same(rt, searcher.advance(), wanted.get(index).copied());
     }
-    expect_same(rt, find_all(rt.alloc(), dfa.nfa(), input), wanted);
+    let found = find_all(rt.alloc(), dfa.nfa(), input).expect(rt, "memory");
+    same(rt, found.as_slice(), wanted);
 }
 
 /// Compares all matches of a case, by a regex, with those expected, and with those in a linear
@@ -118,7 +118,6 @@ fn expect_case<R: Abort + AllocGlobal>(rt: &R, case: &Case, anchored: Anchored)
     expect_matches(rt, found.as_slice(), wanted);
     let dfa = dense::dfa(rt, regex.nfa(), MatchKind::LeftmostFirst, 100);
     expect_linear(rt, &dfa, &input, found.as_slice());
-    expect_linear(rt, &dense::least(rt, &dfa), &input, found.as_slice());
 }
 
 #[test]
@@ -134,7 +133,7 @@ fn found_by_hand(rt: HostRuntime) {
 /// Of 20,000 bytes `a` each is a match, behind which the others are read.
 #[test]
 fn quadratic_by_other_searches(rt: HostRuntime) {
-    let regex = Regex::new(rt.alloc(), "[^z]*z|a").expect(&rt, "a pattern");
+    let regex = regex_of(&rt, &["[^z]*z|a"]);
     let text = Vec::from_elem(rt.alloc(), b'a', 20_000).expect(&rt, "memory");
     let input = Input::new(&text);
     let dfa = dense::dfa(&rt, regex.nfa(), MatchKind::LeftmostFirst, 100);

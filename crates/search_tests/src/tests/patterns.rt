@@ -2,11 +2,9 @@
 //! them, other bytes in their place, which patterns match, which text is in error, how errors are
 //! written, and the memory of caches.
 
-use crate::tests::find::{Ends, expect_found, expect_matches};
-use crate::tests::{expect_text, holds, same};
+use crate::tests::{Ends, expect_found, expect_matches, expect_text, holds, same};
 use determinize_regex::{
-    Error, ErrorKind, Input, Match, Matcher, ParseError, PatternID, Regex, RegexConfig, RegexSet,
-    Searcher, Stream,
+    Error, ErrorKind, Input, ParseError, PatternID, Regex, RegexConfig, Searcher,
 };
 use determinize_uses::{patterns, words};
 use std::alloc::AllocError;
@@ -24,41 +22,37 @@ static FOUND: [Ends; 3] = [(1, 0, 2), (0, 3, 7), (1, 8, 11)];
 
 const TEXT: &[u8] = b"In 1984 Ada";
 
-/// Finds the numbers and names of the text, for which the caches need memory.
-fn expect_words<R: Abort + AllocGlobal>(rt: &R, regex: &mut Regex) {
-    let found = words::find_all(rt.alloc(), regex, TEXT);
-    expect_found(rt, found, &FOUND);
-    holds(rt, regex.memory_usage() > 0);
-}
-
-/// Compares the memory of both caches with that of each: `is_match` fills the one of the DFA that
-/// reads forward, `is_full_match` the one of the DFA that reads backward.
-fn expect_both_caches<R: Abort>(rt: &R, regex: &mut Regex) {
-    let input = Input::new(TEXT);
-    regex.clear();
-    same(rt, regex.is_match(&input), Ok(true));
-    let forward = regex.memory_usage();
-    regex.clear();
-    same(rt, regex.is_full_match(&input), Ok(false));
-    let backward = regex.memory_usage();
-    holds(rt, forward > 0 && backward > 0);
-    same(rt, regex.is_match(&input), Ok(true));
-    same(rt, regex.memory_usage(), forward.saturating_add(backward));
-}
-
 /// Finds the same matches before and after the caches are cleared and freed, and compares the
 /// memory of the caches.
 #[test]
 fn numbers_and_names(rt: HostRuntime) {
     let mut regex = words::words(rt.alloc()).expect(&rt, "patterns");
-    expect_words(&rt, &mut regex);
+    for &is_reset in &[false, true, false] {
+        expect_found(&rt, words::find_all(rt.alloc(), &mut regex, TEXT), &FOUND);
+        holds(&rt, regex.memory_usage() > 0);
+        if is_reset {
+            regex.reset();
+        } else {
+            regex.clear();
+        }
+        same(&rt, regex.memory_usage(), 0);
+    }
+}
+
+/// Compares the memory of both caches with that of each: `is_match` fills the one of the DFA that
+/// reads forward, `is_full_match` the one of the DFA that reads backward.
+#[test]
+fn memory_of_each_cache(rt: HostRuntime) {
+    let mut regex = words::words(rt.alloc()).expect(&rt, "patterns");
+    let input = Input::new(TEXT);
+    same(&rt, regex.is_match(&input), Ok(true));
+    let forward = regex.memory_usage();
     regex.clear();
-    same(&rt, regex.memory_usage(), 0);
-    expect_words(&rt, &mut regex);
-    regex.reset();
-    same(&rt, regex.memory_usage(), 0);
-    expect_words(&rt, &mut regex);
-    expect_both_caches(&rt, &mut regex);
+    same(&rt, regex.is_full_match(&input), Ok(false));
+    let backward = regex.memory_usage();
+    holds(&rt, forward > 0 && backward > 0);
+    same(&rt, regex.is_match(&input), Ok(true));
+    same(&rt, regex.memory_usage(), forward.saturating_add(backward));
 }
 
 /// The same matches by a second search, in a linear number of steps, and one after another.
@@ -80,68 +74,50 @@ fn numbers_and_names_in_turn(rt: HostRuntime) {
     same(&rt, regex.next_match(&mut searcher), Ok(None));
 }
 
-/// Whether a text is a match of `a|ab` as a whole, as Python's `re.fullmatch` says.
-#[test]
-fn whole_texts(rt: HostRuntime) {
-    let mut regex = regex_of(&rt, &["a|ab"]);
-    same(&rt, regex.is_full_match(&Input::new(b"ab")), Ok(true));
-    same(&rt, regex.is_full_match(&Input::new(b"abb")), Ok(false));
-}
-
-/// The routes of a path: those that match it as a whole, at its end, and anywhere in it.
-fn expect_routes<R: Abort + AllocGlobal>(rt: &R, set: &mut RegexSet) {
-    let whole = patterns::routes_of(set, b"/user/12").expect(rt, "memory");
-    same(rt, whole.as_slice(), [PatternID::must(1)].as_slice());
-    let ends = set.matches_at_end(&Input::new(b"/user/12"));
-    same(
-        rt,
-        ends.expect(rt, "memory").as_slice(),
-        [PatternID::must(1), PatternID::must(2)].as_slice(),
-    );
-    let some = set.matches(rt.alloc(), &Input::new(b"/user/x1"));
-    same(
-        rt,
-        some.expect(rt, "memory").as_slice(),
-        [true, false, true].as_slice(),
-    );
-}
-
-/// Compares the routes twice, and the memory of the cache once it is freed.
+/// The routes of a path, before and after the cache is freed: those that match it as a whole, at
+/// its end, and anywhere in it.
 #[test]
 fn routes_of_a_path(rt: HostRuntime) {
     let mut set = patterns::routes(rt.alloc()).expect(&rt, "patterns");
-    expect_routes(&rt, &mut set);
-    holds(&rt, set.memory_usage() > 0);
-    set.reset();
-    same(&rt, set.memory_usage(), 0);
-    expect_routes(&rt, &mut set);
+    let wanted = [PatternID::must(1), PatternID::must(2)];
+    for _ in 0..2u32 {
+        let whole = patterns::routes_of(&mut set, b"/user/12").expect(&rt, "memory");
+        same(&rt, whole.as_slice(), &wanted[..1]);
+        let ends = set.matches_at_end(&Input::new(b"/user/12"));
+        same(
+            &rt,
+            ends.expect(&rt, "memory").as_slice(),
+            wanted.as_slice(),
+        );
+        let some = set.matches(rt.alloc(), &Input::new(b"/user/x1"));
+        let some = some.expect(&rt, "memory");
+        same(&rt, some.as_slice(), [true, false, true].as_slice());
+        holds(&rt, set.memory_usage() > 0);
+        set.reset();
+        same(&rt, set.memory_usage(), 0);
+    }
 }
 
-/// Compares whether a `Regex` of `a|ab` has a match in two texts, and the first match.
-fn expect_first<R: Abort>(rt: &R, regex: &mut Regex) {
-    let (some, none) = (Input::new(b"xab"), Input::new(b"xb"));
-    same(rt, regex.is_match(&some), Ok(true));
-    same(rt, regex.is_match(&none), Ok(false));
-    let found = regex.find(&some).expect(rt, "memory");
-    expect_matches(rt, found.as_slice(), &[(0, 1, 2)]);
-}
-
-/// Compares all matches of `a|ab` in a text by a `Matcher`.
-fn expect_all<R: Abort + AllocGlobal>(rt: &R, matcher: &mut Matcher<'_>) {
-    same(rt, matcher.is_match(&Input::new(b"xab")), Ok(true));
-    let found = matcher.find_all(rt.alloc(), &Input::new(b"aab"));
-    expect_found(rt, found, &[(0, 0, 1), (0, 1, 2)]);
-}
-
-/// Searches by a `Regex` twice, and by a `Matcher`.
+/// Compares whether a `Regex` of `a|ab` has a match in two texts, and the first match, before and
+/// after its caches are cleared, all matches of a text by a `Matcher`, and whether a text is a
+/// match as a whole, as Python's `re.fullmatch` says.
 #[test]
 fn regex_and_matcher(rt: HostRuntime) {
     let mut regex = regex_of(&rt, &["a|ab"]);
-    expect_first(&rt, &mut regex);
-    regex.clear();
-    expect_first(&rt, &mut regex);
-    regex.clear();
-    expect_all(&rt, &mut regex.matcher(rt.alloc(), 2));
+    for _ in 0..2u32 {
+        let some = Input::new(b"xab");
+        same(&rt, regex.is_match(&some), Ok(true));
+        same(&rt, regex.is_match(&Input::new(b"xb")), Ok(false));
+        let found = regex.find(&some).expect(&rt, "memory");
+        expect_matches(&rt, found.as_slice(), &[(0, 1, 2)]);
+        regex.clear();
+    }
+    same(&rt, regex.is_full_match(&Input::new(b"ab")), Ok(true));
+    same(&rt, regex.is_full_match(&Input::new(b"abb")), Ok(false));
+    let mut matcher = regex.matcher(rt.alloc(), 2);
+    same(&rt, matcher.is_match(&Input::new(b"xab")), Ok(true));
+    let found = matcher.find_all(rt.alloc(), &Input::new(b"aab"));
+    expect_found(&rt, found, &[(0, 0, 1), (0, 1, 2)]);
 }
 
 /// A text, its parts between runs of commas and blanks, and the text with `$1` in place of each
@@ -152,14 +128,6 @@ static PARTS: [&[u8]; 4] = [b"a", b"b", b"c", b""];
 
 const REPLACED: &[u8] = b"a$1b$1c$1";
 
-/// Splits the text, and replaces its separators.
-fn expect_list<R: Abort + AllocGlobal>(rt: &R, regex: &mut Regex) {
-    let parts = regex.split(rt.alloc(), LIST);
-    same(rt, parts.expect(rt, "memory").as_slice(), PARTS.as_slice());
-    let text = regex.replace_all(rt.alloc(), LIST, b"$1");
-    same(rt, text.expect(rt, "memory").as_slice(), REPLACED);
-}
-
 /// The UTF-8 of `aé`, its parts between the matches of `b*`, and the text with `-` in place of
 /// each, as Python's `re` finds them in the string.
 const ACCENTED: &[u8] = b"a\xC3\xA9";
@@ -168,39 +136,33 @@ static ACCENTED_PARTS: [&[u8]; 4] = [b"", b"a", b"\xC3\xA9", b""];
 
 const DASHED: &[u8] = b"-a-\xC3\xA9-";
 
-/// Splits the text, and replaces its matches, but not inside its second character.
-fn expect_accented<R: Abort + AllocGlobal>(rt: &R, regex: &mut Regex) {
-    let parts = regex.split_utf8(rt.alloc(), ACCENTED);
-    let parts = parts.expect(rt, "memory");
-    same(rt, parts.as_slice(), ACCENTED_PARTS.as_slice());
-    let text = regex.replace_all_utf8(rt.alloc(), ACCENTED, b"-");
-    same(rt, text.expect(rt, "memory").as_slice(), DASHED);
-}
-
 /// The bytes between the numbers and names of the text.
 static BETWEEN: [&[u8]; 4] = [b"", b" ", b" ", b""];
 
 /// Splits the text at its numbers and names, and replaces these.
-fn expect_masked<R: Abort + AllocGlobal>(rt: &R, regex: &mut Regex) {
-    let parts = words::parts(rt.alloc(), regex, TEXT);
-    same(
-        rt,
-        parts.expect(rt, "memory").as_slice(),
-        BETWEEN.as_slice(),
-    );
-    let text = words::masked(rt.alloc(), regex, TEXT);
-    same(
-        rt,
-        text.expect(rt, "memory").as_slice(),
-        b"A # A".as_slice(),
-    );
+#[test]
+fn numbers_and_names_are_replaced(rt: HostRuntime) {
+    let mut regex = words::words(rt.alloc()).expect(&rt, "patterns");
+    let parts = words::parts(rt.alloc(), &mut regex, TEXT).expect(&rt, "memory");
+    same(&rt, parts.as_slice(), BETWEEN.as_slice());
+    let text = words::masked(rt.alloc(), &mut regex, TEXT).expect(&rt, "memory");
+    same(&rt, text.as_slice(), b"A # A".as_slice());
 }
 
+/// Splits a text and replaces its separators, and so of a text in UTF-8, but not inside its second
+/// character.
 #[test]
 fn split_and_replace(rt: HostRuntime) {
-    expect_masked(&rt, &mut words::words(rt.alloc()).expect(&rt, "patterns"));
-    expect_list(&rt, &mut regex_of(&rt, &["[ ,]+"]));
-    expect_accented(&rt, &mut regex_of(&rt, &["b*"]));
+    let mut regex = regex_of(&rt, &["[ ,]+"]);
+    let parts = regex.split(rt.alloc(), LIST).expect(&rt, "memory");
+    same(&rt, parts.as_slice(), PARTS.as_slice());
+    let text = regex.replace_all(rt.alloc(), LIST, b"$1");
+    same(&rt, text.expect(&rt, "memory").as_slice(), REPLACED);
+    let mut regex = regex_of(&rt, &["b*"]);
+    let parts = regex.split_utf8(rt.alloc(), ACCENTED).expect(&rt, "memory");
+    same(&rt, parts.as_slice(), ACCENTED_PARTS.as_slice());
+    let text = regex.replace_all_utf8(rt.alloc(), ACCENTED, b"-");
+    same(&rt, text.expect(&rt, "memory").as_slice(), DASHED);
 }
 
 /// `In 1984 Ada` in two pieces, with those of its numbers and names that are found after each. The
@@ -211,21 +173,17 @@ static PIECES: [(&[u8], &[Ends]); 2] = [
 ];
 
 /// Feeds the pieces. The last name, the byte before it and the one before these are kept.
-fn expect_pieces<R: Abort>(rt: &R, stream: &mut Stream<'_>, found: &mut Vec<Match>) {
-    for &(piece, wanted) in &PIECES {
-        stream.feed(piece, found).expect(rt, "memory");
-        expect_matches(rt, found, wanted);
-    }
-    same(rt, (stream.bytes_read(), stream.bytes_kept()), (11, 5));
-    stream.finish(found).expect(rt, "memory");
-    expect_matches(rt, found, &FOUND);
-}
-
 #[test]
 fn in_pieces(rt: HostRuntime) {
     let regex = regex_of(&rt, &["[0-9]+", "[A-Z][a-z]*"]);
-    let mut stream = regex.stream(rt.alloc(), 100);
-    expect_pieces(&rt, &mut stream, &mut Vec::new(rt.alloc()));
+    let (mut stream, mut found) = (regex.stream(rt.alloc(), 100), Vec::new(rt.alloc()));
+    for &(piece, wanted) in &PIECES {
+        stream.feed(piece, &mut found).expect(&rt, "memory");
+        expect_matches(&rt, &found, wanted);
+    }
+    same(&rt, (stream.bytes_read(), stream.bytes_kept()), (11, 5));
+    stream.finish(&mut found).expect(&rt, "memory");
+    expect_matches(&rt, &found, &FOUND);
 }
 
 /// Errors with their texts, and what is written of both.

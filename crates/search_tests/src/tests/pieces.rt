@@ -1,11 +1,11 @@
 //! A text in pieces: each match is found with its last byte, and few bytes are kept.
 
-use crate::tests::find::{Ends, WORDS, backward_of, expect_matches, nfa, same_end};
-use crate::tests::{dense, ended, holds, same};
-use determinize_below::MatchKind;
+use crate::tests::find::{self, WORDS, nfa};
+use crate::tests::{Ends, dense, ended, expect_matches, holds, same};
+use determinize_below::{AsNfa, Match, MatchKind};
 use determinize_engine::WithAllocError;
-use determinize_find::{Match, Pieces, Regex};
-use determinize_lazy::{Engine, Lazy};
+use determinize_find::{Pieces, Regex, reversed};
+use determinize_lazy::{Engine, Lazy, LazyDfa};
 use std::alloc::AllocError;
 use std::process::Abort;
 
@@ -28,10 +28,10 @@ const MATCHES: &[Ends] = &[(0, 0, 3), (0, 3, 4), (0, 4, 8), (0, 8, 9), (0, 9, 10
 const TEN_WORDS: &[u8] = b"ven; one, two, three, four, five, six; eight, nine, ten...   sev";
 
 /// Feeds a piece.
-pub fn put<R: Abort, B: Engine<Error = AllocError>>(
+pub fn put<R: Abort, N: AsNfa, B: Engine<Error = AllocError>>(
     rt: &R,
     stream: &mut Pieces,
-    regex: &mut Regex<Lazy<'_>, B>,
+    regex: &mut Regex<LazyDfa<N>, B>,
     piece: &[u8],
     found: &mut Vec<Match>,
 ) {
@@ -39,49 +39,31 @@ pub fn put<R: Abort, B: Engine<Error = AllocError>>(
 }
 
 /// Ends a text.
-pub fn end<R: Abort, B: Engine<Error = AllocError>>(
+pub fn end<R: Abort, N: AsNfa, B: Engine<Error = AllocError>>(
     rt: &R,
     stream: &Pieces,
-    regex: &mut Regex<Lazy<'_>, B>,
+    regex: &mut Regex<LazyDfa<N>, B>,
     found: &mut Vec<Match>,
 ) {
     stream.finish(regex, found).expect(rt, "memory");
 }
 
-/// Feeds a block many times, after each of which at most 64 bytes may be kept. Returns how many
-/// matches there are.
-fn count_matches<R: Abort>(
-    rt: &R,
-    stream: &mut Pieces,
-    regex: &mut Regex<Lazy<'_>, Lazy<'_>>,
-    block: &[u8],
-    found: &mut Vec<Match>,
-) -> usize {
+/// Feeds 1024 times the ten words 1600 times, after each of which at most 64 bytes may be kept, and
+/// counts the words. The first and the last word are halves of `seven`.
+#[test]
+fn hundred_megabytes(rt: HostRuntime) {
+    let mut regex = find::regex(&rt, WORDS);
+    let block = TEN_WORDS.repeat(rt.alloc(), 1024).expect(&rt, "memory");
+    let (mut stream, mut found) = (Pieces::new(rt.alloc()), Vec::new(rt.alloc()));
     let mut count = 0usize;
     for _ in 0..1600u32 {
-        put(rt, stream, regex, block, found);
-        holds(rt, stream.bytes_kept() <= 64);
+        put(&rt, &mut stream, &mut regex, &block, &mut found);
+        holds(&rt, stream.bytes_kept() <= 64);
         count = count.saturating_add(found.len());
         found.clear();
     }
-    end(rt, stream, regex, found);
-    count.saturating_add(found.len())
-}
-
-/// Feeds 1024 times the ten words 1600 times, and counts the words.
-fn expect_words<R: Abort + AllocGlobal>(rt: &R, regex: &mut Regex<Lazy<'_>, Lazy<'_>>) {
-    let block = TEN_WORDS.repeat(rt.alloc(), 1024).expect(rt, "memory");
-    let (mut stream, mut found) = (Pieces::new(rt.alloc()), Vec::new(rt.alloc()));
-    let count = count_matches(rt, &mut stream, regex, block.as_slice(), &mut found);
-    same(rt, count, 1600 * 1024 * 10 + 1);
-}
-
-/// The first and the last word are halves of `seven`.
-#[test]
-fn hundred_megabytes(rt: HostRuntime) {
-    let nfa = nfa(&rt, WORDS);
-    let backward = backward_of(&rt, &nfa);
-    expect_words(&rt, &mut Regex::new(rt.alloc(), &nfa, &backward, 100));
+    end(&rt, &stream, &mut regex, &mut found);
+    same(&rt, count.saturating_add(found.len()), 1600 * 1024 * 10 + 1);
 }
 
 /// Finds the lines of a text in pieces. After each piece there must be a match for each line that
@@ -102,28 +84,20 @@ fn expect_lines<R: Abort + AllocGlobal, B: Engine<Error = AllocError>>(
     expect_matches(rt, &found, MATCHES);
 }
 
-/// Finds the lines one by one, and in pieces of one byte to all bytes.
-fn expect_each<R: Abort + AllocGlobal, B: Engine<Error = AllocError>>(
-    rt: &R,
-    regex: &mut Regex<Lazy<'_>, B>,
-) {
-    expect_lines(rt, regex, &EACH_LINE);
-    for size in 1..=LINES.len() {
-        let pieces = LINES.chunks(size).collect::<Vec<_>>(rt.alloc());
-        expect_lines(rt, regex, pieces.expect(rt, "memory").as_slice());
-    }
-}
-
-/// Finds the lines by two lazy DFAs, and by a lazy one that finds the ends and a whole one that
-/// finds the starts.
+/// Finds the lines one by one, and in pieces of one byte to all bytes, by a lazy DFA that finds the
+/// ends and a whole one that finds the starts.
 #[test]
 fn each_line_at_its_last_byte(rt: HostRuntime) {
     let nfa = nfa(&rt, LINE);
-    let backward = backward_of(&rt, &nfa);
-    expect_each(&rt, &mut Regex::new(rt.alloc(), &nfa, &backward, 100));
+    let backward = reversed(rt.alloc(), &nfa).expect(&rt, "a reverse");
     let starts = dense::dfa(&rt, &backward, MatchKind::All, 1000);
     let ends = Lazy::new(rt.alloc(), &nfa, MatchKind::LeftmostFirst, 100);
-    expect_each(&rt, &mut Regex::from_engines(ends, WithAllocError(&starts)));
+    let mut regex = Regex::from_engines(ends, WithAllocError(&starts));
+    expect_lines(&rt, &mut regex, &EACH_LINE);
+    for size in 1..=LINES.len() {
+        let pieces = LINES.chunks(size).collect::<Vec<_>>(rt.alloc());
+        expect_lines(&rt, &mut regex, &pieces.expect(&rt, "memory"));
+    }
 }
 
 /// Scans `ab` by a cache, while another one must not feed or finish the scan.
@@ -133,7 +107,7 @@ fn expect_scan<R: Abort>(rt: &R, lazy: &mut Lazy<'_>, other: &mut Lazy<'_>) {
     holds(rt, other.feed(&mut scan, b"b").is_err());
     holds(rt, other.finish(&scan, None).is_err());
     lazy.feed(&mut scan, b"b").expect(rt, "memory");
-    same_end(rt, lazy.finish(&scan, None), ended(2));
+    same(rt, lazy.finish(&scan, None), Ok(ended(2)));
 }
 
 /// Walks over `ab` by a cache, while another one must not move the walker.

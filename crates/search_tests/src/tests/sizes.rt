@@ -1,13 +1,11 @@
 //! Calls of a `Builder` that no other test makes, and sizes above those of the other tests.
 
-use crate::tests::find::{WORDS, backward_of, expect_same, nfa, same_end};
-use crate::tests::kept::expect_sevens;
+use crate::tests::find::{self, WORDS};
 use crate::tests::pieces::{end, put};
 use crate::tests::uses::over;
 use crate::tests::{dense, ended, holds, same};
-use determinize_below::{Anchored, HalfMatch, Input, Look, MatchKind, NFA, StateID};
-use determinize_dense::Dfa;
-use determinize_find::{Builder, Finder, Pieces, Plain, Regex, find_all};
+use determinize_below::{Anchored, Input, Look, MatchKind, NFA, StateID};
+use determinize_find::{Builder, Finder, Pieces, Plain, find_all, reversed};
 use determinize_lazy::Lazy;
 use std::alloc::Global;
 use std::process::Abort;
@@ -60,62 +58,50 @@ fn expect_texts<R: Abort + AllocGlobal>(
     let mut lazy = Lazy::new(rt.alloc(), nfa, MatchKind::LeftmostFirst, 100);
     for &(text, wanted) in texts {
         let input = Input::new(text).anchored(Anchored::Yes);
-        let found = lazy.search_input(&input).expect(rt, "memory");
-        same(rt, pattern_and_end(found), wanted);
+        let found = match lazy.search_input(&input).expect(rt, "memory") {
+            Some(half) => Some((half.pattern.as_usize(), half.offset)),
+            None => None,
+        };
+        same(rt, found, wanted);
     }
 }
 
-/// Returns the pattern and the end of a match.
-fn pattern_and_end(found: Option<HalfMatch>) -> Option<(usize, usize)> {
-    match found {
-        Some(half) => Some((half.pattern.as_usize(), half.offset)),
-        None => None,
-    }
-}
-
-/// The reverse of the reverse of an NFA reads forward, and a run of 40 letters matches as before,
-/// as pattern 0, the only one of a reverse.
-fn expect_reversed<R: Abort + AllocGlobal>(rt: &R, nfa: &NFA) {
-    let once = backward_of(rt, nfa);
-    let twice = backward_of(rt, &once);
-    same(rt, (once.is_reverse(), twice.is_reverse()), (true, false));
-    expect_texts(rt, &twice, &RUNS);
-}
-
-/// Builds an NFA without the usual prefix, and one with it.
+/// Builds an NFA without the usual prefix, and one with it. The reverse of the reverse of the first
+/// reads forward, and a run of 40 letters matches as before, as pattern 0, the only one of a
+/// reverse.
 #[test]
 fn three_patterns(rt: HostRuntime) {
     let mut builder = Builder::new(rt.alloc());
     let start = add_three(&rt, &mut builder);
-    let nfa = builder.build(start, StateID::ZERO).expect(&rt, "an NFA");
-    expect_texts(&rt, &nfa, &TEXTS);
-    expect_reversed(&rt, &nfa);
     let prefixed = builder.build_with_prefix(start).expect(&rt, "an NFA");
     expect_texts(&rt, &prefixed, &TEXTS);
+    let nfa = builder.build(start, StateID::ZERO).expect(&rt, "an NFA");
+    expect_texts(&rt, &nfa, &TEXTS);
+    let once = reversed(rt.alloc(), &nfa).expect(&rt, "a reverse");
+    let twice = reversed(rt.alloc(), &once).expect(&rt, "a reverse");
+    same(&rt, (once.is_reverse(), twice.is_reverse()), (true, false));
+    expect_texts(&rt, &twice, &RUNS);
 }
 
 /// `[01]*1[01]{9}`.
 const TENTH: &str = "BU:1,2 B:30-31>0 B:31>3 B:30-31>4 B:30-31>5 B:30-31>6 B:30-31>7 B:30-31>8 \
     B:30-31>9 B:30-31>10 B:30-31>11 B:30-31>12 M:0";
 
-/// Compares searches of a whole DFA of `TENTH`: a match ends after ten `1`, and none after ten `0`
-/// more.
-fn expect_tenth<R: Abort>(rt: &R, dfa: &Dfa<&NFA>) {
-    let found = dfa.search(Anchored::Yes, None, b"1111111111", None);
-    same(rt, found, ended(10));
-    let found = dfa.patterns_after(Anchored::Yes, None, b"11111111110000000000", None);
-    same(rt, found.len(), 0);
-}
-
-/// Whether each of the last ten bytes was a `1` makes 1024 rows, of which none are alike.
+/// Whether each of the last ten bytes was a `1` makes 1024 rows, of which none are alike. A match
+/// ends after ten `1`, and none after ten `0` more.
 #[test]
 fn many_rows(rt: HostRuntime) {
-    let nfa = dense::nfa(&rt, TENTH, StateID::ZERO);
+    let nfa = dense::nfa(&rt, TENTH, 0);
     let dfa = dense::dfa(&rt, &nfa, MatchKind::All, 10_000);
     let least = dense::least(&rt, &dfa);
     holds(&rt, 1024 <= least.len() && least.len() <= dfa.len());
-    expect_tenth(&rt, &dfa);
-    expect_tenth(&rt, &least);
+    for dfa in &[dfa, least] {
+        let found = dfa.search(Anchored::Yes, None, b"1111111111", None);
+        same(&rt, found, ended(10));
+        let text = b"11111111110000000000";
+        let found = dfa.patterns_after(Anchored::Yes, None, text, None);
+        same(&rt, found.len(), 0);
+    }
 }
 
 /// Returns 20,000 words of two bytes, and then one of 30,000.
@@ -125,55 +111,46 @@ fn long_text<R: Abort + AllocGlobal>(rt: &R) -> Vec<u8> {
     text
 }
 
-/// Finds 100 words by a `Plain`, and none in spaces.
-fn expect_plain<R: Abort + AllocGlobal>(rt: &R, plain: &mut Plain<'_, Lazy<'_>>, text: &[u8]) {
-    let some = find_all(rt.alloc(), plain, &Input::new(text)).expect(rt, "memory");
-    same(rt, some.len(), 100);
-    same(rt, plain.find(&Input::new(&[b' '; 40])), Ok(None));
+/// Finds all words of a long text by an NFA and its reverse: whole, and in one piece, of which the
+/// last word is kept until the text ends.
+#[test]
+fn long_texts(rt: HostRuntime) {
+    let (mut regex, text) = (find::regex(&rt, WORDS), long_text(&rt));
+    let all = regex.find_all(rt.alloc(), &Input::new(&text));
+    let all = all.expect(&rt, "memory");
+    same(&rt, all.len(), 20_001);
+    let (mut stream, mut found) = (Pieces::new(rt.alloc()), Vec::new(rt.alloc()));
+    put(&rt, &mut stream, &mut regex, &text, &mut found);
+    holds(&rt, stream.bytes_kept() >= 30_000);
+    end(&rt, &stream, &mut regex, &mut found);
+    same(&rt, found.as_slice(), all.as_slice());
 }
 
-/// Scans a text by a scan that begins before it and by one of it all, and walks over it.
+/// Scans a text by a scan that begins before it and by one of it all.
 fn expect_scans<R: Abort>(rt: &R, lazy: &mut Lazy<'_>, text: &[u8]) {
     let start = lazy.nfa().start_unanchored();
     let mut fed = lazy.scan(start, None).expect(rt, "memory");
     lazy.feed(&mut fed, text).expect(rt, "memory");
     let scanned = lazy.scan_text(start, None, text).expect(rt, "memory");
-    let found = lazy.finish(&fed, None).expect(rt, "memory");
-    same_end(rt, lazy.finish(&scanned, None), found);
-    let states = lazy.walk(start, None, text).expect(rt, "memory");
-    same(rt, states.len(), text.len().saturating_add(2));
+    let found = lazy.finish(&fed, None);
+    same(rt, lazy.finish(&scanned, None), found);
+    holds(rt, found.is_ok());
 }
 
-/// Finds all words of a long text by an NFA and its reverse: whole, and in one piece, of which the
-/// last word is kept until the text ends.
-fn expect_regex<R: Abort + AllocGlobal>(
-    rt: &R,
-    regex: &mut Regex<Lazy<'_>, Lazy<'_>>,
-    text: &[u8],
-) {
-    let all = regex.find_all(rt.alloc(), &Input::new(text));
-    let all = all.expect(rt, "memory");
-    same(rt, all.len(), 20_001);
-    let (mut stream, mut found) = (Pieces::new(rt.alloc()), Vec::new(rt.alloc()));
-    put(rt, &mut stream, regex, text, &mut found);
-    holds(rt, stream.bytes_kept() >= 30_000);
-    end(rt, &stream, regex, &mut found);
-    expect_same(rt, Ok(found), all.as_slice());
-}
-
-/// Searches long texts in each way.
+/// Finds 100 words by a `Plain`, and none in spaces. Then scans a long text, and walks over it.
 #[test]
-fn long_texts(rt: HostRuntime) {
-    let (nfa, text) = (nfa(&rt, WORDS), long_text(&rt));
-    let backward = backward_of(&rt, &nfa);
-    expect_sevens(&rt, &mut Regex::new(rt.alloc(), &nfa, &backward, 100));
-    expect_regex(
-        &rt,
-        &mut Regex::new(rt.alloc(), &nfa, &backward, 100),
-        &text,
-    );
+fn long_scans(rt: HostRuntime) {
+    let (nfa, text) = (find::nfa(&rt, WORDS), long_text(&rt));
     let lazy = Lazy::new(rt.alloc(), &nfa, MatchKind::LeftmostFirst, 100);
     let mut plain = Plain::new(&nfa, lazy);
-    expect_plain(&rt, &mut plain, text.get(..300).unwrap_or(&[]));
-    expect_scans(&rt, &mut plain.into_engine(), &text);
+    let some = Input::new(text.get(..300).unwrap_or(&[]));
+    let some = find_all(rt.alloc(), &mut plain, &some);
+    same(&rt, some.expect(&rt, "memory").len(), 100);
+    same(&rt, plain.find(&Input::new(&[b' '; 40])), Ok(None));
+    let mut lazy = plain.into_engine();
+    expect_scans(&rt, &mut lazy, &text);
+    let start = lazy.nfa().start_unanchored();
+    let states = lazy.walk(start, None, &text);
+    let count = states.expect(&rt, "memory").len();
+    same(&rt, count, text.len().saturating_add(2));
 }

@@ -1,9 +1,8 @@
 //! Whole DFAs in bytes: a file that was written by hand, and what is wrong with others.
 
 use crate::tests::dense::{dfa, nfa};
-use crate::tests::dfa::expect_end;
-use crate::tests::{holds, same};
-use determinize_below::{Anchored, Input, MatchKind, StateID};
+use crate::tests::{expect_end, holds, same};
+use determinize_below::{Anchored, Input, MatchKind};
 use determinize_dense::{Automaton, Overlapping};
 use determinize_stored::{FormatError, FormatErrorKind, StoredDfa};
 use std::mem;
@@ -61,18 +60,15 @@ fn expect_error<R: Abort>(rt: &R, bytes: &[u8], kind: FormatErrorKind, offset: u
     same(rt, found, Some(FormatError { kind, offset }));
 }
 
-/// Asserts that a DFA has four rows, and an iterator over them has four too.
-fn expect_rows<R: Abort>(rt: &R, dfa: &StoredDfa<'_>) {
-    assert_eq!(rt; dfa.len(), 4);
-    same(rt, dfa.rows().count(), 4);
-}
-
 #[test]
 fn a_dfa_is_written_as_by_hand(rt: HostRuntime) {
-    let nfa = nfa(&rt, "B:61>1 M:0", StateID::ZERO);
+    let nfa = nfa(&rt, "B:61>1 M:0", 0);
     let bytes = dfa(&rt, &nfa, MatchKind::LeftmostFirst, 10).to_bytes(rt.alloc());
-    let bytes = bytes.expect(&rt, "memory");
-    same(&rt, bytes.as_slice(), file(&rt).as_slice());
+    same(
+        &rt,
+        bytes.expect(&rt, "memory").as_slice(),
+        file(&rt).as_slice(),
+    );
 }
 
 /// Texts, and the ends of their matches.
@@ -83,7 +79,7 @@ static TEXTS: [(&[u8], Option<usize>); 4] = [
     (b"ba", None),
 ];
 
-/// Searches texts, counts the four rows, and steps over `a` and over another one.
+/// Searches texts. The match of `a` in `ab` ends at position 1.
 #[test]
 fn a_file_is_searched(rt: HostRuntime) {
     let bytes = file(&rt);
@@ -91,23 +87,24 @@ fn a_file_is_searched(rt: HostRuntime) {
     for &(text, end) in &TEXTS {
         expect_end(&rt, dfa.search_input(&Input::new(text)), end);
     }
-    expect_rows(&rt, &dfa);
+    let lists = Overlapping::new(&dfa, Anchored::Yes, None, b"ab", None);
+    for (at, mut patterns) in lists.enumerate() {
+        same(&rt, patterns.next().is_some(), at == 1);
+    }
+}
+
+/// Counts the four rows, and steps over `a` and over another one.
+#[test]
+fn a_file_is_read(rt: HostRuntime) {
+    let bytes = file(&rt);
+    let dfa = StoredDfa::from_bytes(&bytes).expect(&rt, "a DFA");
+    assert_eq!(&rt; dfa.len(), 4);
+    same(&rt, dfa.rows().count(), 4);
     let start = dfa.start_state_forward(&Input::new(b"a"));
     let last = dfa.next_eoi_state(dfa.next_state(start, b'a'));
     same(&rt, dfa.match_len(last), 1);
     holds(&rt, dfa.is_match_state(last) && !dfa.is_dead_state(last));
     holds(&rt, dfa.is_dead_state(dfa.next_state(last, b'a')));
-}
-
-/// The match of `a` in `ab` ends at position 1.
-#[test]
-fn a_file_lists_matches(rt: HostRuntime) {
-    let bytes = file(&rt);
-    let dfa = StoredDfa::from_bytes(&bytes).expect(&rt, "a DFA");
-    let lists = Overlapping::new(&dfa, Anchored::Yes, None, b"ab", None);
-    for (at, mut patterns) in lists.enumerate() {
-        same(&rt, patterns.next().is_some(), at == 1);
-    }
 }
 
 #[test]
@@ -148,13 +145,6 @@ fn is_safe<R: Abort>(rt: &R, bytes: &[u8]) -> bool {
     true
 }
 
-/// Returns the number after a number, of some that look random.
-fn after(number: u64) -> u64 {
-    let number = number ^ (number << 13);
-    let number = number ^ (number >> 7);
-    number ^ (number << 17)
-}
-
 /// Writes another byte at an index, and returns the one that was there.
 fn exchanged(bytes: &mut [u8], index: usize, byte: u8) -> u8 {
     match bytes.get_mut(index) {
@@ -163,14 +153,16 @@ fn exchanged(bytes: &mut [u8], index: usize, byte: u8) -> u8 {
     }
 }
 
-/// Each time a number chooses a place in the file, and another byte for it.
+/// Each time a number, of some that look random, chooses a place in the file and another byte.
 #[test]
 fn changed_files_are_safe(rt: HostRuntime) {
     let mut bytes = file(&rt);
-    let mut number = 88172645463325252;
+    let mut number: u64 = 88172645463325252;
     let mut accepted: u32 = 0;
     for _ in 0..100_000 {
-        number = after(number);
+        number ^= number << 13;
+        number ^= number >> 7;
+        number ^= number << 17;
         let index = (number % 1168) as usize;
         let before = exchanged(&mut bytes, index, ((number >> 32) & 7) as u8);
         if is_safe(&rt, &bytes) {

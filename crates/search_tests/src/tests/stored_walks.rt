@@ -1,19 +1,15 @@
-//! Matches with both ends over the texts of walks, with the usual prefix before their NFAs: by one
-//! anchored search after another, by an NFA and its reverse, and as the original found them.
+//! The last matches of walks, by searches of their texts: by whole DFAs, through caches by class,
+//! and, with the usual prefix before their NFAs, as leftmost matches with both ends.
 
-ghost use Rattle.std.specs.Prelude.{◌≡◌, false, true};
+ghost use Rattle.std.specs.Prelude.{◌≡◌, false};
 ghost use Rattle.determinize_find.specs.Prefix.{HasPrefix};
-ghost use Rattle.determinize_find.specs.Reversal.{IsReverseOf};
-ghost use Rattle.determinize_engine.specs.Searches.{has_start};
 
-use crate::tests::find::{backward_of, expect_same, same_match};
-use crate::tests::finders::expect_input;
-use crate::tests::{expect_text, holds, same};
+use crate::tests::find::first;
+use crate::tests::{dense, expect_text, holds, same};
 use determinize_below::nfa::State;
 use determinize_below::{Anchored, HalfMatch, Input, MatchKind, NFA, StateID, Transition};
-use determinize_find::{Finder, Match, Plain, Regex, find_all, prefix};
+use determinize_find::{Regex, has_prefix};
 use determinize_lazy::Lazy;
-use determinize_replay::job::Job;
 use example_walks::examples::{Example, names};
 use example_walks::fields::Fields;
 use example_walks::states;
@@ -22,7 +18,7 @@ use std::process::Abort;
 
 /// Walks of regex-automata 0.4.18 over NFAs that were made at random: in each line a job, and the
 /// last match of its states.
-pub static STORED: &str = "\
+static STORED: &str = "\
 walk kind=leftmost-first lb=0d text=7a0d7a5f5f257a0d0d252525 | BU:1,2 B:00-ff>0 L:WordEndAscii>3 M:0 = match 0 7
 walk kind=leftmost-first lb=0d text=25256161 | BU:7,1 B:00-ff>0 B:00-ff>3 B:61-7a>4 M:1 L:EndLF>6 M:3 U:2,5 = match 1 3
 walk kind=leftmost-first lb=0a text=0d0d | S:0d-0d>1 BU:2,3 C:1 L:StartCRLF>4 L:EndCRLF>5 M:1 = match 1 1
@@ -67,47 +63,28 @@ walk lb=0a text=5f0a5f5f0a5f0a5f | U:1,3 C:2 S:0a-0a>1,5f-5f>0 L:End>0 = none
 walk start=1 lb=0a text=5f5f0a5f25 | M:0 L:WordUnicode>4 L:WordAsciiNegate>2 L:WordAscii>4 F U:2 B:0a-0a>0 = none
 ";
 
-/// The text of a walk as a range of a haystack, which has the bytes behind and ahead of the text.
-#[derive(Drop)]
-pub struct Place {
-    haystack: Vec<u8>,
-    start: usize,
-    end: usize,
-}
-
-impl Place {
-    /// Returns the place of the text of a walk.
-    pub fn of<R: Abort + AllocGlobal>(rt: &R, fields: &Fields<'_>) -> Place {
-        let mut haystack = fields.text(rt.alloc()).expect(rt, "bytes");
-        let behind = fields.look_behind().expect(rt, "a byte");
-        if let Some(byte) = behind {
-            haystack.insert(0, byte).expect(rt, "memory");
-        }
-        let (start, end) = (usize::from(behind.is_some()), haystack.len());
-        if let Some(byte) = fields.look_ahead().expect(rt, "a byte") {
-            haystack.push(byte).expect(rt, "memory");
-        }
-        Place {
-            haystack,
-            start,
-            end,
-        }
-    }
-
-    /// Returns the input of a search of the text.
-    pub fn input<'p, R: Abort>(&'p self, rt: &R, anchored: Anchored) -> Input<'p>
-        ensures { result.anchored ≡ anchored }
-    {
-        assert!(rt; self.start <= self.end && self.end <= self.haystack.len());
-        Input::new(self.haystack.as_slice())
-            .range(self.start..self.end)
-            .anchored(anchored)
+/// Asserts that searches of the text of a walk have its last match: by a DFA of at most 1000
+/// states, and through a cache by class, by a search that computes steps and by one that does not.
+fn expect_last<R: Abort + AllocGlobal>(rt: &R, fields: &Fields<'_>, last: &str) {
+    let start = fields.start().expect(rt, "a start");
+    let kind = fields.match_kind().expect(rt, "a match kind");
+    let nfa = fields.nfa_from(rt.alloc(), start).expect(rt, "an NFA");
+    let text = fields.text(rt.alloc()).expect(rt, "bytes");
+    let behind = fields.look_behind().expect(rt, "a byte");
+    let ahead = fields.look_ahead().expect(rt, "a byte");
+    let found = dense::dfa(rt, &nfa, kind, 1000).search(Anchored::Yes, behind, &text, ahead);
+    expect_text(rt, &LastMatch(found), last);
+    let mut lazy = Lazy::new_by_class(rt.alloc(), &nfa, kind, 50);
+    for _ in 0..2u32 {
+        let start = lazy.nfa().start_anchored();
+        let found = lazy.search(start, behind, &text, ahead);
+        expect_text(rt, &LastMatch(found.expect(rt, "memory")), last);
     }
 }
 
 /// Returns the NFA of a walk for forward scans, with the usual prefix before its start: two states
 /// after the others.
-pub fn prefixed<R: Abort + AllocGlobal>(rt: &R, fields: &Fields<'_>) -> NFA
+fn prefixed<R: Abort + AllocGlobal>(rt: &R, fields: &Fields<'_>) -> NFA
     ensures forward { result.reverse ≡ false }
     ensures prefix { HasPrefix result }
 {
@@ -128,89 +105,70 @@ pub fn prefixed<R: Abort + AllocGlobal>(rt: &R, fields: &Fields<'_>) -> NFA
     states.push(State::ByteRange { trans }).expect(rt, "memory");
     let nfa = NFA::from_parts(rt.alloc(), states, start, any, false, matcher);
     let nfa = nfa.expect(rt, "an NFA");
-    holds(rt, prefix::has_prefix(&nfa));
+    holds(rt, has_prefix(&nfa));
     nfa
 }
 
-/// Returns the leftmost match of an input, and asserts that both ways find it, and the same matches
-/// after it.
-fn leftmost<R: Abort + AllocGlobal>(
-    rt: &R,
-    plain: &mut Plain<'_, Lazy<'_>>,
-    regex: &mut Regex<Lazy<'_>, Lazy<'_>>,
-    input: &Input<'_>,
-) -> Option<Match>
-    requires start { has_start input.now.anchored ≡ true }
-{
-    let found = regex.find(input).expect(rt, "memory");
-    same_match(rt, plain.find(input).expect(rt, "memory"), found);
-    same(rt, regex.is_match(input), Ok(found.is_some()));
-    let all = find_all(rt.alloc(), plain, input).expect(rt, "memory");
-    same_match(rt, all.first().copied(), found);
-    expect_same(rt, regex.find_all(rt.alloc(), input), all.as_slice());
-    found
-}
-
-/// Returns the match that begins with the text of a walk, through new caches. Asserts that it is
-/// the leftmost one if there is one, and that each finder finds the same matches, anywhere and at
-/// the start of the text.
-fn expect_finders<R: Abort + AllocGlobal>(
-    rt: &R,
-    nfa: &NFA,
-    backward: &NFA,
-    place: &Place,
-) -> Option<Match>
-    requires forward { nfa.now.reverse ≡ false }
-    requires prefix { HasPrefix nfa.now }
-    requires reverse { IsReverseOf backward.now nfa.now }
-{
-    let input = place.input(rt, Anchored::No);
-    let anchored = place.input(rt, Anchored::Yes);
-    expect_input(rt, nfa, backward, &input);
-    expect_input(rt, nfa, backward, &anchored);
-    let lazy = Lazy::new(rt.alloc(), nfa, MatchKind::LeftmostFirst, 50);
-    let mut plain = Plain::new(nfa, lazy);
-    let mut regex = Regex::new(rt.alloc(), nfa, backward, 50);
-    let anywhere = leftmost(rt, &mut plain, &mut regex, &input);
-    let first = leftmost(rt, &mut plain, &mut regex, &anchored);
-    if first.is_some() {
-        same_match(rt, anywhere, first);
+/// Returns the text of a walk as a range of a haystack, which has the bytes behind and ahead of it.
+fn place<R: Abort + AllocGlobal>(rt: &R, fields: &Fields<'_>) -> (Vec<u8>, usize, usize) {
+    let mut haystack = fields.text(rt.alloc()).expect(rt, "bytes");
+    let behind = fields.look_behind().expect(rt, "a byte");
+    if let Some(byte) = behind {
+        haystack.insert(0, byte).expect(rt, "memory");
     }
-    first
+    let (start, end) = (usize::from(behind.is_some()), haystack.len());
+    if let Some(byte) = fields.look_ahead().expect(rt, "a byte") {
+        haystack.push(byte).expect(rt, "memory");
+    }
+    (haystack, start, end)
 }
 
-/// Returns the match of the text of a walk by [`expect_finders`], of its NFA with the usual prefix,
-/// and of the reverse.
-fn expect_walk<R: Abort + AllocGlobal>(rt: &R, fields: &Fields<'_>) -> Option<Match> {
-    let nfa = prefixed(rt, fields);
-    let backward = backward_of(rt, &nfa);
-    expect_finders(rt, &nfa, &backward, &Place::of(rt, fields))
+/// Returns the leftmost match that begins with the text of a walk. Asserts that it is the leftmost
+/// one anywhere, too.
+fn leftmost<R: Abort + AllocGlobal>(rt: &R, fields: &Fields<'_>) -> Option<HalfMatch> {
+    let (haystack, start, end) = place(rt, fields);
+    assert!(rt; start <= end && end <= haystack.len());
+    let input = Input::new(&haystack).range(start..end);
+    let regex = Regex::from_nfa(rt.alloc(), prefixed(rt, fields), 50);
+    let mut regex = regex.expect(rt, "a reverse");
+    let anywhere = first(rt, &mut regex, &input);
+    match first(rt, &mut regex, &input.anchored(Anchored::Yes)) {
+        Some(found) => {
+            same(rt, anywhere, Some(found));
+            let size = found.end.saturating_sub(found.start);
+            Some(HalfMatch::new(found.pattern, size))
+        }
+        None => None,
+    }
 }
 
-/// Asserts that the leftmost match that begins with the text of a stored walk is the last match of
-/// the walk. Under `All` that may be another match, so then only that there is one.
-fn expect_stored<R: Abort + AllocGlobal>(rt: &R, line: &str) {
-    let (job, last) = line.split_once(" = ").expect(rt, "a job and a match");
-    let job = Job::read(job).expect(rt, "a job");
-    let found = expect_walk(rt, job.fields());
-    if job.fields().match_kind().expect(rt, "a match kind") == MatchKind::All {
-        same(rt, found.is_none(), last == "none");
+/// Compares the last match of a walk with those of searches, the leftmost one if the walk is
+/// forward. Under `All` that may be another one, so then only whether there is one.
+fn expect_walk<R: Abort + AllocGlobal>(rt: &R, line: &str, last: &str) {
+    let (_, fields) = Fields::split(line);
+    expect_last(rt, &fields, last);
+    if fields.is_reverse().expect(rt, "a direction") {
         return;
     }
-    let half = match found {
-        Some(m) => Some(HalfMatch::new(m.pattern, m.end.saturating_sub(m.start))),
-        None => None,
-    };
-    expect_text(rt, &LastMatch(half), last);
+    let found = leftmost(rt, &fields);
+    if fields.match_kind().expect(rt, "a match kind") == MatchKind::All {
+        same(rt, found.is_none(), last == "none");
+    } else {
+        expect_text(rt, &LastMatch(found), last);
+    }
 }
 
-/// The matches of the 45 examples and of the stored walks.
+/// The last matches of the 45 examples and of the 42 stored walks.
 #[test]
 fn stored_walks(rt: HostRuntime) {
     for name in names() {
-        expect_walk(&rt, &Example::of(name).fields());
+        let example = Example::of(name);
+        let last = example.output.lines().last().unwrap_or("");
+        expect_walk(&rt, example.job, last);
     }
     for line in STORED.lines() {
-        expect_stored(&rt, line);
+        let (job, last) = line.split_once(" = ").unwrap_or((line, ""));
+        expect_walk(&rt, job, last);
     }
+    same(&rt, (names().len(), STORED.lines().count()), (45, 42));
 }

@@ -1,14 +1,12 @@
 //! The tokens of texts by longest match, in a linear number of steps.
 
-use crate::tests::find::{expect_found, expect_same};
 use crate::tests::linear::Case;
 use crate::tests::patterns::regex_of;
-use crate::tests::{dense, same};
+use crate::tests::{dense, expect_found, same};
 use determinize_below::MatchKind;
-use determinize_lazy::Lazy;
 use determinize_linear::lexer as linear;
 use determinize_regex::Input;
-use determinize_uses::{lexer, tokens};
+use determinize_uses::tokens;
 
 /// Tokens that were worked out by hand. Of the patterns that match up to the end of a token it has
 /// the first one. The list ends where only an empty match begins. Assertions see the bytes next to
@@ -46,7 +44,7 @@ static TOKENS: [Case; 12] = [
     (&[r"\Bb", "b"], b"abb", 1, 3, &[(0, 1, 2), (0, 2, 3)]),
 ];
 
-/// Compares the tokens of each case, by a whole DFA and by the smallest one.
+/// Compares the tokens of each case.
 #[test]
 fn tokens_by_hand(rt: HostRuntime) {
     for &(patterns, haystack, start, end, wanted) in &TOKENS {
@@ -55,13 +53,10 @@ fn tokens_by_hand(rt: HostRuntime) {
         let input = Input::new(haystack).range(start..end);
         let dfa = dense::dfa(&rt, regex.nfa(), MatchKind::All, 100);
         expect_found(&rt, linear::tokens(rt.alloc(), &dfa, &input), wanted);
-        let dfa = dense::least(&rt, &dfa);
-        expect_found(&rt, linear::tokens(rt.alloc(), &dfa, &input), wanted);
     }
 }
 
-/// Of bytes `a` each is a token, behind which the others are read: there may be a `b`. A cache
-/// finds the same tokens of a few bytes.
+/// Of bytes `a` each is a token, behind which the others are read: there may be a `b`.
 #[test]
 fn quadratic_by_other_lexers(rt: HostRuntime) {
     let regex = regex_of(&rt, &["a|a*b"]);
@@ -73,9 +68,4 @@ fn quadratic_by_other_lexers(rt: HostRuntime) {
         let size = token.end.checked_sub(token.start);
         same(&rt, (token.start, size), (at, Some(1)));
     }
-    let some = b"aaaaaaaaaa";
-    let mut lazy = Lazy::new(rt.alloc(), regex.nfa(), MatchKind::All, 100);
-    let wanted = lexer::tokens(rt.alloc(), &mut lazy, some).expect(&rt, "memory");
-    let found = tokens::tokens(rt.alloc(), &dfa, some);
-    expect_same(&rt, found, wanted.as_slice());
 }

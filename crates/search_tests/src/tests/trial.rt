@@ -1,7 +1,8 @@
 //! What is done while each allocation fails in turn.
 
-use crate::tests::{dense, find, same, uses};
-use determinize_below::{BuildError, MatchKind};
+use crate::tests::find::{self, Search};
+use crate::tests::{dense, same, uses};
+use determinize_below::MatchKind;
 use failing_alloc::{FailingAllocator, Outcome, fail_each_allocation};
 use std::alloc::{AllocError, Allocator, Global};
 use std::process::Abort;
@@ -12,29 +13,28 @@ pub enum Trial<'r> {
     /// Builds NFAs.
     Build,
     /// Finds the matches of a row by a `Plain`, through a cache of this limit.
-    SearchPlain(&'r find::Row, usize, &'r find::PlainSearch),
+    SearchPlain(&'r find::Row<'r>, usize, Search),
     /// Finds the matches of a row by a `Regex`, through caches of this limit.
-    Search(&'r find::Row, usize, &'r find::Search),
+    Search(&'r find::Row<'r>, usize, Search),
     /// Builds the whole DFA of a row under a match kind, minimizes it, and counts states.
     Minimize(&'r dense::Row, MatchKind, dense::Counts),
 }
 
-impl Trial<'_> {
-    /// Makes the trial.
-    fn run<R: Abort + AllocGlobal, A: Allocator + Copy>(
-        &self,
-        rt: &R,
-        alloc: A,
-    ) -> Result<(), BuildError> {
-        match *self {
-            Trial::Build => uses::build(rt, alloc),
-            Trial::SearchPlain(row, limit, search) => {
-                build_error(find::search_plain(rt, alloc, row, limit, search))
-            }
-            Trial::Search(row, limit, search) => find::search_regex(rt, alloc, row, limit, search),
-            Trial::Minimize(row, kind, counts) => {
-                build_error(dense::build_and_minimize(rt, alloc, row, kind, counts))
-            }
+/// Makes a trial. Returns an error if an allocation failed, also if the call that failed was made
+/// again.
+fn run<R: Abort + AllocGlobal, A: Allocator + Copy>(
+    rt: &R,
+    alloc: A,
+    trial: &Trial<'_>,
+) -> Result<(), AllocError> {
+    match *trial {
+        Trial::Build => uses::build(rt, alloc),
+        Trial::SearchPlain(row, limit, search) => {
+            find::search_plain(rt, alloc, row, limit, search)
+        }
+        Trial::Search(row, limit, search) => find::search_regex(rt, alloc, row, limit, search),
+        Trial::Minimize(row, kind, counts) => {
+            dense::build_and_minimize(rt, alloc, row, kind, counts)
         }
     }
 }
@@ -44,25 +44,11 @@ fn has_run<R: Abort + AllocGlobal>(
     rt: &R,
     heap: &FailingAllocator<Global>,
     trial: &Trial<'_>,
-) -> Result<bool, BuildError> {
+) -> Result<bool, AllocError> {
     heap.begin();
-    let outcome = trial.run(rt, heap);
+    let outcome = run(rt, heap, trial);
     heap.end();
-    match outcome {
-        Ok(()) => Ok(true),
-        Err(BuildError::OutOfMemory) => Ok(false),
-        Err(error) => Err(error),
-    }
-}
-
-/// Returns the error of a failed allocation, if a call of a trial failed and was made again.
-pub fn succeed_if(is_sound: bool) -> Result<(), AllocError> {
-    if is_sound { Ok(()) } else { Err(AllocError) }
-}
-
-/// Returns an outcome with its error as that of a trial.
-pub fn build_error(outcome: Result<(), AllocError>) -> Result<(), BuildError> {
-    Ok(outcome?)
+    Ok(outcome.is_ok())
 }
 
 /// Repeats a trial with its first allocation failing, then its second, and so on, until there is no
@@ -70,7 +56,7 @@ pub fn build_error(outcome: Result<(), AllocError>) -> Result<(), BuildError> {
 /// must have been freed.
 pub fn fail_each_in_turn<R: Abort + AllocGlobal>(rt: &R, trial: &Trial<'_>) {
     let outcome = fail_each_allocation(rt.alloc(), |heap| has_run(rt, heap, trial));
-    same(rt, outcome.expect(rt, "no other error"), Outcome::Sound);
+    same(rt, outcome.expect(rt, "no error"), Outcome::Sound);
 }
 
 #[test]
