@@ -1,9 +1,9 @@
 //! Pattern strings that are made here: random ones, and long ones of a megabyte.
 
+use crate::counts::{Counts, count_if};
 use crate::strings::{answer, answer_again};
 use determinize_syntax::parse;
 use std::alloc::{AllocError, Global};
-use std::fmt;
 
 /// The characters of random texts. Most of them have a meaning in a pattern.
 const CHARACTERS: &str = "aab019-,^$.*+?|()()()[]{}\\:<>=!PimsRUxuwdbn&~ é";
@@ -46,43 +46,6 @@ fn long_texts() -> &'static [Long] {
     LONG_TEXTS.as_slice()
 }
 
-/// The counts of texts that were made.
-#[derive(Clone, Copy, Default)]
-pub struct Counts {
-    random: u32,
-    long: u32,
-    differ: u32,
-}
-
-impl Counts {
-    /// Returns whether each text was read as expected.
-    pub fn agree(self) -> bool {
-        self.differ == 0
-    }
-
-    /// Adds a long text, which is read as expected if `is_read` is set.
-    fn count_long(&mut self, is_read: bool) {
-        self.long = self.long.saturating_add(1);
-        if !is_read {
-            self.differ = self.differ.saturating_add(1);
-        }
-    }
-}
-
-impl fmt::Display for Counts {
-    fn fmt<W: fmt::Write>(&self, f: &mut fmt::Formatter<W>) -> fmt::Result {
-        let Counts {
-            random,
-            long,
-            differ,
-        } = *self;
-        write!(
-            f,
-            "{random} random texts, {long} long ones, {differ} differ"
-        )
-    }
-}
-
 /// Returns the next number of a generator with a fixed beginning, below `limit`.
 fn draw(state: &mut u64, limit: u64) -> u64 {
     *state = state
@@ -110,43 +73,47 @@ fn parse_random(alloc: Global, text: &mut String, counts: &mut Counts) -> Result
     let mut state = 1;
     for _ in 0..RANDOM {
         make_random(&mut state, text)?;
-        counts.random = counts.random.saturating_add(1);
-        if !is_read_again(alloc, text.as_str())? {
-            counts.differ = counts.differ.saturating_add(1);
+        let read = answer(alloc, text.as_str())?;
+        let again = answer_again(alloc, text.as_str())?;
+        count_if(true, &mut counts.random);
+        count_if(read != again, &mut counts.made_differ);
+    }
+    Ok(())
+}
+
+/// Parses a text, and counts it as a long one, which is read as expected, or is a pattern if that
+/// is empty.
+fn count_long(
+    alloc: Global,
+    text: &str,
+    expected: &str,
+    counts: &mut Counts,
+) -> Result<(), AllocError> {
+    let is_read = if expected.is_empty() {
+        parse(alloc, text).is_ok()
+    } else {
+        answer(alloc, text)?.as_str() == expected
+    };
+    count_if(true, &mut counts.long);
+    count_if(!is_read, &mut counts.made_differ);
+    Ok(())
+}
+
+/// Parses the long texts: the beginning of each, and then what is repeated, up to a megabyte.
+fn parse_long(alloc: Global, text: &mut String, counts: &mut Counts) -> Result<(), AllocError> {
+    for (first, repeated, expected) in long_texts() {
+        text.clear();
+        text.push_str(first)?;
+        for _ in 0..LONG / repeated.len().max(1) {
+            text.push_str(repeated)?;
         }
+        count_long(alloc, text.as_str(), expected, counts)?;
     }
     Ok(())
 }
 
-/// Returns whether the text that `Display` writes of the pattern of a text is read as the text is.
-fn is_read_again(alloc: Global, text: &str) -> Result<bool, AllocError> {
-    let read = answer(alloc, text)?;
-    let again = answer_again(alloc, text)?;
-    Ok(read == again)
-}
-
-/// Replaces a text by one of a megabyte: `first`, and then `repeated` again and again.
-fn make_long(text: &mut String, first: &str, repeated: &str) -> Result<(), AllocError> {
-    text.clear();
-    text.push_str(first)?;
-    for _ in 0..LONG / repeated.len().max(1) {
-        text.push_str(repeated)?;
-    }
-    Ok(())
-}
-
-/// Parses a long text, and returns whether it is read as expected.
-fn is_read(alloc: Global, text: &str, expected: &str) -> Result<bool, AllocError> {
-    if expected.is_empty() {
-        return Ok(parse(alloc, text).is_ok());
-    }
-    let read = answer(alloc, text)?;
-    Ok(read.as_str() == expected)
-}
-
-/// Replaces a text by brackets of characters that are all different, no two of them neighbours, of
-/// a megabyte.
-fn make_brackets(text: &mut String) -> Result<(), AllocError> {
+/// Parses brackets of characters that are all different, no two of them neighbours, of a megabyte.
+fn parse_brackets(alloc: Global, text: &mut String, counts: &mut Counts) -> Result<(), AllocError> {
     text.clear();
     text.push_str("(?u)[")?;
     for i in 0..LONG as u32 / 4 {
@@ -154,25 +121,14 @@ fn make_brackets(text: &mut String) -> Result<(), AllocError> {
             text.push(character)?;
         }
     }
-    text.push(']')
+    text.push(']')?;
+    count_long(alloc, text.as_str(), "", counts)
 }
 
-/// Parses long texts.
-fn parse_long(alloc: Global, text: &mut String, counts: &mut Counts) -> Result<(), AllocError> {
-    for (first, repeated, expected) in long_texts() {
-        make_long(text, first, repeated)?;
-        counts.count_long(is_read(alloc, text.as_str(), expected)?);
-    }
-    make_brackets(text)?;
-    counts.count_long(is_read(alloc, text.as_str(), "")?);
-    Ok(())
-}
-
-/// Parses all texts that are made here, and returns the counts.
-pub fn parse_generated(alloc: Global) -> Result<Counts, AllocError> {
-    let mut counts = Counts::default();
+/// Parses all texts that are made here, and counts them.
+pub fn parse_generated(alloc: Global, counts: &mut Counts) -> Result<(), AllocError> {
     let mut text = String::new(alloc);
-    parse_random(alloc, &mut text, &mut counts)?;
-    parse_long(alloc, &mut text, &mut counts)?;
-    Ok(counts)
+    parse_random(alloc, &mut text, counts)?;
+    parse_long(alloc, &mut text, counts)?;
+    parse_brackets(alloc, &mut text, counts)
 }

@@ -1,6 +1,6 @@
 //! The first line of a job: what is said of its NFA, and its patterns.
 
-use crate::error::JobError;
+use crate::error::ReplayError;
 use crate::notation;
 use determinize_pattern::Config;
 use example_walks::values;
@@ -26,9 +26,9 @@ pub struct Head<'a> {
 
 impl<'a> Head<'a> {
     /// Parses a line without its mark `>`.
-    pub fn read(line: &'a str) -> Result<Head<'a>, JobError> {
+    pub fn read(line: &'a str) -> Result<Head<'a>, ReplayError> {
         let Some((keys, words)) = line.split_once("| ") else {
-            return Err(JobError::Malformed("keys and patterns"));
+            return Err(ReplayError::Malformed("keys and patterns"));
         };
         let mut head = Head {
             states: None,
@@ -48,9 +48,9 @@ impl<'a> Head<'a> {
     }
 
     /// Sets the value of a word `key=value`.
-    fn set(&mut self, word: &'a str) -> Result<(), JobError> {
+    fn set(&mut self, word: &'a str) -> Result<(), ReplayError> {
         let Some((key, value)) = word.split_once('=') else {
-            return Err(JobError::Malformed("a key with a value"));
+            return Err(ReplayError::Malformed("a key with a value"));
         };
         match key {
             "states" => self.states = Some(values::number(value)?),
@@ -59,7 +59,7 @@ impl<'a> Head<'a> {
             "nest" => self.nest = Some(notation::count(value)?),
             "error" => self.error = Some(value),
             "term" => self.terminator = values::byte(value)?,
-            _ => return Err(JobError::Malformed("a key with a value")),
+            _ => return Err(ReplayError::Malformed("a key with a value")),
         }
         Ok(())
     }

@@ -4,6 +4,7 @@
 //! makes itself, and counts those that are not.
 #![tactic(auto)]
 
+mod counts;
 mod error;
 mod generated;
 mod head;
@@ -19,51 +20,37 @@ use std::alloc::Global;
 use std::io::{self, BufRead, BufReader, Read, Write};
 use std::process::ExitCode;
 
-/// Judges the jobs and the rows of the input, and writes the counts. Returns whether all agree.
+/// Judges the jobs and the rows of the input, and the strings that are made here. Writes the
+/// counts, and returns whether all agree.
 fn run<R: Read + Drop, W: Write>(
     alloc: Global,
+    replay: &mut Replay,
     input: R,
     out: &mut W,
 ) -> Result<bool, ReplayError> {
     let Ok(input) = BufReader::new(alloc, input) else {
         return Err(ReplayError::OutOfMemory);
     };
-    let mut replay = Replay::new(alloc);
-    take_lines(alloc, &mut replay, input, out)?;
-    finish(alloc, &mut replay, out)
-}
-
-/// Takes all lines of the input.
-fn take_lines<R: Read + Drop, W: Write>(
-    alloc: Global,
-    replay: &mut Replay,
-    input: BufReader<R>,
-    out: &mut W,
-) -> Result<(), ReplayError> {
     for line in input.lines(alloc) {
         match line {
             Ok(line) => replay.take_line(line.as_str(), out)?,
             Err(_) => return Err(ReplayError::Unreadable),
         }
     }
-    Ok(())
-}
-
-/// Judges the last job, parses the strings that are made here, and writes the counts. Returns
-/// whether all agree.
-fn finish<W: Write>(alloc: Global, replay: &mut Replay, out: &mut W) -> Result<bool, ReplayError> {
-    let (jobs, strings) = replay.finish(out)?;
-    let made = parse_generated(alloc)?;
-    writeln!(out, "{jobs}\n{strings}\n{made}")?;
-    Ok(jobs.agree() && strings.agree() && made.agree())
+    replay.judge(out)?;
+    parse_generated(alloc, &mut replay.counts)?;
+    writeln!(out, "{}", replay.counts)?;
+    Ok(replay.counts.agree())
 }
 
 fn main(rt: HostRuntime) -> ExitCode {
     let mut out = io::writer(&rt);
-    match run(rt.alloc(), rt.reader(), &mut out) {
+    let mut replay = Replay::new(rt.alloc());
+    match run(rt.alloc(), &mut replay, rt.reader(), &mut out) {
         Ok(agree) => ExitCode::from(if agree { 0 } else { 1 }),
         Err(error) => {
-            let _ = writeln!(rt.stderr(), "{error}");
+            let line = replay.line;
+            let _ = writeln!(rt.stderr(), "line {line}, or the job before it: {error}");
             ExitCode::from(2)
         }
     }

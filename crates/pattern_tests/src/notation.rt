@@ -3,36 +3,33 @@
 //! The words are read from the last one to the first one, with a stack of the patterns to the right
 //! of the word: so its parts are on top of the stack, the first of them topmost.
 
-use crate::error::JobError;
+use crate::error::ReplayError;
 use determinize_pattern::{ClassBytesRange, ClassUnicodeRange, Pattern};
 use example_walks::values;
 use std::alloc::Global;
 
-/// Returns the patterns of words that are separated by spaces.
-pub fn patterns(alloc: Global, words: &str) -> Result<Vec<Pattern>, JobError> {
-    let mut stack = Vec::new(alloc);
+/// Adds the patterns of words that are separated by spaces to a stack: several of a word if it has
+/// a number, as in `E*3`. The first pattern is topmost.
+pub fn push_patterns(
+    alloc: Global,
+    words: &str,
+    stack: &mut Vec<Pattern>,
+) -> Result<(), ReplayError> {
     for word in words.rsplit(' ') {
-        push_all(alloc, &mut stack, word)?;
-    }
-    stack.reverse();
-    Ok(stack)
-}
-
-/// Pushes the pattern of a word, or several if it has a number, as in `E*3`.
-fn push_all(alloc: Global, stack: &mut Vec<Pattern>, word: &str) -> Result<(), JobError> {
-    let (word, count) = match word.split_once('*') {
-        Some((word, count)) => (word, values::number(count)?),
-        None => (word, 1),
-    };
-    for _ in 0..count {
-        let pattern = pattern(alloc, stack, word)?;
-        stack.push(pattern)?;
+        let (word, count) = match word.split_once('*') {
+            Some((word, count)) => (word, values::number(count)?),
+            None => (word, 1),
+        };
+        for _ in 0..count {
+            let pattern = pattern(alloc, stack, word)?;
+            stack.push(pattern)?;
+        }
     }
     Ok(())
 }
 
 /// Returns the pattern of a word, whose parts are taken from the stack.
-fn pattern(alloc: Global, stack: &mut Vec<Pattern>, word: &str) -> Result<Pattern, JobError> {
+fn pattern(alloc: Global, stack: &mut Vec<Pattern>, word: &str) -> Result<Pattern, ReplayError> {
     let (kind, value) = word.split_once(':').unwrap_or((word, ""));
     match kind {
         "G" => Ok(Pattern::Capture(part(alloc, stack)?)),
@@ -44,7 +41,7 @@ fn pattern(alloc: Global, stack: &mut Vec<Pattern>, word: &str) -> Result<Patter
 }
 
 /// Returns the pattern of a word that has no parts.
-fn leaf(alloc: Global, kind: &str, value: &str) -> Result<Pattern, JobError> {
+fn leaf(alloc: Global, kind: &str, value: &str) -> Result<Pattern, ReplayError> {
     match kind {
         "E" => Ok(Pattern::Empty),
         "L" => Ok(Pattern::Literal(values::bytes(alloc, value)?)),
@@ -52,82 +49,73 @@ fn leaf(alloc: Global, kind: &str, value: &str) -> Result<Pattern, JobError> {
         "U" => chars(alloc, value, false),
         "N" => chars(alloc, value, true),
         "K" => Ok(Pattern::Look(values::look(value)?)),
-        _ => Err(JobError::Malformed("a word of a pattern")),
+        _ => Err(ReplayError::Malformed("a word of a pattern")),
     }
 }
 
 /// Takes the topmost pattern of the stack.
-fn pop(stack: &mut Vec<Pattern>) -> Result<Pattern, JobError> {
+fn pop(stack: &mut Vec<Pattern>) -> Result<Pattern, ReplayError> {
     match stack.pop() {
         Some(pattern) => Ok(pattern),
-        None => Err(JobError::Malformed("as many patterns as its words need")),
+        None => Err(ReplayError::Malformed("as many patterns as its words need")),
     }
 }
 
 /// Takes the topmost pattern of the stack into a box.
-fn part(alloc: Global, stack: &mut Vec<Pattern>) -> Result<Box<Pattern>, JobError> {
+fn part(alloc: Global, stack: &mut Vec<Pattern>) -> Result<Box<Pattern>, ReplayError> {
     Ok(Box::new(alloc, pop(stack)?)?)
 }
 
 /// Takes this number of patterns from the stack.
-fn parts(alloc: Global, stack: &mut Vec<Pattern>, count: &str) -> Result<Vec<Pattern>, JobError> {
-    let mut found = Vec::new(alloc);
-    move_parts(stack, values::number(count)?, &mut found)?;
-    Ok(found)
-}
-
-/// Moves this number of patterns from the stack to a list.
-fn move_parts(
+fn parts(
+    alloc: Global,
     stack: &mut Vec<Pattern>,
-    count: usize,
-    found: &mut Vec<Pattern>,
-) -> Result<(), JobError> {
+    count: &str,
+) -> Result<Vec<Pattern>, ReplayError> {
+    let (count, mut found) = (values::number(count)?, Vec::new(alloc));
     for _ in 0..count {
         found.push(pop(stack)?)?;
     }
-    Ok(())
+    Ok(found)
+}
+
+/// Returns the numbers of a range such as `61-7a`.
+fn ends(word: &str) -> Result<(u32, u32), ReplayError> {
+    let (start, end) = word.split_once('-').unwrap_or(("", ""));
+    match (u32::from_str_radix(start, 16), u32::from_str_radix(end, 16)) {
+        (Ok(start), Ok(end)) => Ok((start, end)),
+        _ => Err(ReplayError::Malformed("a range of numbers in hexadecimal")),
+    }
 }
 
 /// Returns the class of ranges such as `30-39,61-7a`.
-fn class(alloc: Global, value: &str) -> Result<Pattern, JobError> {
+fn class(alloc: Global, value: &str) -> Result<Pattern, ReplayError> {
     let mut ranges = Vec::new(alloc);
-    add_ranges(&mut ranges, value)?;
+    for word in value.split(',') {
+        if !word.is_empty() {
+            let (start, end) = ends(word)?;
+            let (Ok(start), Ok(end)) = (u8::try_from(start), u8::try_from(end)) else {
+                return Err(ReplayError::Malformed("a range of bytes"));
+            };
+            ranges.push(ClassBytesRange { start, end })?;
+        }
+    }
     Ok(Pattern::class(alloc, ranges.as_slice())?)
-}
-
-/// A range that a word is read as.
-trait Range: Copy {
-    /// Returns the range of a word such as `61-7a`.
-    fn read(word: &str) -> Result<Self, JobError>;
-}
-
-/// Adds ranges such as `30-39,61-7a`.
-fn add_ranges<T: Range>(ranges: &mut Vec<T>, value: &str) -> Result<(), JobError> {
-    if !value.is_empty() {
-        for word in value.split(',') {
-            ranges.push(T::read(word)?)?;
-        }
-    }
-    Ok(())
-}
-
-impl Range for ClassBytesRange {
-    fn read(word: &str) -> Result<ClassBytesRange, JobError> {
-        match word.split_once('-') {
-            Some((start, end)) => Ok(ClassBytesRange {
-                start: values::byte(start)?,
-                end: values::byte(end)?,
-            }),
-            None => Err(JobError::Malformed("a range of bytes")),
-        }
-    }
 }
 
 /// Returns the pattern of a character in ranges such as `e9-e9,20ac-20ac`, or in none of them if
 /// `negated` is set.
-fn chars(alloc: Global, value: &str, negated: bool) -> Result<Pattern, JobError> {
+fn chars(alloc: Global, value: &str, negated: bool) -> Result<Pattern, ReplayError> {
     let mut ranges = Vec::new(alloc);
-    add_ranges(&mut ranges, value)?;
+    for word in value.split(',') {
+        if !word.is_empty() {
+            let (start, end) = ends(word)?;
+            let (Some(start), Some(end)) = (char::from_u32(start), char::from_u32(end)) else {
+                return Err(ReplayError::Malformed("a range of characters"));
+            };
+            ranges.push(ClassUnicodeRange { start, end })?;
+        }
+    }
     let pattern = if negated {
         Pattern::none_of_chars(alloc, ranges.as_slice())
     } else {
@@ -136,72 +124,30 @@ fn chars(alloc: Global, value: &str, negated: bool) -> Result<Pattern, JobError>
     Ok(pattern?)
 }
 
-impl Range for ClassUnicodeRange {
-    fn read(word: &str) -> Result<ClassUnicodeRange, JobError> {
-        match word.split_once('-') {
-            Some((start, end)) => Ok(ClassUnicodeRange {
-                start: character(start)?,
-                end: character(end)?,
-            }),
-            None => Err(JobError::Malformed("a range of characters")),
-        }
-    }
-}
-
-/// Returns the character with this number.
-fn character(code: &str) -> Result<char, JobError> {
-    let Ok(code) = u32::from_str_radix(code, 16) else {
-        return Err(JobError::Malformed("a number in hexadecimal"));
-    };
-    match char::from_u32(code) {
-        Some(found) => Ok(found),
-        None => Err(JobError::Malformed("the number of a character")),
-    }
-}
-
-/// The counts of a repetition, and whether it is greedy.
-#[derive(Clone, Copy)]
-struct Rounds {
-    min: u32,
-    max: Option<u32>,
-    greedy: bool,
-}
-
-/// Returns the repetition of the topmost pattern of the stack.
-fn repetition(alloc: Global, stack: &mut Vec<Pattern>, value: &str) -> Result<Pattern, JobError> {
-    let sub = part(alloc, stack)?;
-    match read_rounds(value) {
-        Ok(Rounds { min, max, greedy }) => Ok(Pattern::Repetition {
-            min,
-            max,
-            greedy,
-            sub,
-        }),
-        Err(error) => Err(error),
-    }
-}
-
-/// Returns the counts of a text such as `1,-,g`.
-fn read_rounds(value: &str) -> Result<Rounds, JobError> {
-    let Some((min, rest)) = value.split_once(',') else {
-        return Err(JobError::Malformed("the counts of a repetition"));
-    };
+/// Returns the repetition of the topmost pattern of the stack, with counts such as `1,-,g`.
+fn repetition(
+    alloc: Global,
+    stack: &mut Vec<Pattern>,
+    value: &str,
+) -> Result<Pattern, ReplayError> {
+    let (min, rest) = value.split_once(',').unwrap_or(("", ""));
     let (max, greedy) = match rest.split_once(',') {
         Some((max, "g")) => (max, true),
         Some((max, "l")) => (max, false),
-        _ => return Err(JobError::Malformed("a greedy or a lazy repetition")),
+        _ => return Err(ReplayError::Malformed("a greedy or a lazy repetition")),
     };
-    Ok(Rounds {
+    Ok(Pattern::Repetition {
         min: count(min)?,
         max: if max == "-" { None } else { Some(count(max)?) },
         greedy,
+        sub: part(alloc, stack)?,
     })
 }
 
 /// Returns a number of rounds or of levels.
-pub fn count(text: &str) -> Result<u32, JobError> {
+pub fn count(text: &str) -> Result<u32, ReplayError> {
     match u32::try_from(values::number(text)?) {
         Ok(count) => Ok(count),
-        Err(_) => Err(JobError::Malformed("a number of rounds or of levels")),
+        Err(_) => Err(ReplayError::Malformed("a number of rounds or of levels")),
     }
 }
