@@ -7,12 +7,7 @@ use Rattle.determinize_below.specs.declared.search.MatchKind.TheVariants as kind
 use Rattle.determinize_core.specs.Chain.{chain}
 use Rattle.determinize_core.specs.LastMatch.{lists_of}
 use Rattle.determinize_core.specs.Walk.{IsLeftmostWalk, ListsAccepted}
-use Rattle.determinize_dense.specs.Table.{DfaValue, Table, patterns_at, row_after, row_over}
-
--- where a walk by a DFA is
-pub record Place : Type 0 where
-  pub dfa : DfaValue
-  pub row : ℕ
+use Rattle.determinize_dense.specs.Table.{Table, patterns_at, row_after, row_over}
 
 -- no pattern is listed by the row, nor by a row after any units
 abbrev pub IsDead : Table → ℕ → Type 0

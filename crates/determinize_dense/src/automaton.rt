@@ -3,14 +3,14 @@
 //! A [`RowId`] is the number of a row. Every call takes any id: one that is no row of the DFA, as
 //! one of a larger DFA may be, lists no patterns, and the dead row follows it.
 
-ghost use Rattle.std.specs.Prelude.{◌≡◌, ℕ, List, Option, Some, None, drop, length, slice_get, true};
+ghost use Rattle.std.specs.Prelude.{◌≡◌, ◌+◌, ◌*◌, ℕ, List, Option, Some, None, drop, length, nat_eq, slice_get, true};
 ghost use Rattle.std.specs.Iterator.{YieldsFirst, item_count};
 ghost use Rattle.std.specs.List.{range_with_len};
 ghost use Rattle.determinize_below.specs.Nfa.{IsAccepted};
 ghost use Rattle.determinize_below.specs.Search.{is_anchored};
 ghost use Rattle.determinize_below.specs.Semantics as semantics;
 ghost use Rattle.determinize_below.specs.Truth.{IsUnit};
-ghost use Rattle.determinize_dense.specs.Automaton.{IsStoredOf, first_row};
+ghost use Rattle.determinize_dense.specs.Automaton.{HasRowsIn, IsStoredOf, first_row};
 ghost use Rattle.determinize_dense.specs.Bytes.{Stored};
 ghost use Rattle.determinize_dense.specs.Reading.{IsDead};
 ghost use Rattle.determinize_dense.specs.Table.{patterns_at, row_over};
@@ -25,9 +25,12 @@ use std::marker::Model;
 
 /// A whole DFA, however it is kept: a `Dfa`, or the `StoredDfa` of `determinize_stored`.
 ///
-/// It searches nothing itself. [`Overlapping`](crate::Overlapping) and the graphs of
-/// `determinize_draw` are written over it.
+/// It searches nothing itself. [`Walker`](crate::Walker), [`Overlapping`](crate::Overlapping), the
+/// searches of `determinize_linear` and the graphs of `determinize_draw` are written over it.
 pub trait Automaton {
+    /// How a walk knows the row where it is: in the form by which the next row is found fastest.
+    type Row: Copy;
+
     /// What is kept of it: its match kind, whether its NFA is a reverse one, the line terminator,
     /// and its table.
     ghost stored: { Self → Stored };
@@ -35,9 +38,28 @@ pub trait Automaton {
     /// Whether it is a DFA of an NFA.
     ghost is_of: { Self → semantics.Nfa → Type 0 };
 
+    /// Whether it finds all matches of an NFA: it is a DFA of that, and it is known whether the two
+    /// starts of that are one state.
+    ghost finds: { Self → semantics.Nfa → Type 0 };
+
+    /// The number of the row where a walk is.
+    ghost number: { Self → Self.Row → ℕ };
+
+    /// Whether a walk by this DFA may be there.
+    ghost is_row: { Self → Self.Row → Type 0 };
+
     /// Returns the number of rows.
     fn len(&self) -> usize
-        ensures { result ≡ length (stored self.now).table.patterns };
+        ensures value { result ≡ length (stored self.now).table.patterns }
+        ensures rows { HasRowsIn (stored self.now) };
+
+    /// Returns the number of entries of a row: one for each class of bytes, and one for EOI.
+    fn columns(&self) -> usize
+        ensures { result ≡ (stored self.now).table.class_count + 1 };
+
+    /// Returns the line terminator of the assertions of the NFA.
+    fn line_terminator(&self) -> u8
+        ensures { result ≡ (stored self.now).terminator };
 
     /// Returns the row of a start after a byte, or after nothing.
     fn first_row(&self, is_anchored: bool, look_behind: Option<u8>) -> RowId
@@ -65,6 +87,44 @@ pub trait Automaton {
     /// Returns `true` only if no match follows a row.
     fn is_dead_state(&self, row: RowId) -> bool
         ensures { result ≡ true → IsDead (stored self.now).table row };
+
+    /// Returns whether a match may begin only where a search starts, as the two starts of the NFA
+    /// are one state. Of a DFA from a file this is not known, and the result is `false`.
+    fn is_always_start_anchored(&self) -> bool
+        ensures of { (nfa : semantics.Nfa) → finds self.now nfa → is_of self.now nfa }
+        ensures value { (nfa : semantics.Nfa) → finds self.now nfa
+            → result ≡ nat_eq nfa.start_unanchored nfa.start_anchored };
+
+    /// Returns where a walk begins: in the row of a start after a byte, or after nothing.
+    fn first(&self, is_anchored: bool, look_behind: Option<u8>) -> Self::Row
+        ensures value { number self.now result
+            ≡ first_row (stored self.now) is_anchored look_behind }
+        ensures row { is_row self.now result }
+        ensures means { (nfa : semantics.Nfa) → is_of self.now nfa
+            → IsAccepted nfa × IsStoredOf nfa (stored self.now) };
+
+    /// Returns where a walk is after a byte or, for `None`, after the end of input (EOI).
+    fn next(&self, row: Self::Row, unit: Option<u8>) -> Self::Row
+        requires { is_row self.now row }
+        ensures value { number self.now result
+            ≡ row_over (stored self.now).table (number self.now row) unit }
+        ensures row { is_row self.now result };
+
+    /// Returns whether the row where a walk is lists a pattern.
+    fn lists(&self, row: Self::Row) -> bool
+        requires { is_row self.now row }
+        ensures { result
+            ≡ is_nonempty (patterns_at (stored self.now).table (number self.now row)) };
+
+    /// Returns the row where a walk is.
+    fn row_id(&self, row: Self::Row) -> RowId
+        requires { is_row self.now row }
+        ensures { result ≡ number self.now row };
+
+    /// Returns the number of entries of the table before the row where a walk is.
+    fn offset(&self, row: Self::Row) -> usize
+        requires { is_row self.now row }
+        ensures { result ≡ number self.now row * ((stored self.now).table.class_count + 1) };
 
     /// Returns the row of the start state of a configuration: its anchored mode, and the byte
     /// before the start. `Anchored::Pattern` has no start state and is not accepted.

@@ -31,5 +31,5 @@ pub use crate::automaton::{Automaton, RowPatterns};
 pub use crate::dfa::Dfa;
 pub use crate::error::DfaError;
 pub use crate::overlapping::Overlapping;
-pub use crate::reading::{RowId, RowIds};
+pub use crate::reading::{Offset, RowId, RowIds};
 pub use crate::walker::Walker;

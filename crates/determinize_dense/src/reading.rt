@@ -1,10 +1,11 @@
 //! Reading a whole DFA in memory, as an [`Automaton`]: the numbers of its rows, which row follows
 //! over a unit, and what each row lists.
 
-ghost use Rattle.std.specs.Prelude.{◌≡◌, ◌-◌, ℕ, List, Some, decimal, nat_eq, true};
+ghost use Rattle.std.specs.Prelude.{◌≡◌, ◌+◌, ◌-◌, ◌/◌, ℕ, List, Some, decimal, nat_eq, true};
 ghost use Rattle.std.specs.List.{range_with_len};
 ghost use Rattle.std.specs.Iterator.{YieldsFirst, item_count};
 ghost use Rattle.determinize_dense.specs.Bytes.{stored_of};
+ghost use Rattle.determinize_dense.specs.Private.Rows.{IsOffset};
 ghost use Rattle.determinize_dense.specs.Reading.{IsDead};
 ghost use Rattle.determinize_dense.specs.Table.{patterns_at};
 
@@ -130,13 +131,52 @@ impl<R: AsNfa, A: Allocator + Copy> Dfa<R, A> {
     }
 }
 
+/// The offset of a row of a `Dfa`: the number of entries of its table before the row.
+///
+/// From one offset to the next there is no product, and no test of whether it is that of a row.
+#[derive(Copy)]
+pub struct Offset(pub(crate) usize);
+
+impl Model for Offset {
+    ghost Value = { ℕ };
+
+    ghost view = { λ o. o.0 };
+
+    ghost inverse = { λ n. record { 0 = n } };
+}
+
+impl Clone for Offset {
+    ghost is_clone = { λ a b. b ≡ a };
+
+    fn clone(&self) -> Result<Offset, AllocError> {
+        Ok(Offset(self.0))
+    }
+}
+
 impl<R: AsNfa, A: Allocator + Copy> Automaton for Dfa<R, A> {
+    type Row = Offset;
+
     ghost stored = { λ d. stored_of d };
 
     ghost is_of = { λ d nfa. d.nfa ≡ nfa };
 
+    ghost finds = { λ d nfa. d.nfa ≡ nfa };
+
+    ghost number = { λ d offset. offset / (d.table.class_count + 1) };
+
+    ghost is_row = { λ d offset. IsOffset d.table offset };
+
     fn len(&self) -> usize {
-        self.patterns.len()
+        self.len()
+    }
+
+    #[inline(always)]
+    fn columns(&self) -> usize {
+        self.classes.alphabet_len()
+    }
+
+    fn line_terminator(&self) -> u8 {
+        self.nfa.nfa().look_matcher().get_line_terminator()
     }
 
     #[inline(always)]
@@ -162,6 +202,35 @@ impl<R: AsNfa, A: Allocator + Copy> Automaton for Dfa<R, A> {
     #[inline(always)]
     fn match_pattern(&self, row: RowId, index: usize) -> Option<PatternID> {
         self.match_patterns(row).get(index).copied()
+    }
+
+    fn is_always_start_anchored(&self) -> bool {
+        self.nfa().start_unanchored() == self.nfa().start_anchored()
+    }
+
+    #[inline(always)]
+    fn first(&self, is_anchored: bool, look_behind: Option<u8>) -> Offset {
+        Offset(self.start_row(is_anchored, look_behind))
+    }
+
+    #[inline(always)]
+    fn next(&self, row: Offset, unit: Option<u8>) -> Offset {
+        Offset(self.row_over(row.0, unit))
+    }
+
+    #[inline(always)]
+    fn lists(&self, row: Offset) -> bool {
+        self.is_listing(row.0)
+    }
+
+    #[inline(always)]
+    fn row_id(&self, row: Offset) -> RowId {
+        RowId(self.row_number(row.0))
+    }
+
+    #[inline(always)]
+    fn offset(&self, row: Offset) -> usize {
+        row.0
     }
 
     #[inline(always)]

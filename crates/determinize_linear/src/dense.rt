@@ -14,15 +14,13 @@
 ghost use Rattle.std.specs.Prelude.{◌≡◌, ℕ, ◌*◌, ◌<◌, ◌≤◌, ◌-◌, ◌+◌, ◌^◌, All, IfOk, IsTrue, None, Some, false, length, true};
 ghost use Rattle.std.specs.Option.{IfNone, IfSome};
 ghost use Rattle.determinize_below.specs.Nfa.{IsAccepted};
-ghost use Rattle.determinize_below.specs.Semantics.{before_at};
+ghost use Rattle.determinize_below.specs.Semantics.{Nfa, before_at};
 ghost use Rattle.determinize_below.specs.Truth.{IsUnit};
 ghost use Rattle.determinize_below.specs.declared.search.MatchKind.TheVariants as kinds;
-ghost use Rattle.determinize_dense.specs.Dfa.{IsDfaOf};
-ghost use Rattle.determinize_dense.specs.Reading.{IsDead};
-ghost use Rattle.determinize_dense.specs.Table.{start_row};
+ghost use Rattle.determinize_dense.specs.Automaton.{IsStoredOf, first_row};
 ghost use Rattle.determinize_engine.specs.Searches.{has_start};
 ghost use Rattle.determinize_find.specs.Cursors.{after_match};
-ghost use Rattle.determinize_find.specs.LeftmostIn.{is_anchored};
+ghost use Rattle.determinize_find.specs.LeftmostIn as inputs;
 ghost use Rattle.determinize_find.specs.Matches.{AreMatches, IsNext};
 ghost use Rattle.determinize_linear.specs.Private.Found.{IsFoundAt};
 ghost use Rattle.determinize_linear.specs.Private.Following.{IsWalkable, following, steps_left, unmarked};
@@ -35,10 +33,10 @@ ghost use Rattle.determinize_linear.specs.Tries.{most_steps};
 use crate::in_turn::{Cursor, find_all_by};
 use crate::matcher::Matcher;
 use crate::row_marks::RowMarks;
-use crate::starts::{begin_alike, start_at};
+use crate::starts::{begin_alike, behind_start};
 use crate::tries::{Counter, Tries};
-use determinize_below::{AsNfa, HalfMatch, Input, Match, NFA};
-use determinize_dense::{Automaton, Dfa, RowId, Walker};
+use determinize_below::{HalfMatch, Input, Match};
+use determinize_dense::{Automaton, RowId, Walker};
 use determinize_engine::text::Text;
 use std::alloc::{AllocError, Allocator, Global};
 use std::convert::Infallible;
@@ -47,17 +45,17 @@ use std::sync::ledger::Ledger;
 
 /// A walk over a text under way, with the last match that its rows have listed.
 #[derive(Drop)]
-struct Walk<'d, R: AsNfa, M: Allocator> {
-    walker: Walker<'d, R, M>,
+struct Walk<'d, D: Automaton> {
+    walker: Walker<'d, D>,
     /// The position of the next unit.
     at: usize,
-    /// The last row that listed a match, or the dead row.
+    /// The last row that listed a match, or no row.
     listing: RowId,
     /// The end of its match.
     end: usize,
 }
 
-impl<'d, R: AsNfa, M: Allocator> Model for Walk<'d, R, M> {
+impl<'d, D: Automaton> Model for Walk<'d, D> {
     ghost use Rattle.determinize_core.specs.LastMatch.{ended_at};
     ghost use Rattle.determinize_dense.specs.Table.{patterns_at};
     ghost use Rattle.determinize_linear.specs.Private.Walks.{WalkValue};
@@ -65,34 +63,32 @@ impl<'d, R: AsNfa, M: Allocator> Model for Walk<'d, R, M> {
     ghost Value = { WalkValue };
 
     ghost view = { λ w. record {
-      dfa = w.walker.dfa;
+      dfa = D.stored w.walker.automaton;
       row = w.walker.row;
       at = w.at;
-      found = ended_at w.end (patterns_at w.walker.dfa.table w.listing);
+      found = ended_at w.end (patterns_at (D.stored w.walker.automaton).table w.listing);
     } };
 }
 
-impl<'d, R: AsNfa, M: Allocator + Copy> Walk<'d, R, M> {
+impl<'d, D: Automaton> Walk<'d, D> {
     /// Returns an anchored walk that begins at a position of a text.
     #[inline(always)]
-    fn new(dfa: &'d Dfa<R, M>, text: &Text<'_>, from: usize, begin_alike: bool) -> Walk<'d, R, M>
-        requires { begin_alike ≡ true → BeginAlike dfa.now text.now }
+    fn new(dfa: &'d D, text: &Text<'_>, from: usize, begin_alike: bool) -> Walk<'d, D>
+        requires { begin_alike ≡ true → BeginAlike (D.stored dfa.now) text.now }
         ensures value { result ≡ record {
-          dfa = dfa.now;
-          row = start_row dfa.now.nfa dfa.now.table true (before_at text.now from);
+          dfa = D.stored dfa.now;
+          row = first_row (D.stored dfa.now) true (before_at text.now from);
           at = from;
           found = None;
         } }
-        ensures means { IsDfaOf dfa.now.nfa dfa.now.kind dfa.now.table }
-        ensures dead { IsDead dfa.now.table 0 }
-        ensures accepted { IsAccepted dfa.now.nfa }
+        ensures means { (nfa : Nfa) → D.is_of dfa.now nfa
+            → IsAccepted nfa × IsStoredOf nfa (D.stored dfa.now) }
         ensures behind { IsUnit (before_at text.now from) }
     {
-        let start = start_at(text, from, begin_alike);
         Walk {
-            walker: dfa.walker(&start),
+            walker: Walker::new(dfa, true, behind_start(text, from, begin_alike)),
             at: from,
-            listing: RowId::DEAD,
+            listing: RowId::new(dfa.len()),
             end: from,
         }
     }
@@ -128,14 +124,11 @@ impl<'d, R: AsNfa, M: Allocator + Copy> Walk<'d, R, M> {
     }
 
     /// Returns the last match that the rows have listed.
-    ///
-    /// - `dfa` is the DFA of the walk.
     #[inline(always)]
-    fn found(&self, dfa: &Dfa<R, M>) -> Option<HalfMatch>
-        requires { dfa.now ≡ self.now.dfa }
+    fn found(&self) -> Option<HalfMatch>
         ensures { result ≡ self.now.found }
     {
-        let pattern = dfa.match_pattern(self.listing, 0)?;
+        let pattern = self.walker.automaton().match_pattern(self.listing, 0)?;
         Some(HalfMatch {
             pattern,
             offset: self.end,
@@ -145,13 +138,13 @@ impl<'d, R: AsNfa, M: Allocator + Copy> Walk<'d, R, M> {
 
 /// Walks over the bytes of a text, up to its end or to where no further match is listed.
 #[inline(always)]
-fn walk_bytes<R: AsNfa, M: Allocator + Copy, A: Allocator, C: Counter>(
-    walk: &mut Walk<'_, R, M>,
+fn walk_bytes<D: Automaton, A: Allocator, C: Counter>(
+    walk: &mut Walk<'_, D>,
     text: &Text<'_>,
     marks: &mut RowMarks<A>,
     counter: &mut C,
 )
-    requires walkable { IsWalkable walk.old.dfa marks.old walk.old.dfa.nfa text.now walk.old.at }
+    requires walkable { IsWalkable walk.old.dfa marks.old text.now walk.old.at }
     requires within { walk.old.at ≤ length text.now.bytes }
     requires below { walk.old.row < length walk.old.dfa.table.patterns }
     requires start { walk.old.found ≡ None }
@@ -183,19 +176,20 @@ fn walk_bytes<R: AsNfa, M: Allocator + Copy, A: Allocator, C: Counter>(
 ///
 /// - `begin_alike` says whether walks from all positions of the text begin in one row.
 #[inline(always)]
-pub(crate) fn walk_from<R: AsNfa, M: Allocator + Copy, A: Allocator, C: Counter>(
-    dfa: &Dfa<R, M>,
+pub(crate) fn walk_from<D: Automaton, A: Allocator, C: Counter>(
+    dfa: &D,
     text: &Text<'_>,
     from: usize,
     begin_alike: bool,
     marks: &mut RowMarks<A>,
     counter: &mut C,
 ) -> Option<HalfMatch>
-    requires alike { begin_alike ≡ true → BeginAlike dfa.now text.now }
+    requires alike { begin_alike ≡ true → BeginAlike (D.stored dfa.now) text.now }
     requires within { from ≤ length text.now.bytes }
-    requires walkable { IsWalkable dfa.now marks.old dfa.now.nfa text.now from }
-    ensures found { IsFoundAt dfa.now text.now from result }
-    ensures walked { HasWalked dfa.now text.now from marks.old marks.new result
+    requires walkable { IsWalkable (D.stored dfa.now) marks.old text.now from }
+    ensures found { (nfa : Nfa) → D.is_of dfa.now nfa
+        → IsFoundAt nfa (D.stored dfa.now).kind text.now from result }
+    ensures walked { HasWalked (D.stored dfa.now) text.now from marks.old marks.new result
         (C.total counter.old) (C.total counter.new) }
     ensures counted { IsTrue C.counts
         → C.total counter.old + end_of from result + 1 ≤ C.total counter.new + from }
@@ -203,57 +197,60 @@ pub(crate) fn walk_from<R: AsNfa, M: Allocator + Copy, A: Allocator, C: Counter>
     let mut walk = Walk::new(dfa, text, from, begin_alike);
     walk_bytes(&mut walk, text, marks, counter);
     if walk.at < text.len() {
-        return walk.found(dfa);
+        return walk.found();
     }
     counter.count();
     walk.step(text.ahead());
-    walk.found(dfa)
+    walk.found()
 }
 
-/// Returns marks for walks over a text, of which those of the dead row are set.
-pub(crate) fn new_marks<R: AsNfa, M: Allocator + Copy, A: Allocator>(
+/// Returns marks for walks over a text: those of row 0 are set, if it is dead.
+pub(crate) fn new_marks<D: Automaton, A: Allocator>(
     alloc: A,
-    dfa: &Dfa<R, M>,
+    dfa: &D,
     text: &Text<'_>,
 ) -> Result<RowMarks<A>, AllocError>
-    requires { IsDead dfa.now.table 0 }
     ensures walkable { IfOk result
-        (λ marks. (k : ℕ) → IsWalkable dfa.now marks dfa.now.nfa text.now k) }
-    ensures few { IfOk result (λ marks. unmarked dfa.now.table text.now marks
-        ≤ (length text.now.bytes + 1) * length dfa.now.table.patterns) }
+        (λ marks. (k : ℕ) → IsWalkable (D.stored dfa.now) marks text.now k) }
+    ensures few { IfOk result (λ marks. unmarked (D.stored dfa.now).table text.now marks
+        ≤ (length text.now.bytes + 1) * length (D.stored dfa.now).table.patterns) }
 {
-    let columns = dfa.byte_classes().alphabet_len();
-    RowMarks::new(alloc, text.len() + 1, dfa.len(), columns)
+    let is_dead = dfa.is_dead_state(RowId::DEAD);
+    RowMarks::new(alloc, text.len() + 1, dfa.len(), dfa.columns(), is_dead)
 }
 
 /// Walks by one DFA over one text.
 #[derive(Drop)]
-struct Walks<'d, R: AsNfa, M: Allocator, A: Allocator> {
-    dfa: &'d Dfa<R, M>,
+struct Walks<'d, D: Automaton, A: Allocator> {
+    dfa: &'d D,
     marks: RowMarks<A>,
     /// Whether all of them begin in one row.
     begin_alike: bool,
 }
 
-impl<'d, R: AsNfa, M: Allocator + Copy, A: Allocator> Matcher for Walks<'d, R, M, A> {
+impl<'d, D: Automaton, A: Allocator> Matcher for Walks<'d, D, A> {
     type Error = Infallible;
 
-    ghost dfa = { λ w. Some w.dfa.now };
+    ghost By = { D };
 
-    ghost is_ready = { λ w nfa text k. (w.dfa.now.kind ≡ kinds.LeftmostFirst)
-        × (w.begin_alike ≡ true → BeginAlike w.dfa.now text)
-        × IsWalkable w.dfa.now w.marks nfa text k };
+    ghost by = { λ w. w.dfa.now };
 
-    ghost left = { λ w nfa text k. steps_left w.dfa.now.table text w.marks k };
+    ghost finds = { D.finds };
 
-    ghost most = { λ nfa. 0 };
+    ghost is_ready = { λ w text k. ((nfa : Nfa) → D.finds w.dfa.now nfa → D.is_of w.dfa.now nfa)
+        × ((D.stored w.dfa.now).kind ≡ kinds.LeftmostFirst)
+        × (w.begin_alike ≡ true → BeginAlike (D.stored w.dfa.now) text)
+        × IsWalkable (D.stored w.dfa.now) w.marks text k };
+
+    ghost left = { λ w text k. steps_left (D.stored w.dfa.now).table text w.marks k };
+
+    ghost most = { λ dfa. 0 };
 
     ghost extra = { 3 };
 
     #[inline(always)]
-    fn search_from<N: Allocator, C: Counter>(
+    fn search_from<C: Counter>(
         &mut self,
-        _nfa: &NFA<N>,
         text: &Text<'_>,
         from: usize,
         counter: &mut C,
@@ -263,34 +260,45 @@ impl<'d, R: AsNfa, M: Allocator + Copy, A: Allocator> Matcher for Walks<'d, R, M
     }
 }
 
+/// Returns whether a match may begin only where the search starts.
+fn is_anchored<D: Automaton>(dfa: &D, input: &Input<'_>) -> bool
+    ensures value { (nfa : Nfa) → D.finds dfa.now nfa
+        → result ≡ inputs.is_anchored nfa input.now.anchored }
+    ensures known { (nfa : Nfa) → D.finds dfa.now nfa → D.is_of dfa.now nfa }
+{
+    let is_always = dfa.is_always_start_anchored();
+    input.get_anchored().is_anchored() || is_always
+}
+
 /// A cursor over the matches of an input, in their order, which are those of [`find_all`]. It
 /// borrows the DFA, and owns the marks of its searches.
 #[derive(Drop)]
-pub struct Searcher<'d, 'h, R: AsNfa, M: Allocator = Global, A: Allocator = Global> {
-    walks: Walks<'d, R, M, A>,
+pub struct Searcher<'d, 'h, D: Automaton, A: Allocator = Global> {
+    walks: Walks<'d, D, A>,
     cursor: Cursor<'h>,
 }
 
-impl<'d, 'h, R: AsNfa, M: Allocator, A: Allocator> Model for Searcher<'d, 'h, R, M, A> {
+impl<'d, 'h, D: Automaton, A: Allocator> Model for Searcher<'d, 'h, D, A> {
     ghost use Rattle.determinize_linear.specs.Cursors.{SearcherValue};
     ghost use Rattle.determinize_linear.specs.Private.Following.{steps_left};
     ghost use Rattle.determinize_linear.specs.Private.Searchers.{IsSearcher};
     ghost use Rattle.determinize_linear.specs.Private.Turns.{index_of, most_left, place_of};
 
-    ghost Value = { SearcherValue };
+    ghost Value = { SearcherValue D };
 
     ghost view = { λ s. record {
       dfa = s.walks.dfa.now;
       cursor = place_of s.cursor;
       next = index_of s.cursor;
-      left = most_left (steps_left s.walks.dfa.now.table s.cursor.text s.walks.marks) 3 s.cursor;
+      left = most_left
+          (steps_left (D.stored s.walks.dfa.now).table s.cursor.text s.walks.marks) 3 s.cursor;
     } };
 
-    ghost invariant = { λ s.
-        IsSearcher s.walks.dfa.now s.walks.marks s.walks.begin_alike s.cursor };
+    ghost invariant = { λ s. IsSearcher (D.stored s.walks.dfa.now) (D.is_of s.walks.dfa.now)
+        (D.finds s.walks.dfa.now) s.walks.marks s.walks.begin_alike s.cursor };
 }
 
-impl<'d, 'h, R: AsNfa, M: Allocator + Copy, A: Allocator> Searcher<'d, 'h, R, M, A> {
+impl<'d, 'h, D: Automaton, A: Allocator> Searcher<'d, 'h, D, A> {
     /// Returns a cursor before the first match of an input, with the marks that its searches need:
     /// no later call allocates.
     ///
@@ -299,11 +307,11 @@ impl<'d, 'h, R: AsNfa, M: Allocator + Copy, A: Allocator> Searcher<'d, 'h, R, M,
     /// here: a caller that stops early saves steps, and no memory.
     pub fn new(
         alloc: A,
-        dfa: &'d Dfa<R, M>,
+        dfa: &'d D,
         input: &Input<'h>,
-    ) -> Result<Searcher<'d, 'h, R, M, A>, AllocError>
-        requires forward { dfa.now.nfa.reverse ≡ false }
-        requires kind { dfa.now.kind ≡ kinds.LeftmostFirst }
+    ) -> Result<Searcher<'d, 'h, D, A>, AllocError>
+        requires forward { (D.stored dfa.now).reverse ≡ false }
+        requires kind { (D.stored dfa.now).kind ≡ kinds.LeftmostFirst }
         requires start { has_start input.now.anchored ≡ true }
         ensures dfa { IfOk result (λ s. s.dfa ≡ dfa.now) }
         ensures first { IfOk result
@@ -311,9 +319,10 @@ impl<'d, 'h, R: AsNfa, M: Allocator + Copy, A: Allocator> Searcher<'d, 'h, R, M,
         ensures next { input.now.start ≤ input.now.end
             → IfOk result (λ s. s.next ≡ input.now.start) }
         ensures linear { IfOk result
-            (λ s. s.left ≤ most_steps dfa.now.table (input.now.end - input.now.start)) }
+            (λ s. s.left
+            ≤ most_steps (D.stored dfa.now).table (input.now.end - input.now.start)) }
     {
-        let cursor = Cursor::new(dfa.nfa(), input);
+        let cursor = Cursor::new(input, is_anchored(dfa, input));
         let text = cursor.text();
         let begin_alike = begin_alike(dfa, &text);
         let marks = new_marks(alloc, dfa, &text)?;
@@ -328,7 +337,8 @@ impl<'d, 'h, R: AsNfa, M: Allocator + Copy, A: Allocator> Searcher<'d, 'h, R, M,
     /// Returns the next match, and moves the cursor behind it, counted or not.
     #[inline(always)]
     fn advance_with<C: Counter>(&mut self, counter: &mut C) -> Option<Match>
-        ensures next { IsNext self.old.dfa.nfa self.old.cursor.asked self.old.cursor.before result }
+        ensures next { (nfa : Nfa) → D.finds self.old.dfa nfa
+            → IsNext nfa self.old.cursor.asked self.old.cursor.before result }
         ensures after { self.new.cursor ≡ after_match self.old.cursor result }
         ensures dfa { self.new.dfa ≡ self.old.dfa }
         ensures further { IfSome result (λ m.
@@ -340,14 +350,12 @@ impl<'d, 'h, R: AsNfa, M: Allocator + Copy, A: Allocator> Searcher<'d, 'h, R, M,
         ensures counted { IsTrue C.counts → IfSome result (λ m.
             (C.total counter.old + (m.end + 1 - self.old.next) ≤ C.total counter.new)
             × (self.new.next ≤ m.end + 1)) }
-        ensures past { IsTrue C.counts
-            → is_anchored self.old.dfa.nfa self.old.cursor.asked.anchored ≡ false
+        ensures past { (nfa : Nfa) → D.finds self.old.dfa nfa → IsTrue C.counts
+            → inputs.is_anchored nfa self.old.cursor.asked.anchored ≡ false
             → IfNone result (C.total counter.old + (self.old.cursor.asked.end + 1 - self.old.next)
             ≤ C.total counter.new) }
     {
-        let dfa = self.walks.dfa;
-        let nfa = dfa.nfa();
-        let Ok(found) = self.cursor.advance(&mut self.walks, nfa, counter);
+        let Ok(found) = self.cursor.advance(&mut self.walks, counter);
         found
     }
 
@@ -361,7 +369,8 @@ impl<'d, 'h, R: AsNfa, M: Allocator + Copy, A: Allocator> Searcher<'d, 'h, R, M,
     /// All calls together take a number of steps that is linear in the length of the range, as
     /// `advance_counted` says, which has the same body. One of them may take most of these.
     pub fn advance(&mut self) -> Option<Match>
-        ensures next { IsNext self.old.dfa.nfa self.old.cursor.asked self.old.cursor.before result }
+        ensures next { (nfa : Nfa) → D.finds self.old.dfa nfa
+            → IsNext nfa self.old.cursor.asked self.old.cursor.before result }
         ensures after { self.new.cursor ≡ after_match self.old.cursor result }
         ensures dfa { self.new.dfa ≡ self.old.dfa }
         ensures further { IfSome result (λ m.
@@ -382,7 +391,8 @@ impl<'d, 'h, R: AsNfa, M: Allocator + Copy, A: Allocator> Searcher<'d, 'h, R, M,
     /// one step is counted for each index from `next` to the end of the match or, if there is none
     /// and the input is not anchored, to the end of the range.
     pub fn advance_counted<L: Ledger>(&mut self, steps: &mut Tries<L>) -> Option<Match>
-        ensures next { IsNext self.old.dfa.nfa self.old.cursor.asked self.old.cursor.before result }
+        ensures next { (nfa : Nfa) → D.finds self.old.dfa nfa
+            → IsNext nfa self.old.cursor.asked self.old.cursor.before result }
         ensures after { self.new.cursor ≡ after_match self.old.cursor result }
         ensures dfa { self.new.dfa ≡ self.old.dfa }
         ensures further { IfSome result (λ m.
@@ -394,7 +404,8 @@ impl<'d, 'h, R: AsNfa, M: Allocator + Copy, A: Allocator> Searcher<'d, 'h, R, M,
         ensures counted { IfSome result (λ m.
             (steps.old + (m.end + 1 - self.old.next) ≤ steps.new)
             × (self.new.next ≤ m.end + 1)) }
-        ensures past { is_anchored self.old.dfa.nfa self.old.cursor.asked.anchored ≡ false
+        ensures past { (nfa : Nfa) → D.finds self.old.dfa nfa
+            → inputs.is_anchored nfa self.old.cursor.asked.anchored ≡ false
             → IfNone result (steps.old + (self.old.cursor.asked.end + 1 - self.old.next)
             ≤ steps.new) }
     {
@@ -403,21 +414,22 @@ impl<'d, 'h, R: AsNfa, M: Allocator + Copy, A: Allocator> Searcher<'d, 'h, R, M,
 }
 
 /// Returns all matches of an input, counted or not.
-fn find_all_with<R: AsNfa, M: Allocator + Copy, A: Allocator + Copy, C: Counter>(
+fn find_all_with<D: Automaton, A: Allocator + Copy, C: Counter>(
     alloc: A,
-    dfa: &Dfa<R, M>,
+    dfa: &D,
     input: &Input<'_>,
     counter: &mut C,
 ) -> Result<Vec<Match, A>, AllocError>
-    requires forward { dfa.now.nfa.reverse ≡ false }
-    requires kind { dfa.now.kind ≡ kinds.LeftmostFirst }
+    requires forward { (D.stored dfa.now).reverse ≡ false }
+    requires kind { (D.stored dfa.now).kind ≡ kinds.LeftmostFirst }
     requires start { has_start input.now.anchored ≡ true }
-    ensures all { IfOk result (λ found. AreMatches dfa.now.nfa input.now None found.items) }
+    ensures all { (nfa : Nfa) → D.finds dfa.now nfa
+        → IfOk result (λ found. AreMatches nfa input.now None found.items) }
     ensures linear { IsTrue C.counts → C.total counter.new ≤ C.total counter.old
-        + most_steps dfa.now.table (input.now.end - input.now.start) }
-    ensures counted { IsTrue C.counts → is_anchored dfa.now.nfa input.now.anchored ≡ false
-        → IfOk result (λ _. C.total counter.old + (input.now.end + 1 - input.now.start)
-        ≤ C.total counter.new) }
+        + most_steps (D.stored dfa.now).table (input.now.end - input.now.start) }
+    ensures counted { (nfa : Nfa) → D.finds dfa.now nfa → IsTrue C.counts
+        → inputs.is_anchored nfa input.now.anchored ≡ false → IfOk result (λ _. C.total counter.old
+        + (input.now.end + 1 - input.now.start) ≤ C.total counter.new) }
     ensures ends { IsTrue C.counts → IfOk result (λ found. All (λ m. C.total counter.old
         + (m.end + 1 - input.now.start) ≤ C.total counter.new) found.items) }
 {
@@ -432,7 +444,7 @@ fn find_all_with<R: AsNfa, M: Allocator + Copy, A: Allocator + Copy, C: Counter>
         marks,
         begin_alike,
     };
-    find_all_by(alloc, &mut walks, dfa.nfa(), input, counter)
+    find_all_by(alloc, &mut walks, input, is_anchored(dfa, input), counter)
 }
 
 /// Returns all matches of an input, in their order: the same as [`crate::find_all`] of the NFA.
@@ -442,15 +454,16 @@ fn find_all_with<R: AsNfa, M: Allocator + Copy, A: Allocator + Copy, C: Counter>
 /// range are seen by assertions. The number of steps is linear in the length of the range, as
 /// [`find_all_counted`] says. The memory is, too: a bit for each row of the DFA at each index of
 /// the range, and at most eight bytes for each entry of its table.
-pub fn find_all<R: AsNfa, M: Allocator + Copy, A: Allocator + Copy>(
+pub fn find_all<D: Automaton, A: Allocator + Copy>(
     alloc: A,
-    dfa: &Dfa<R, M>,
+    dfa: &D,
     input: &Input<'_>,
 ) -> Result<Vec<Match, A>, AllocError>
-    requires forward { dfa.now.nfa.reverse ≡ false }
-    requires kind { dfa.now.kind ≡ kinds.LeftmostFirst }
+    requires forward { (D.stored dfa.now).reverse ≡ false }
+    requires kind { (D.stored dfa.now).kind ≡ kinds.LeftmostFirst }
     requires start { has_start input.now.anchored ≡ true }
-    ensures { IfOk result (λ found. AreMatches dfa.now.nfa input.now None found.items) }
+    ensures { (nfa : Nfa) → D.finds dfa.now nfa
+        → IfOk result (λ found. AreMatches nfa input.now None found.items) }
 {
     find_all_with(alloc, dfa, input, &mut ())
 }
@@ -459,19 +472,21 @@ pub fn find_all<R: AsNfa, M: Allocator + Copy, A: Allocator + Copy>(
 /// they are at most `(rows + 4) * (bytes + 2)`, for the rows of the DFA and the bytes of the range.
 /// On success they are at least one for each index from the start of the range to the end of each
 /// match and, if the input is not anchored, to the end of the range.
-pub fn find_all_counted<R: AsNfa, M: Allocator + Copy, A: Allocator + Copy, L: Ledger>(
+pub fn find_all_counted<D: Automaton, A: Allocator + Copy, L: Ledger>(
     alloc: A,
-    dfa: &Dfa<R, M>,
+    dfa: &D,
     input: &Input<'_>,
     steps: &mut Tries<L>,
 ) -> Result<Vec<Match, A>, AllocError>
-    requires forward { dfa.now.nfa.reverse ≡ false }
-    requires kind { dfa.now.kind ≡ kinds.LeftmostFirst }
+    requires forward { (D.stored dfa.now).reverse ≡ false }
+    requires kind { (D.stored dfa.now).kind ≡ kinds.LeftmostFirst }
     requires start { has_start input.now.anchored ≡ true }
-    ensures all { IfOk result (λ found. AreMatches dfa.now.nfa input.now None found.items) }
+    ensures all { (nfa : Nfa) → D.finds dfa.now nfa
+        → IfOk result (λ found. AreMatches nfa input.now None found.items) }
     ensures linear { steps.new ≤ steps.old
-        + most_steps dfa.now.table (input.now.end - input.now.start) }
-    ensures counted { is_anchored dfa.now.nfa input.now.anchored ≡ false → IfOk result
+        + most_steps (D.stored dfa.now).table (input.now.end - input.now.start) }
+    ensures counted { (nfa : Nfa) → D.finds dfa.now nfa
+        → inputs.is_anchored nfa input.now.anchored ≡ false → IfOk result
         (λ _. steps.old + (input.now.end + 1 - input.now.start) ≤ steps.new) }
     ensures ends { IfOk result (λ found. All (λ m. steps.old
         + (m.end + 1 - input.now.start) ≤ steps.new) found.items) }

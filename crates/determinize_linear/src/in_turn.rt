@@ -2,12 +2,12 @@
 
 ghost use Rattle.std.specs.Prelude.{[], ◌≡◌, ◌∷◌, ◌++◌, ◌<◌, ◌≤◌, ◌-◌, ◌+◌, ◌*◌, ◌^◌, ℕ, All, IfOk, IsTrue, None, OnOk, false, length, true};
 ghost use Rattle.std.specs.Option.{IfNone, IfSome};
-ghost use Rattle.determinize_below.specs.Nfa.{IsAccepted};
+ghost use Rattle.determinize_below.specs.Semantics.{Nfa};
 ghost use Rattle.determinize_engine.specs.Searches.{has_start, text_of};
 ghost use Rattle.determinize_find.specs.LeftmostIn as inputs;
 ghost use Rattle.determinize_find.specs.Matches.{AreMatches};
 ghost use Rattle.determinize_linear.specs.Private.Paid.{in_haystack};
-ghost use Rattle.determinize_linear.specs.Private.Turns.{HasMoved, IsCursor, ends_at, index_of, most_left, passed, taken};
+ghost use Rattle.determinize_linear.specs.Private.Turns.{HasMoved, IsCursor, IsInside, ends_at, index_of, most_left, passed, taken};
 
 use crate::matcher::Matcher;
 use crate::tries::Counter;
@@ -17,7 +17,7 @@ use std::alloc::{AllocError, Allocator};
 use std::marker::Model;
 
 /// Returns whether a match may begin only where the search starts.
-fn is_anchored<N: Allocator>(nfa: &NFA<N>, input: &Input<'_>) -> bool
+pub(crate) fn is_anchored<N: Allocator>(nfa: &NFA<N>, input: &Input<'_>) -> bool
     ensures { result ≡ inputs.is_anchored nfa.now input.now.anchored }
 {
     input.get_anchored().is_anchored() || nfa.start_unanchored() == nfa.start_anchored()
@@ -96,9 +96,12 @@ impl<'h> Model for Cursor<'h> {
 
 impl<'h> Cursor<'h> {
     /// Returns a cursor before the first match of an input.
-    pub(crate) fn new<N: Allocator>(nfa: &NFA<N>, input: &Input<'h>) -> Cursor<'h>
+    pub(crate) fn new(input: &Input<'h>, is_anchored: bool) -> Cursor<'h>
         requires { has_start input.now.anchored ≡ true }
-        ensures cursor { IsCursor nfa.now result }
+        ensures inside { IsInside result }
+        ensures cursor { (nfa : Nfa) → is_anchored ≡ inputs.is_anchored nfa input.now.anchored
+            → IsCursor nfa result }
+        ensures anchored { result.is_anchored ≡ is_anchored }
         ensures asked { result.asked ≡ input.now }
         ensures before { result.before ≡ None }
         ensures at { input.now.start ≤ input.now.end → result.at ≡ 0 }
@@ -106,7 +109,7 @@ impl<'h> Cursor<'h> {
         Cursor {
             input: input.from_index(input.start()),
             text: text_of_range(input),
-            is_anchored: is_anchored(nfa, input),
+            is_anchored,
             last_match_end: None,
             // Behind the end of the text, which is empty, if the range starts past its end.
             at: input.start().saturating_sub(input.end()),
@@ -171,27 +174,27 @@ impl<'h> Cursor<'h> {
 
     /// Returns the next match, if any, and moves behind it.
     #[inline(always)]
-    pub(crate) fn advance<S: Matcher, N: Allocator, C: Counter>(
+    pub(crate) fn advance<S: Matcher, C: Counter>(
         &mut self,
         search: &mut S,
-        nfa: &NFA<N>,
         counter: &mut C,
     ) -> Result<Option<Match>, S::Error>
-        requires accepted { IsAccepted nfa.now }
-        requires forward { nfa.now.reverse ≡ false }
-        requires cursor { IsCursor nfa.now self.old }
-        requires ready { (k : ℕ) → self.old.at ≤ k
-            → S.is_ready search.old nfa.now self.old.text k }
-        ensures dfa { S.dfa search.new ≡ S.dfa search.old }
-        ensures moved { IfOk result (λ found. HasMoved nfa.now self.old found self.new) }
+        requires inside { IsInside self.old }
+        requires cursor { (nfa : Nfa) → S.finds (S.by search.old) nfa → IsCursor nfa self.old }
+        requires ready { (k : ℕ) → self.old.at ≤ k → S.is_ready search.old self.old.text k }
+        ensures by { S.by search.new ≡ S.by search.old }
+        ensures moved { IfOk result
+            (λ found. HasMoved (S.finds (S.by search.old)) self.old found self.new) }
+        ensures on { IfOk result (λ found. IfSome found (λ m. (self.old.at < self.new.at)
+            × (self.old.at ≤ length self.old.text.bytes))) }
         ensures ready { IfOk result (λ found. (k : ℕ) → self.new.at ≤ k
-            → S.is_ready search.new nfa.now self.old.text k) }
+            → S.is_ready search.new self.old.text k) }
         ensures paid { IfOk result (λ found. C.total counter.new + most_left
-            (S.left search.new nfa.now self.old.text) (S.most nfa.now + S.extra) self.new
+            (S.left search.new self.old.text) (S.most (S.by search.old) + S.extra) self.new
             ≤ C.total counter.old + most_left
-            (S.left search.old nfa.now self.old.text) (S.most nfa.now + S.extra) self.old) }
+            (S.left search.old self.old.text) (S.most (S.by search.old) + S.extra) self.old) }
         ensures bounded { C.total counter.new ≤ C.total counter.old + most_left
-            (S.left search.old nfa.now self.old.text) (S.most nfa.now + S.extra) self.old }
+            (S.left search.old self.old.text) (S.most (S.by search.old) + S.extra) self.old }
         ensures further { IfOk result (λ found. IfSome found (λ m.
             (m.start < m.end → index_of self.new ≡ m.end)
             × (m.start ≡ m.end → index_of self.new ≡ m.end + 1))) }
@@ -208,7 +211,7 @@ impl<'h> Cursor<'h> {
     {
         let text = self.text();
         while self.position() <= text.len() {
-            let found = search.search_from(nfa, &text, self.position(), counter)?;
+            let found = search.search_from(&text, self.position(), counter)?;
             if let Some(next) = self.pass(found) {
                 return Ok(Some(next));
             }
@@ -218,33 +221,36 @@ impl<'h> Cursor<'h> {
 }
 
 /// Returns all matches of an input, by searches of the text of its range.
+///
+/// - `is_anchored` says whether a match may begin only where the search starts.
 #[inline(always)]
-pub(crate) fn find_all_by<S: Matcher, N: Allocator, A: Allocator, C: Counter>(
+pub(crate) fn find_all_by<S: Matcher, A: Allocator, C: Counter>(
     alloc: A,
     search: &mut S,
-    nfa: &NFA<N>,
     input: &Input<'_>,
+    is_anchored: bool,
     counter: &mut C,
 ) -> Result<Vec<Match, A>, AllocError>
-    requires accepted { IsAccepted nfa.now }
-    requires forward { nfa.now.reverse ≡ false }
+    requires anchored { (nfa : Nfa) → S.finds (S.by search.old) nfa
+        → is_anchored ≡ inputs.is_anchored nfa input.now.anchored }
     requires mode { has_start input.now.anchored ≡ true }
     requires order { input.now.start ≤ input.now.end }
-    requires ready { (k : ℕ) → S.is_ready search.old nfa.now (text_of false input.now) k }
-    ensures all { IfOk result (λ found. AreMatches nfa.now input.now None found.items) }
+    requires ready { (k : ℕ) → S.is_ready search.old (text_of false input.now) k }
+    ensures all { (nfa : Nfa) → S.finds (S.by search.old) nfa
+        → IfOk result (λ found. AreMatches nfa input.now None found.items) }
     ensures linear { IsTrue C.counts → C.total counter.new ≤ C.total counter.old
-        + S.left search.old nfa.now (text_of false input.now) 0
-        + (S.most nfa.now + S.extra) * (input.now.end - input.now.start + 1) }
-    ensures counted { IsTrue C.counts → inputs.is_anchored nfa.now input.now.anchored ≡ false
+        + S.left search.old (text_of false input.now) 0
+        + (S.most (S.by search.old) + S.extra) * (input.now.end - input.now.start + 1) }
+    ensures counted { IsTrue C.counts → is_anchored ≡ false
         → IfOk result (λ _. C.total counter.old + (input.now.end - input.now.start) + 1
         ≤ C.total counter.new) }
     ensures ends { IsTrue C.counts → IfOk result (λ found. All (λ m. C.total counter.old
         + (m.end + 1 - input.now.start) ≤ C.total counter.new) found.items) }
 {
     let mut found = Vec::new(alloc);
-    let mut cursor = Cursor::new(nfa, input);
+    let mut cursor = Cursor::new(input, is_anchored);
     loop {
-        match cursor.advance(search, nfa, counter) {
+        match cursor.advance(search, counter) {
             Ok(Some(next)) => found.push(next)?,
             Ok(None) => return Ok(found),
             Err(_) => return Err(AllocError),

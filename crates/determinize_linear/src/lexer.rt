@@ -6,6 +6,7 @@
 //! as those of [`crate::dense`] do: after the end of the token no match was listed.
 
 ghost use Rattle.std.specs.Prelude.{◌≡◌, ◌≤◌, ◌-◌, ◌+◌, IfOk, IsTrue, false, length};
+ghost use Rattle.determinize_below.specs.Semantics.{Nfa};
 ghost use Rattle.determinize_below.specs.declared.search.MatchKind.TheVariants as kinds;
 ghost use Rattle.determinize_linear.specs.Tokens.{AreTokens, least_steps};
 ghost use Rattle.determinize_linear.specs.Tries.{most_steps};
@@ -14,24 +15,25 @@ use crate::dense::{new_marks, walk_from};
 use crate::in_turn::push_moved;
 use crate::starts::begin_alike;
 use crate::tries::{Counter, Tries};
-use determinize_below::{AsNfa, Input, Match};
-use determinize_dense::Dfa;
+use determinize_below::{Input, Match};
+use determinize_dense::Automaton;
 use determinize_engine::text::Text;
 use std::alloc::{AllocError, Allocator};
 use std::sync::ledger::Ledger;
 
 /// Returns the tokens of an input, counted or not.
-fn tokens_with<R: AsNfa, M: Allocator + Copy, A: Allocator + Copy, C: Counter>(
+fn tokens_with<D: Automaton, A: Allocator + Copy, C: Counter>(
     alloc: A,
-    dfa: &Dfa<R, M>,
+    dfa: &D,
     input: &Input<'_>,
     counter: &mut C,
 ) -> Result<Vec<Match, A>, AllocError>
-    requires forward { dfa.now.nfa.reverse ≡ false }
-    requires kind { dfa.now.kind ≡ kinds.All }
-    ensures tokens { IfOk result (λ found. AreTokens dfa.now.nfa input.now found.items) }
+    requires forward { (D.stored dfa.now).reverse ≡ false }
+    requires kind { (D.stored dfa.now).kind ≡ kinds.All }
+    ensures tokens { (nfa : Nfa) → D.is_of dfa.now nfa
+        → IfOk result (λ found. AreTokens nfa input.now found.items) }
     ensures linear { IsTrue C.counts → C.total counter.new ≤ C.total counter.old
-        + most_steps dfa.now.table (input.now.end - input.now.start) }
+        + most_steps (D.stored dfa.now).table (input.now.end - input.now.start) }
     ensures counted { IsTrue C.counts → IfOk result
         (λ found. C.total counter.old + least_steps input.now found.items ≤ C.total counter.new) }
 {
@@ -64,14 +66,15 @@ fn tokens_with<R: AsNfa, M: Allocator + Copy, A: Allocator + Copy, C: Counter>(
 /// begins. The anchored mode of the input makes no difference. The bytes next to the range are seen
 /// by assertions. The number of steps is linear in the length of the range, as [`tokens_counted`]
 /// says, and so is the memory, as of [`crate::dense::find_all`].
-pub fn tokens<R: AsNfa, M: Allocator + Copy, A: Allocator + Copy>(
+pub fn tokens<D: Automaton, A: Allocator + Copy>(
     alloc: A,
-    dfa: &Dfa<R, M>,
+    dfa: &D,
     input: &Input<'_>,
 ) -> Result<Vec<Match, A>, AllocError>
-    requires forward { dfa.now.nfa.reverse ≡ false }
-    requires kind { dfa.now.kind ≡ kinds.All }
-    ensures { IfOk result (λ found. AreTokens dfa.now.nfa input.now found.items) }
+    requires forward { (D.stored dfa.now).reverse ≡ false }
+    requires kind { (D.stored dfa.now).kind ≡ kinds.All }
+    ensures { (nfa : Nfa) → D.is_of dfa.now nfa
+        → IfOk result (λ found. AreTokens nfa input.now found.items) }
 {
     tokens_with(alloc, dfa, input, &mut ())
 }
@@ -80,17 +83,18 @@ pub fn tokens<R: AsNfa, M: Allocator + Copy, A: Allocator + Copy>(
 /// they are at most `(rows + 4) * (bytes + 2)`, for the rows of the DFA and the bytes of the range.
 /// On success they are at least one for each token and one for each byte that they cover, and one
 /// more if the list ends before the range does.
-pub fn tokens_counted<R: AsNfa, M: Allocator + Copy, A: Allocator + Copy, L: Ledger>(
+pub fn tokens_counted<D: Automaton, A: Allocator + Copy, L: Ledger>(
     alloc: A,
-    dfa: &Dfa<R, M>,
+    dfa: &D,
     input: &Input<'_>,
     steps: &mut Tries<L>,
 ) -> Result<Vec<Match, A>, AllocError>
-    requires forward { dfa.now.nfa.reverse ≡ false }
-    requires kind { dfa.now.kind ≡ kinds.All }
-    ensures tokens { IfOk result (λ found. AreTokens dfa.now.nfa input.now found.items) }
+    requires forward { (D.stored dfa.now).reverse ≡ false }
+    requires kind { (D.stored dfa.now).kind ≡ kinds.All }
+    ensures tokens { (nfa : Nfa) → D.is_of dfa.now nfa
+        → IfOk result (λ found. AreTokens nfa input.now found.items) }
     ensures linear { steps.new ≤ steps.old
-        + most_steps dfa.now.table (input.now.end - input.now.start) }
+        + most_steps (D.stored dfa.now).table (input.now.end - input.now.start) }
     ensures counted { IfOk result
         (λ found. steps.old + least_steps input.now found.items ≤ steps.new) }
 {

@@ -10,8 +10,9 @@
 ghost use Rattle.std.specs.Prelude.{◌≡◌, ◌≤◌, ◌-◌, ◌+◌, All, IfOk, IsTrue, None, OnOk, false, length, option_map, true};
 ghost use Rattle.std.specs.Option.{IfNone, IfSome};
 ghost use Rattle.determinize_below.specs.Nfa.{IsAccepted};
+ghost use Rattle.determinize_below.specs.Semantics as semantics;
 ghost use Rattle.determinize_engine.specs.Searches.{has_start};
-ghost use Rattle.determinize_find.specs.LeftmostIn.{is_anchored};
+ghost use Rattle.determinize_find.specs.LeftmostIn as inputs;
 ghost use Rattle.determinize_find.specs.Matches.{AreMatches};
 ghost use Rattle.determinize_find.specs.Private.BestAt.{IsBestAt, from_index};
 ghost use Rattle.determinize_linear.specs.Private.Paid.{IsPaid, end_of};
@@ -20,7 +21,7 @@ ghost use Rattle.determinize_linear.specs.Private.Spent.{HasPlaces, IsSpent};
 ghost use Rattle.determinize_linear.specs.Tries.{most_tries};
 
 use crate::choices::push_choices;
-use crate::in_turn::find_all_by;
+use crate::in_turn::{find_all_by, is_anchored};
 use crate::matcher::Matcher;
 use crate::tries::{Counter, Tries};
 use crate::visited::Visited;
@@ -79,34 +80,39 @@ fn search_from<N: Allocator, A: Allocator, C: Counter>(
     Ok(None)
 }
 
-/// The pairs that searches of a text have been at, and those where they go on.
+/// A search over the pairs of an NFA: those where it was, and those from which it continues.
 #[derive(Drop)]
-struct DepthFirst<A: Allocator> {
+struct DepthFirst<'n, N: Allocator, A: Allocator> {
+    nfa: &'n NFA<N>,
     visited: Visited<A>,
     stack: Vec<(usize, StateID), A>,
 }
 
-impl<A: Allocator> Matcher for DepthFirst<A> {
+impl<'n, N: Allocator, A: Allocator> Matcher for DepthFirst<'n, N, A> {
     type Error = AllocError;
 
-    ghost dfa = { λ s. None };
+    ghost By = { semantics.Nfa };
 
-    ghost is_ready = { λ s nfa text k. HasPlaces nfa text s.visited
-        × IsSpent nfa text k s.visited };
+    ghost by = { λ s. s.nfa.now };
 
-    ghost left = { λ s nfa text k. left nfa text k s.visited };
+    ghost finds = { λ nfa other. nfa ≡ other };
+
+    ghost is_ready = { λ s text k. IsAccepted s.nfa.now × (s.nfa.now.reverse ≡ false)
+        × HasPlaces s.nfa.now text s.visited × IsSpent s.nfa.now text k s.visited };
+
+    ghost left = { λ s text k. left s.nfa.now text k s.visited };
 
     ghost most = { most_choices };
 
     ghost extra = { 1 };
 
-    fn search_from<N: Allocator, C: Counter>(
+    fn search_from<C: Counter>(
         &mut self,
-        nfa: &NFA<N>,
         text: &Text<'_>,
         from: usize,
         counter: &mut C,
     ) -> Result<Option<HalfMatch>, AllocError> {
+        let nfa = self.nfa;
         search_from(nfa, text, from, &mut self.visited, &mut self.stack, counter)
     }
 }
@@ -123,7 +129,7 @@ fn find_all_with<N: Allocator, A: Allocator + Copy, C: Counter>(
     ensures all { IfOk result (λ found. AreMatches nfa.now input.now None found.items) }
     ensures linear { IsTrue C.counts → C.total counter.new ≤ C.total counter.old
         + most_tries nfa.now (input.now.end - input.now.start) }
-    ensures counted { IsTrue C.counts → is_anchored nfa.now input.now.anchored ≡ false
+    ensures counted { IsTrue C.counts → inputs.is_anchored nfa.now input.now.anchored ≡ false
         → IfOk result (λ _. C.total counter.old + (input.now.end + 1 - input.now.start)
         ≤ C.total counter.new) }
     ensures ends { IsTrue C.counts → IfOk result (λ found. All (λ m. C.total counter.old
@@ -134,10 +140,11 @@ fn find_all_with<N: Allocator, A: Allocator + Copy, C: Counter>(
     }
     let text = Text::of_input(input, false);
     let mut search = DepthFirst {
+        nfa,
         visited: Visited::new(alloc, text.len() + 1, nfa.len())?,
         stack: Vec::new(alloc),
     };
-    find_all_by(alloc, &mut search, nfa, input, counter)
+    find_all_by(alloc, &mut search, input, is_anchored(nfa, input), counter)
 }
 
 /// Returns all matches of an input, in their order, as `find_all` of `determinize_find`.
@@ -174,7 +181,7 @@ pub fn find_all_counted<N: Allocator, A: Allocator + Copy, L: Ledger>(
     ensures all { IfOk result (λ found. AreMatches nfa.now input.now None found.items) }
     ensures linear { tries.new ≤ tries.old
         + most_tries nfa.now (input.now.end - input.now.start) }
-    ensures counted { is_anchored nfa.now input.now.anchored ≡ false → IfOk result
+    ensures counted { inputs.is_anchored nfa.now input.now.anchored ≡ false → IfOk result
         (λ _. tries.old + (input.now.end + 1 - input.now.start) ≤ tries.new) }
     ensures ends { IfOk result (λ found. All (λ m. tries.old
         + (m.end + 1 - input.now.start) ≤ tries.new) found.items) }

@@ -5,7 +5,7 @@
 //! the number of columns. So the words of a row begin at its offset times the number of words for
 //! each entry of the table.
 
-ghost use Rattle.std.specs.Prelude.{◌≡◌, ℕ, ◌*◌, ◌+◌, ◌/◌, ◌<◌, ◌≤◌, ◌||◌, IfOk, length, nat_eq, nat_lt};
+ghost use Rattle.std.specs.Prelude.{◌≡◌, ℕ, ◌*◌, ◌+◌, ◌/◌, ◌<◌, ◌≤◌, ◌||◌, ◌&&◌, IfOk, length, nat_eq, nat_lt};
 ghost use Rattle.determinize_below.specs.Private.Sparse.{has_bit};
 ghost use Rattle.determinize_linear.specs.Private.RowMarks.{HasMark, bit_of};
 
@@ -66,13 +66,14 @@ fn set_first(words: &mut [u64], count: usize)
 
 impl<A: Allocator> RowMarks<A> {
     /// Returns a table for this number of positions, and for the rows of a table with this number
-    /// of columns. The pairs of row 0 are marked, and no others.
+    /// of columns. If row 0 is dead its pairs are marked, and no others are.
     #[tactic(auto, using(crate::proofs::walks::Unset::one_bit))]
     pub(crate) fn new(
         alloc: A,
         positions: usize,
         rows: usize,
         columns: usize,
+        is_dead: bool,
     ) -> Result<RowMarks<A>, AllocError>
         requires rows { 0 < rows }
         requires columns { 0 < columns }
@@ -80,13 +81,16 @@ impl<A: Allocator> RowMarks<A> {
         ensures few { IfOk result (λ m. 64 * (columns * m.span) < positions + 64 * columns) }
         ensures words { IfOk result (λ m. length m.words ≡ rows * (columns * m.span)) }
         ensures first { IfOk result
-            (λ m. (i : ℕ) → has_bit m.words i ≡ nat_lt i (64 * (columns * m.span))) }
+            (λ m. (i : ℕ) → has_bit m.words i
+            ≡ (is_dead && nat_lt i (64 * (columns * m.span)))) }
     {
         let span = positions.div_ceil(64).div_ceil(columns);
         let width = span.checked_mul(columns).ok_or(AllocError)?;
         let count = width.checked_mul(rows).ok_or(AllocError)?;
         let mut words = vec![in alloc; 0u64; count]?;
-        set_first(&mut words, width);
+        if is_dead {
+            set_first(&mut words, width);
+        }
         Ok(RowMarks { span, words })
     }
 

@@ -1,6 +1,6 @@
 -- What follows a row, and the last match along units.
--- Main statements: column-below, dead_stop, dead_if, stepped-some, stepped-none, goes_on, last_done, last_dead,
--- match_of_lists, finds.
+-- Main statements: column-below, rows_in, dead_stop, dead_if, stepped-some, stepped-none, goes_on, last_done,
+-- last_dead, match_of_lists, finds.
 -- Used by: `stored`, `search` and `laws`.
 -- Idea: the rows that are left say what is found after what was found so far.
 use Rattle.determinize_core.proofs.Common.{[], ap, arith, false, HalfMatch, length, List, lists_of, None, Option, refl}
@@ -19,17 +19,20 @@ use Rattle.determinize_core.specs.Chain.{chain}
 use Rattle.determinize_dense.proofs.Along.{along_text, last_listed-dead, last_listed-done, last_listed-more, start_is}
 use Rattle.ordered_reach.proofs.lists.Pieces.{option_or-assoc}
 use Rattle.determinize_dense.specs.Table.{start_row}
+use Rattle.determinize_start.proofs.kinds.StartSlots.{slot_number-below}
+use Rattle.std.proofs.lemmas.Nat.{mul-add-lt}
 use Rattle.determinize_engine.proofs.TextUnits.{text_units}
 use Rattle.determinize_engine.specs.Searches.{in_haystack, last_in, start_for, text_of}
 use Rattle.determinize_start.specs.StartKinds.{byte_before, start_kind_of}
 use Rattle.determinize_start.specs.StartSlots.{slot_number, slot_of}
+use Rattle.determinize_start.specs.declared.start.TheConstants.StartSlot.{COUNT}
 use Rattle.std.specs.List.{slice_range}
 use Rattle.determinize_core.specs.LastMatch.{last_match}
 use Rattle.determinize_core.specs.Walk.{last_listed}
 use Rattle.determinize_dense.specs.Bytes.{IsWhole, Stored}
 use Rattle.determinize_dense.specs.Reading.{IsDead, lists_along}
 use Rattle.determinize_dense.specs.Table.{column_of, patterns_at, row_after, row_over, Table}
-use Rattle.determinize_dense.specs.Automaton.{first_row, IsStoredOf}
+use Rattle.determinize_dense.specs.Automaton.{first_row, HasRowsIn, IsStoredOf}
 use Rattle.determinize_stored.specs.Reading.{HasDeadRow, last_along, last_found}
 
 -- a column is one of a row
@@ -40,6 +43,22 @@ column-below s whole (Some byte) h =
     let within : slice_index s.table.classes byte < s.table.class_count =
     whole.class_within byte 0 (omega (arith, bytes, h)) in
     omega (arith, within)
+
+-- the starts and the entries are numbers of rows
+pub rows_in : (s : Stored) → IsWhole s → HasRowsIn s
+rows_in s whole = record {
+  starts = λ anchored p h.
+      let slot = slot_of anchored (start_kind_of s.terminator p) in
+      let below : slot_number slot < COUNT = slot_number-below slot in
+      whole.start_within (slot_number slot) 0 (omega (arith, whole.starts, below));
+  rows = λ r u h unit.
+      let columns = s.table.class_count + 1 in
+      whole.entry_within (r * columns + column_of s.table u) 0 (omega (
+        arith,
+        whole.entries,
+        mul-add-lt r columns (column_of s.table u) (length s.table.patterns) h (column-below s whole u unit),
+      ));
+}
 
 stays_at : (n : ℕ) (xs : List ℕ) → All (λ r. r ≡ 0) (take n xs) → (k : ℕ) → k < n → slice_index xs k ≡ 0
 stays_at zero xs stays k h = absurd (let no : ⊥ = omega (arith, h) in no)

@@ -2,12 +2,13 @@
 //!
 //! A stored DFA is an [`Automaton`]: it is stepped, drawn and asked for its lists as a `Dfa` is.
 
-ghost use Rattle.std.specs.Prelude.{All, Decides, ◌≡◌, ◌≤◌, IfOk, IsOkAnd, length, true};
+ghost use Rattle.std.specs.Prelude.{All, Decides, ◌≡◌, ◌<◌, ◌≤◌, ◌^◌, IfOk, IsOkAnd, false, length, nat_eq, true};
 ghost use Rattle.determinize_below.specs.Nfa.{IsAccepted};
-ghost use Rattle.determinize_dense.specs.Automaton.{IsStoredOf};
+ghost use Rattle.determinize_below.specs.Truth.{IsUnit};
+ghost use Rattle.determinize_dense.specs.Automaton.{IsStoredOf, first_row};
 ghost use Rattle.determinize_dense.specs.Bytes.{IsWhole, Stored, file_of};
 ghost use Rattle.determinize_dense.specs.Reading.{IsDead};
-ghost use Rattle.determinize_dense.specs.Table.{column_of, patterns_at};
+ghost use Rattle.determinize_dense.specs.Table.{column_of, patterns_at, row_over};
 ghost use Rattle.determinize_below.specs.declared.primitives.TheConstants.{MAX_ID};
 ghost use Rattle.determinize_stored.specs.Reading.{HasDeadRow};
 
@@ -102,6 +103,29 @@ impl<'b> StoredDfa<'b> {
         }
     }
 
+    /// Returns the number of the row of a start after a byte, or after nothing.
+    fn start(&self, is_anchored: bool, look_behind: Option<u8>) -> u32
+        ensures value { result ≡ first_row self.now is_anchored look_behind }
+        ensures unit { IsUnit look_behind }
+    {
+        let kind = start_kind_of(self.head.line_terminator, look_behind);
+        let slot = StartSlot { is_anchored, kind };
+        self.parts.starts.get(slot.as_usize())
+    }
+
+    /// Returns the number of the row after a row over a unit.
+    #[inline(always)]
+    fn target(&self, row: RowId, unit: Option<u8>) -> u32
+        ensures { result ≡ row_over self.now.table row unit }
+    {
+        let row = row.as_usize();
+        if row >= self.head.rows {
+            return 0;
+        }
+        let entry = row * (self.head.class_count + 1) + self.column(unit);
+        self.parts.next.get(entry)
+    }
+
     /// Returns the patterns that a row lists.
     #[inline(always)]
     fn list(&self, row: RowId) -> Words<'b>
@@ -118,28 +142,39 @@ impl<'b> StoredDfa<'b> {
 }
 
 impl<'b> Automaton for StoredDfa<'b> {
+    type Row = RowId;
+
     ghost stored = { λ s. s };
 
     ghost is_of = { λ s nfa. IsAccepted nfa × IsStoredOf nfa s };
 
+    ghost finds = { λ s nfa. IsAccepted nfa × IsStoredOf nfa s
+        × (nat_eq nfa.start_unanchored nfa.start_anchored ≡ false) };
+
+    ghost number = { λ s row. row };
+
+    ghost is_row = { λ s row. row < 2 ^ 32 };
+
     fn len(&self) -> usize {
-        self.head.rows
+        self.len()
+    }
+
+    #[inline(always)]
+    fn columns(&self) -> usize {
+        self.head.class_count + 1
+    }
+
+    fn line_terminator(&self) -> u8 {
+        self.head.line_terminator
     }
 
     fn first_row(&self, is_anchored: bool, look_behind: Option<u8>) -> RowId {
-        let kind = start_kind_of(self.head.line_terminator, look_behind);
-        let slot = StartSlot { is_anchored, kind };
-        RowId::new(self.parts.starts.get(slot.as_usize()) as usize)
+        RowId::new(self.start(is_anchored, look_behind) as usize)
     }
 
     #[inline(always)]
     fn next_row(&self, row: RowId, unit: Option<u8>) -> RowId {
-        let row = row.as_usize();
-        if row >= self.head.rows {
-            return RowId::DEAD;
-        }
-        let entry = row * (self.head.class_count + 1) + self.column(unit);
-        RowId::new(self.parts.next.get(entry) as usize)
+        RowId::new(self.target(row, unit) as usize)
     }
 
     #[inline(always)]
@@ -154,6 +189,35 @@ impl<'b> Automaton for StoredDfa<'b> {
             return None;
         }
         Some(PatternID::must(list.get(index) as usize))
+    }
+
+    fn is_always_start_anchored(&self) -> bool {
+        false
+    }
+
+    #[inline(always)]
+    fn first(&self, is_anchored: bool, look_behind: Option<u8>) -> RowId {
+        RowId::new(self.start(is_anchored, look_behind) as usize)
+    }
+
+    #[inline(always)]
+    fn next(&self, row: RowId, unit: Option<u8>) -> RowId {
+        RowId::new(self.target(row, unit) as usize)
+    }
+
+    #[inline(always)]
+    fn lists(&self, row: RowId) -> bool {
+        self.match_len(row) > 0
+    }
+
+    #[inline(always)]
+    fn row_id(&self, row: RowId) -> RowId {
+        row
+    }
+
+    #[inline(always)]
+    fn offset(&self, row: RowId) -> usize {
+        row.as_usize() * (self.head.class_count + 1)
     }
 
     /// Returns whether a row is row 0 and no match follows it: it lists no pattern, and row 0

@@ -1,5 +1,5 @@
 -- All matches by a cursor, one after another.
--- Main statements: HasCollected, collected_none, collected_more, collected_less, collected_all.
+-- Main statements: HasCollected, collected_none, collected_more, collected_all.
 -- Used by: `find_all_by`.
 -- Idea: each match is the next one after those before it, and what is left falls by what is counted.
 use Rattle.std.proofs.Common.{◌≡◌, ◌<◌, ◌≤◌, ◌*◌, ◌+◌, ◌-◌, ◌++◌, ◌∷◌, ◌∙◌, ℕ, List, None, Some, [], ap, arith}
@@ -11,16 +11,17 @@ use Rattle.determinize_below.specs.Semantics.{Nfa, Text}
 use Rattle.determinize_below.specs.declared.search.Match.{Match}
 use Rattle.determinize_find.specs.Cursors.{SearcherValue}
 use Rattle.determinize_find.specs.Matches.{AreMatches}
-use Rattle.determinize_find.specs.Private.Left.{left}
 use Rattle.determinize_find.proofs.matches.NextMatch.{IsAfter, IsOneMore, after_all, after_one}
-use Rattle.determinize_linear.specs.Private.Turns.{CursorValue, HasMoved, IsCursor, index_of, most_left, place_of}
+use Rattle.determinize_linear.specs.Private.Turns.{CursorValue, HasMoved, IsCursor, IsInside, index_of, most_left}
+use Rattle.determinize_linear.specs.Private.Turns.{place_of}
 use Rattle.determinize_linear.proofs.search.Ends.{AreCounted, counted_more, counted_push}
 
 -- a cursor behind these matches, and what they cost
-pub record HasCollected (nfa : Nfa) (asked : Asked) (text : Text) (Ready : ℕ → Type 0) (first now : ℕ → ℕ)
+pub record HasCollected (Finds : Nfa → Type 0) (asked : Asked) (text : Text) (Ready : ℕ → Type 0) (first now : ℕ → ℕ)
     (each : ℕ) (Counts : Type 0) (before total : ℕ) (c : CursorValue) (ms : List Match) : Type 0 where
-  pub after : IsAfter nfa asked None (place_of c) ms
-  pub is : IsCursor nfa c
+  pub after : (nfa : Nfa) → Finds nfa → IsAfter nfa asked None (place_of c) ms
+  pub inside : IsInside c
+  pub is : (nfa : Nfa) → Finds nfa → IsCursor nfa c
   pub same_asked : c.asked ≡ asked
   pub same_text : c.text ≡ text
   pub ready : (k : ℕ) → c.at ≤ k → Ready k
@@ -29,13 +30,15 @@ pub record HasCollected (nfa : Nfa) (asked : Asked) (text : Text) (Ready : ℕ �
   pub ended : Counts → AreCounted asked.start before total ms
 
 -- before the first match
-pub collected_none : (nfa : Nfa) (asked : Asked) (text : Text) (Ready : ℕ → Type 0) (first : ℕ → ℕ) (each : ℕ)
-    (Counts : Type 0) (before : ℕ) (c : CursorValue) → IsCursor nfa c → c.asked ≡ asked → c.before ≡ None → c.at ≡ 0
+pub collected_none : (Finds : Nfa → Type 0) (asked : Asked) (text : Text) (Ready : ℕ → Type 0) (first : ℕ → ℕ)
+    (each : ℕ) (Counts : Type 0) (before : ℕ) (c : CursorValue) → IsInside c
+    → ((nfa : Nfa) → Finds nfa → IsCursor nfa c) → c.asked ≡ asked → c.before ≡ None → c.at ≡ 0
     → c.text ≡ text → ((k : ℕ) → Ready k)
-    → HasCollected nfa asked text Ready first first each Counts before before c []
-collected_none nfa asked text Ready first each Counts before c is a b z t ready =
-    let count : length c.text.bytes ≡ asked.end - asked.start = rw (← a) is.count in record {
-      after = rw place record { rest = refl; last = λ end e. absurd (none-some end e); first = λ rest h. h };
+    → HasCollected Finds asked text Ready first first each Counts before before c []
+collected_none Finds asked text Ready first each Counts before c inside is a b z t ready =
+    let count : length c.text.bytes ≡ asked.end - asked.start = rw (← a) inside.count in record {
+      after = λ nfa f. rw place record { rest = refl; last = λ end e. absurd (none-some end e); first = λ rest h. h };
+      inside = inside;
       is = is;
       same_asked = a;
       same_text = t;
@@ -57,28 +60,25 @@ collected_none nfa asked text Ready first each Counts before c is a b z t ready 
         let all : asked.end - asked.start + 1 - 0 ≡ asked.end - asked.start + 1 = omega arith in
         rw (z, count, all) (omega arith)
 
-module _ (nfa : Nfa) (asked : Asked) (text : Text) (Ready : ℕ → Type 0) (first left_now : ℕ → ℕ) (each : ℕ)
+module _ (Finds : Nfa → Type 0) (asked : Asked) (text : Text) (Ready : ℕ → Type 0) (first left_now : ℕ → ℕ) (each : ℕ)
     (Counts : Type 0) (before total : ℕ) (c : CursorValue) (ms : List Match)
-    (h : HasCollected nfa asked text Ready first left_now each Counts before total c ms) where
+    (h : HasCollected Finds asked text Ready first left_now each Counts before total c ms) where
   -- one more
-  module _ (new : CursorValue) (m : Match) (moved : HasMoved nfa c (Some m) new) where
-    one : IsOneMore nfa asked None (place_of c) (place_of new) ms m
-    one = after_one nfa asked (place_of c) (place_of new) ms m (rw (← h.same_asked) h.is.haystack) h.after moved.next
-        moved.after
-
-    pub collected_less : left asked.end (place_of new).asked.start new.before
-        < left asked.end (place_of c).asked.start c.before
-    collected_less = one.1
+  module _ (new : CursorValue) (m : Match) (moved : HasMoved Finds c (Some m) new) where
+    one : (nfa : Nfa) → Finds nfa → IsOneMore nfa asked None (place_of c) (place_of new) ms m
+    one nfa f = after_one nfa asked (place_of c) (place_of new) ms m (rw (← h.same_asked) h.inside.haystack)
+        (h.after nfa f) (moved.next nfa f) moved.after
 
     pub collected_more : (Next : ℕ → Type 0) (left_new : ℕ → ℕ) (sum : ℕ) → ((k : ℕ) → new.at ≤ k → Next k)
         → (Counts → sum + most_left left_new each new ≤ total + most_left left_now each c)
         → (Counts → total ≤ sum)
         → (Counts → (total + (m.end + 1 - index_of c) ≤ sum) × (index_of new ≤ m.end + 1))
-        → HasCollected nfa asked text Next first left_new each Counts before sum new (ms ++ m ∷ [])
+        → HasCollected Finds asked text Next first left_new each Counts before sum new (ms ++ m ∷ [])
     collected_more Next left_new sum ready pays more counts =
         let start : c.asked.start ≡ asked.start = ap (λ (a : Asked). a.start) h.same_asked in
         let same : new.asked.start ≡ c.asked.start = ap (λ (a : Asked). a.start) moved.asked in record {
-          after = one.0;
+          after = λ nfa f. (one nfa f).0;
+          inside = moved.inside;
           is = moved.is;
           same_asked = moved.asked ∙ h.same_asked;
           same_text = moved.text ∙ h.same_text;
@@ -91,6 +91,6 @@ module _ (nfa : Nfa) (asked : Asked) (text : Text) (Ready : ℕ → Type 0) (fir
         }
 
   -- and no more
-  module _ (new : CursorValue) (moved : HasMoved nfa c None new) where
-    pub collected_all : AreMatches nfa asked None ms
-    collected_all = after_all nfa asked (place_of c) ms h.after moved.next
+  module _ (new : CursorValue) (moved : HasMoved Finds c None new) where
+    pub collected_all : (nfa : Nfa) → Finds nfa → AreMatches nfa asked None ms
+    collected_all nfa f = after_all nfa asked (place_of c) ms (h.after nfa f) (moved.next nfa f)

@@ -1,5 +1,5 @@
 -- All matches by searches from one index after another.
--- Main statements: best_found, best_order, next_longer, next_empty, next_none, next_past, turned_none,
+-- Main statements: best_found, best_order, best_end, next_longer, next_empty, next_none, next_past, turned_none,
 -- turned_longer, turned_empty, turned_touching, turn_pays.
 -- Used by: Passing.
 -- Idea: the search from where an empty match ends finds it again, so the next match is the leftmost one from one byte
@@ -24,7 +24,7 @@ use Rattle.determinize_find.proofs.leftmost.SearchInTurn.{latest_is, more_nothin
 use Rattle.determinize_find.proofs.matches.NextMatch.{next_plain}
 use Rattle.determinize_nfa.proofs.runs.Shifts.{each_run_reads_forward}
 use Rattle.ordered_reach.proofs.Cases.{by_cases, by_test, some_injective}
-use Rattle.determinize_linear.specs.Private.Paid.{in_haystack}
+use Rattle.determinize_linear.specs.Private.Paid.{end_of, in_haystack}
 use Rattle.determinize_linear.specs.Private.Turns.{IsTurned, ends_at, rest_of}
 use Rattle.determinize_linear.proofs.search.Matches.{best_rest}
 
@@ -49,6 +49,11 @@ pub best_order : (nfa : Nfa) (text : Text) (at : ℕ) (m : HalfMatch) → IsBest
     → at ≤ m.offset
 best_order nfa text at m best =
     each_run_reads_forward nfa text at nfa.start_anchored best.1.0 m.offset m.pattern best.1.1.accepts
+
+pub best_end : (nfa : Nfa) (text : Text) (at : ℕ) (o : Option HalfMatch)
+    → IsBestAt nfa text at (option_map (from_index at) o) → at ≤ end_of at o
+best_end nfa text at None best = omega arith
+best_end nfa text at (Some m) best = best_order nfa text at m best
 
 -- what the test of the last end says
 last_is : (before : Option ℕ) (at : ℕ) → ends_at before at ≡ true → before ≡ Some at

@@ -1,6 +1,7 @@
 -- A cursor over matches, and a search from its position.
--- Main statements: IsSought, next_further, sought_moved, sought_paid, sought_more, sought_none, sought_past.
--- Used by: `Cursor::advance`.
+-- Main statements: IsSought, next_further, rest_same, inside_later, sought_further, sought_moved, sought_paid,
+-- sought_more, sought_none, sought_past.
+-- Used by: `Cursor::advance` and `Searcher::advance_with`.
 -- Idea: what a search found is the next match or is skipped, and either way the next search begins further on.
 use Rattle.std.specs.Prelude.{nat_lt, option_map}
 use Rattle.std.proofs.Common.{◌≡◌, ◌<◌, ◌≤◌, ◌+◌, ◌-◌, ◌∙◌, ℕ, Bool, None, Option, Some}
@@ -17,7 +18,8 @@ use Rattle.determinize_find.specs.Matches.{IsNext}
 use Rattle.determinize_find.specs.Private.BestAt.{IsBestAt, IsBestIn, from_index}
 use Rattle.ordered_reach.proofs.Cases.{by_test}
 use Rattle.determinize_linear.specs.Private.Paid.{IsPaid, end_of, in_haystack}
-use Rattle.determinize_linear.specs.Private.Turns.{CursorValue, HasMoved, IsCursor, IsTurned, ends_at, index_of}
+use Rattle.determinize_linear.specs.Private.Turns.{CursorValue, HasMoved, IsCursor, IsInside, IsTurned, ends_at}
+use Rattle.determinize_linear.specs.Private.Turns.{index_of}
 use Rattle.determinize_linear.specs.Private.Turns.{most_left, next_at, passed, place_of, rest_of, taken}
 use Rattle.determinize_linear.proofs.search.InTurn.{best_found, best_order, next_empty, next_longer, next_none}
 use Rattle.determinize_linear.proofs.search.InTurn.{next_past, turn_pays, turned_empty, turned_longer, turned_none}
@@ -28,36 +30,45 @@ abbrev pub IsPassed : Nfa → CursorValue → Option HalfMatch → Type 0
 IsPassed nfa c found = IsCursor nfa (passed c found)
     × ((m : Match) → taken c found ≡ Some m → IsNext nfa (rest_of c.asked c.before) c.before (Some m))
 
-module _ (nfa : Nfa) (c : CursorValue) (is : IsCursor nfa c) (l : c.at ≤ length c.text.bytes) where
+-- the rest of an input has its mode and its end
+pub rest_same : (asked : Asked) (before : Option ℕ)
+    → ((rest_of asked before).anchored ≡ asked.anchored) × ((rest_of asked before).end ≡ asked.end)
+rest_same asked None = (refl, refl)
+rest_same asked (Some end) = (refl, refl)
+
+-- the range stays, wherever the next search begins
+pub inside_later : (c d : CursorValue) → IsInside c → c.at ≤ length c.text.bytes → d.asked ≡ c.asked → d.text ≡ c.text
+    → IsInside d
+inside_later c d is l a t = record {
+  haystack = rw a is.haystack;
+  limit = rw a is.limit;
+  count = rw (a, t) is.count;
+  order = λ k. rw a (is.order l);
+  text = rw (a, t) is.text;
+}
+
+module _ (nfa : Nfa) (c : CursorValue) (inside : IsInside c) (is : IsCursor nfa c)
+    (l : c.at ≤ length c.text.bytes) where
   -- a later position
   cursor_at : (before : Option ℕ) (at : ℕ) → IsTurned nfa c.asked before (c.asked.start + at)
       → IsCursor nfa (record c { before = before; at = at })
   cursor_at before at turned = record {
-    haystack = is.haystack;
-    limit = is.limit;
-    count = is.count;
-    order = λ k. is.order l;
-    text = is.text;
     anchored = is.anchored;
     turned = λ k. turned;
-    done = λ k. next_past nfa c.asked before (c.asked.start + at) turned (omega (arith, k, is.count, is.order l));
+    done = λ k. next_past nfa c.asked before (c.asked.start + at) turned
+        (omega (arith, k, inside.count, inside.order l));
   }
 
   cursor_done : IsNext nfa (rest_of c.asked c.before) c.before None
       → IsCursor nfa (record c { at = length c.text.bytes + 1 })
   cursor_done next = record {
-    haystack = is.haystack;
-    limit = is.limit;
-    count = is.count;
-    order = λ k. is.order l;
-    text = is.text;
     anchored = is.anchored;
     turned = λ k. absurd (omega (arith, k));
     done = λ k. next;
   }
 
   high : index_of c ≤ c.asked.end
-  high = omega (arith, l, is.count, is.order l)
+  high = omega (arith, l, inside.count, inside.order l)
 
   further_on : c.asked.start + (c.at + 1) ≡ index_of c + 1
   further_on = omega arith
@@ -66,7 +77,7 @@ module _ (nfa : Nfa) (c : CursorValue) (is : IsCursor nfa c) (l : c.at ≤ lengt
       → IsPassed nfa c found
   has_passed None best =
       let turned = is.turned l in
-      let here = best_found nfa c.asked c.text c.at None (is.text (is.order l)) best in (
+      let here = best_found nfa c.asked c.text c.at None (inside.text (inside.order l)) best in (
         by_test c.is_anchored
             (λ t. subst (λ (b : Bool). IsCursor nfa (record c { at = cond b (length c.text.bytes + 1) (c.at + 1) }))
             (sym t)
@@ -107,7 +118,7 @@ module _ (nfa : Nfa) (c : CursorValue) (is : IsCursor nfa c) (l : c.at ≤ lengt
       m = in_haystack c.asked.start c.at h
 
       here : IsBestIn nfa c.asked (index_of c) (Some m)
-      here = best_found nfa c.asked c.text c.at (Some h) (is.text (is.order l)) best
+      here = best_found nfa c.asked c.text c.at (Some h) (inside.text (inside.order l)) best
 
 -- a match that is skipped moves the position only
 pub passed_none : (old c : CursorValue) (found : Option HalfMatch) → c ≡ record old { at = c.at } → taken c found ≡ None
@@ -117,19 +128,20 @@ passed_none old c found same e =
     p ∙ ap (λ (d : CursorValue). record d { at = next_at c found }) same
 
 -- a match that is taken is the next one
-pub moved_some : (nfa : Nfa) (old c : CursorValue) (found : Option HalfMatch) (m : Match) → c ≡ record old { at = c.at }
-    → taken c found ≡ Some m → IsPassed nfa c found → HasMoved nfa old (Some m) (passed c found)
-moved_some nfa old c found m same e p = record {
-  next = next;
+pub moved_some : (Finds : Nfa → Type 0) (old c : CursorValue) (found : Option HalfMatch) (m : Match)
+    → c ≡ record old { at = c.at } → taken c found ≡ Some m → IsInside (passed c found)
+    → ((nfa : Nfa) → Finds nfa → IsPassed nfa c found) → HasMoved Finds old (Some m) (passed c found)
+moved_some Finds old c found m same e inside p = record {
+  next = λ nfa f. subst (λ (d : CursorValue). IsNext nfa (rest_of d.asked d.before) d.before (Some m)) same
+      ((p nfa f).1 m e);
   after = after;
-  is = p.0;
+  inside = inside;
+  is = λ nfa f. (p nfa f).0;
   asked = ap (λ (d : CursorValue). d.asked) same;
   text = ap (λ (d : CursorValue). d.text) same;
+  anchored = ap (λ (d : CursorValue). d.is_anchored) same;
 }
   where
-    next : IsNext nfa (rest_of old.asked old.before) old.before (Some m)
-    next = subst (λ (d : CursorValue). IsNext nfa (rest_of d.asked d.before) d.before (Some m)) same (p.1 m e)
-
     again : (before : Option ℕ) (asked : Asked)
         → rest_of (rest_of asked before) (Some m.end) ≡ rest_of asked (Some m.end)
     again None asked = refl
@@ -142,14 +154,17 @@ moved_some nfa old c found m same e p = record {
     after = rw e (ap (λ (d : CursorValue). behind (rest_of d.asked (Some m.end))) same
         ∙ ap behind (sym (again old.before old.asked)))
 
-pub moved_none : (nfa : Nfa) (old c : CursorValue) → c ≡ record old { at = c.at } → IsCursor nfa c
-    → length c.text.bytes < c.at → HasMoved nfa old None c
-moved_none nfa old c same is past = record {
-  next = subst (λ (d : CursorValue). IsNext nfa (rest_of d.asked d.before) d.before None) same (is.done past);
+pub moved_none : (Finds : Nfa → Type 0) (old c : CursorValue) → c ≡ record old { at = c.at } → IsInside c
+    → ((nfa : Nfa) → Finds nfa → IsCursor nfa c) → length c.text.bytes < c.at → HasMoved Finds old None c
+moved_none Finds old c same inside is past = record {
+  next = λ nfa f. subst (λ (d : CursorValue). IsNext nfa (rest_of d.asked d.before) d.before None) same
+      ((is nfa f).done past);
   after = ap place_of same;
+  inside = inside;
   is = is;
   asked = ap (λ (d : CursorValue). d.asked) same;
   text = ap (λ (d : CursorValue). d.text) same;
+  anchored = ap (λ (d : CursorValue). d.is_anchored) same;
 }
 
 -- where the next search begins
@@ -206,9 +221,11 @@ module _ (c : CursorValue) (l : c.at ≤ length c.text.bytes) where
 
 -- a cursor whose searches since it was `old` found no match that is taken: what they cost, and that they count a try
 -- for each position
-pub record IsSought (nfa : Nfa) (text : Text) (Ready : ℕ → Type 0) (first left : ℕ → ℕ) (most extra : ℕ)
+pub record IsSought (Finds : Nfa → Type 0) (text : Text) (Ready : ℕ → Type 0) (first left : ℕ → ℕ) (most extra : ℕ)
     (Counts : Type 0) (before total : ℕ) (old c : CursorValue) : Type 0 where
-  pub is : IsCursor nfa c
+  pub inside : IsInside c
+  pub is : (nfa : Nfa) → Finds nfa → IsCursor nfa c
+  pub later : old.at ≤ c.at
   pub same_text : text ≡ c.text
   pub same : c ≡ record old { at = c.at }
   pub ready : (k : ℕ) → c.at ≤ k → Ready k
@@ -217,30 +234,34 @@ pub record IsSought (nfa : Nfa) (text : Text) (Ready : ℕ → Type 0) (first le
   pub more : Counts → before ≤ total
 
 -- one more search from its position
-module _ (nfa : Nfa) (text : Text) (Ready : ℕ → Type 0) (first left : ℕ → ℕ) (most extra : ℕ) (Counts : Type 0)
-    (before total : ℕ) (old c : CursorValue)
-    (s : IsSought nfa text Ready first left most extra Counts before total old c)
+module _ (Finds : Nfa → Type 0) (text : Text) (Ready : ℕ → Type 0) (first left : ℕ → ℕ) (most extra : ℕ)
+    (Counts : Type 0) (before total : ℕ) (old c : CursorValue)
+    (s : IsSought Finds text Ready first left most extra Counts before total old c)
     (at : ℕ) (here : at ≡ c.at) (high : at ≤ length text.bytes) (found : Option HalfMatch)
-    (best : IsBestAt nfa text at (option_map (from_index at) found)) where
+    (order : at ≤ end_of at found)
+    (best : (nfa : Nfa) → Finds nfa → IsBestAt nfa text at (option_map (from_index at) found)) where
   within : c.at ≤ length c.text.bytes
   within = rw (← s.same_text, ← here) high
 
-  is_best : IsBestAt nfa c.text c.at (option_map (from_index c.at) found)
-  is_best = rw (s.same_text, here) at best
-
   low : IfSome found (λ m. c.at ≤ m.offset)
-  low = go found is_best
+  low = go found (rw here at order)
     where
-      go : (o : Option HalfMatch) → IsBestAt nfa c.text c.at (option_map (from_index c.at) o)
-          → IfSome o (λ m. c.at ≤ m.offset)
-      go None best = tt
-      go (Some m) best = best_order nfa c.text c.at m best
+      go : (o : Option HalfMatch) → c.at ≤ end_of c.at o → IfSome o (λ m. c.at ≤ m.offset)
+      go None l = tt
+      go (Some m) l = l
 
-  is_passed : IsPassed nfa c found
-  is_passed = has_passed nfa c s.is within found is_best
+  is_passed : (nfa : Nfa) → Finds nfa → IsPassed nfa c found
+  is_passed nfa f = has_passed nfa c s.inside (s.is nfa f) within found (rw (s.same_text, here) at (best nfa f))
 
-  pub sought_moved : (m : Match) → taken c found ≡ Some m → HasMoved nfa old (Some m) (passed c found)
-  sought_moved m e = moved_some nfa old c found m s.same e is_passed
+  is_inside : IsInside (passed c found)
+  is_inside = inside_later c (passed c found) s.inside within refl refl
+
+  -- the next search begins further on than the first one
+  pub sought_further : (old.at < (passed c found).at) × (old.at ≤ length text.bytes)
+  sought_further = (omega (arith, s.later, next_further c within found), omega (arith, s.later, here, high))
+
+  pub sought_moved : (m : Match) → taken c found ≡ Some m → HasMoved Finds old (Some m) (passed c found)
+  sought_moved m e = moved_some Finds old c found m s.same e is_inside is_passed
 
   sought_ready : (Next : ℕ → Type 0) → ((k : ℕ) → end_of at found ≤ k → Next k)
       → (k : ℕ) → next_at c found ≤ k → Next k
@@ -268,9 +289,11 @@ module _ (nfa : Nfa) (text : Text) (Ready : ℕ → Type 0) (first left : ℕ �
     )
 
     pub sought_more : (Next : ℕ → Type 0) → ((k : ℕ) → end_of at found ≤ k → Next k) → taken c found ≡ None
-        → IsSought nfa text Next first new most extra Counts before sum old (passed c found)
+        → IsSought Finds text Next first new most extra Counts before sum old (passed c found)
     sought_more Next ready e = record {
-      is = is_passed.0;
+      inside = is_inside;
+      is = λ nfa f. (is_passed nfa f).0;
+      later = omega (arith, sought_further.0);
       same_text = s.same_text;
       same = passed_none old c found s.same e;
       ready = sought_ready Next ready;
@@ -284,12 +307,12 @@ module _ (nfa : Nfa) (text : Text) (Ready : ℕ → Type 0) (first left : ℕ �
     }
 
 -- where no search is left
-module _ (nfa : Nfa) (text : Text) (Ready : ℕ → Type 0) (first left : ℕ → ℕ) (most extra : ℕ) (Counts : Type 0)
-    (before total : ℕ) (old c : CursorValue)
-    (s : IsSought nfa text Ready first left most extra Counts before total old c)
+module _ (Finds : Nfa → Type 0) (text : Text) (Ready : ℕ → Type 0) (first left : ℕ → ℕ) (most extra : ℕ)
+    (Counts : Type 0) (before total : ℕ) (old c : CursorValue)
+    (s : IsSought Finds text Ready first left most extra Counts before total old c)
     (past : length text.bytes < c.at) where
-  pub sought_none : HasMoved nfa old None c
-  sought_none = moved_none nfa old c s.same s.is (rw (← s.same_text) past)
+  pub sought_none : HasMoved Finds old None c
+  sought_none = moved_none Finds old c s.same s.inside s.is (rw (← s.same_text) past)
 
   pub sought_past : Counts → old.is_anchored ≡ false → before + (length old.text.bytes + 1 - old.at) ≤ total
   sought_past k free =

@@ -15,7 +15,9 @@ use Rattle.determinize_core.specs.LastMatch.{IsFarthestMatch, last_match, lists_
 use Rattle.determinize_core.specs.Walk.{last_listed}
 use Rattle.determinize_core.proofs.walk.Farthest.{each_last_is_farthest}
 use Rattle.determinize_dense.specs.Dfa.{IsDfaOf}
-use Rattle.determinize_dense.specs.Table.{DfaValue, Table, start_row}
+use Rattle.determinize_dense.specs.Automaton.{IsStoredOf, first_row}
+use Rattle.determinize_dense.specs.Bytes.{Stored}
+use Rattle.determinize_dense.specs.Table.{Table, start_row}
 use Rattle.determinize_nfa.specs.Runs.{since}
 use Rattle.determinize_state.specs.Value.{Value}
 use Rattle.determinize_linear.specs.Private.Following.{following}
@@ -49,10 +51,10 @@ longest_of_walk nfa text k d accepted means l behind all =
     ∙ back k (last_listed 0 (rest_lists nfa d text k l)))) farthest
 
 -- what it is under each match kind
-pub found_of_walk : (dfa : DfaValue) (text : Text) (k : ℕ) → IsAccepted dfa.nfa → IsDfaOf dfa.nfa dfa.kind dfa.table
+pub found_of_walk : (nfa : Nfa) (dfa : Stored) (text : Text) (k : ℕ) → IsAccepted nfa × IsStoredOf nfa dfa
     → k ≤ length text.bytes → IsUnit (before_at text k) → Each IsUnit (units text)
-    → IsFoundAt dfa text k (following dfa.table text k (start_row dfa.nfa dfa.table true (before_at text k)))
-found_of_walk dfa text k accepted means l behind all = record {
-  preferred = λ e. best_of_walk dfa.nfa text k dfa.table accepted (rw e at means) l behind all;
-  longest = λ e. longest_of_walk dfa.nfa text k dfa.table accepted (rw e at means) l behind all;
+    → IsFoundAt nfa dfa.kind text k (following dfa.table text k (first_row dfa true (before_at text k)))
+found_of_walk nfa dfa text k of l behind all = rw of.1.terminator record {
+  preferred = λ e. best_of_walk nfa text k dfa.table of.0 (rw e at of.1.means) l behind all;
+  longest = λ e. longest_of_walk nfa text k dfa.table of.0 (rw e at of.1.means) l behind all;
 }

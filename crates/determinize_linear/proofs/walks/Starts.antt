@@ -7,25 +7,26 @@ use Rattle.std.proofs.lemmas.Bool.{eqb-true}
 use Rattle.std.proofs.lemmas.Option.{slice_get-map}
 use Rattle.std.specs.Prelude.{All, nat_eq}
 use Rattle.ordered_reach.proofs.Cases.{by_test}
-use Rattle.determinize_below.specs.Semantics.{Nfa, Text, before_at, is_word_byte}
+use Rattle.determinize_below.specs.Semantics.{Text, before_at, is_word_byte}
 use Rattle.determinize_below.specs.Truth.{IsUnit}
 use Rattle.determinize_core.specs.Chain.{units}
-use Rattle.determinize_dense.specs.Table.{Table, start_row}
+use Rattle.determinize_dense.specs.Automaton.{first_row}
+use Rattle.determinize_dense.specs.Bytes.{Stored}
 use Rattle.determinize_engine.proofs.Texts.{unit-here}
 use Rattle.determinize_start.specs.StartKinds.{start_kind}
 use Rattle.determinize_start.specs.declared.start.Start.TheVariants.{NonWordByte, WordByte}
 use Rattle.determinize_linear.proofs.walks.Walked.{unit_at}
 
 -- one row behind nothing and behind a byte of each kind is the one behind every byte
-pub rows_alike : (nfa : Nfa) (d : Table) (first word other : ℕ) → start_kind nfa.terminator word ≡ WordByte
-    → start_kind nfa.terminator other ≡ NonWordByte → start_row nfa d true None ≡ first
-    → start_row nfa d true (Some nfa.terminator) ≡ first → start_row nfa d true (Some 10) ≡ first
-    → start_row nfa d true (Some 13) ≡ first → start_row nfa d true (Some word) ≡ first
-    → start_row nfa d true (Some other) ≡ first → (p : Option ℕ) → start_row nfa d true p ≡ first
-rows_alike nfa d first word other is_word is_other none ends line back words others None = none
-rows_alike nfa d first word other is_word is_other none ends line back words others (Some b) =
-    by_test (nat_eq b nfa.terminator)
-    (λ z. rw (eqb-true b nfa.terminator z) ends)
+pub rows_alike : (dfa : Stored) (first word other : ℕ) → start_kind dfa.terminator word ≡ WordByte
+    → start_kind dfa.terminator other ≡ NonWordByte → first_row dfa true None ≡ first
+    → first_row dfa true (Some dfa.terminator) ≡ first → first_row dfa true (Some 10) ≡ first
+    → first_row dfa true (Some 13) ≡ first → first_row dfa true (Some word) ≡ first
+    → first_row dfa true (Some other) ≡ first → (p : Option ℕ) → first_row dfa true p ≡ first
+rows_alike dfa first word other is_word is_other none ends line back words others None = none
+rows_alike dfa first word other is_word is_other none ends line back words others (Some b) =
+    by_test (nat_eq b dfa.terminator)
+    (λ z. rw (eqb-true b dfa.terminator z) ends)
     (λ apart. by_test (nat_eq b 10)
     (λ z. rw (eqb-true b 10 z) line)
     (λ no_line. by_test (nat_eq b 13)

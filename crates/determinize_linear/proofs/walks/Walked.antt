@@ -14,7 +14,8 @@ use Rattle.determinize_below.specs.Truth.{IsUnit}
 use Rattle.determinize_below.specs.declared.search.HalfMatch.{HalfMatch}
 use Rattle.determinize_core.specs.Chain.{units}
 use Rattle.determinize_core.specs.LastMatch.{ended_at}
-use Rattle.determinize_dense.specs.Table.{DfaValue, Table, patterns_at, row_over}
+use Rattle.determinize_dense.specs.Bytes.{Stored}
+use Rattle.determinize_dense.specs.Table.{Table, patterns_at, row_over}
 use Rattle.determinize_engine.proofs.Texts.{all_read}
 use Rattle.determinize_state.specs.Value.{is_nonempty}
 use Rattle.determinize_linear.specs.Private.Following.{IsWalkable, following, steps_left, unmarked}
@@ -38,7 +39,7 @@ lists_none : (ps : List ℕ) → false ≡ is_nonempty ps → ps ≡ []
 lists_none ps e = grind arith
 
 module _ (text : Text) (first : WalkValue) (old : RowMarks)
-    (can : IsWalkable first.dfa old first.dfa.nfa text first.at) (before : ℕ) where
+    (can : IsWalkable first.dfa old text first.at) (before : ℕ) where
   abbrev Walked : RowMarks → WalkValue → ℕ → ℕ → Type 0
   Walked m now more total = IsWalked text first old m now more before total
 
@@ -190,7 +191,6 @@ module _ (text : Text) (first : WalkValue) (old : RowMarks)
         order = is.followed.order;
         within = is.within;
         walkable = λ k l. record {
-          same = refl;
           rows = can.rows;
           bits = bits;
           none = λ p r i n b e. followed_end first.dfa.table text m first.at now.at now.row now.found _
@@ -207,7 +207,7 @@ ends_before from at None a b c = omega arith
 ends_before from at (Some f) a b c = omega (arith, b, c)
 
 -- what a walk cost
-module _ (dfa : DfaValue) (text : Text) (from : ℕ) (old m : RowMarks) (found : Option HalfMatch)
+module _ (dfa : Stored) (text : Text) (from : ℕ) (old m : RowMarks) (found : Option HalfMatch)
     (before total : ℕ) (is : HasWalked dfa text from old m found before total) where
   pub cost_some : IfSome found (λ f. IsPaid (steps_left dfa.table text m) 0 (steps_left dfa.table text old from) from
       f.offset 3 before total)

@@ -1,13 +1,14 @@
 -- What the rows of a DFA list after a position of a text, and marks of pairs after which it is
 -- nothing.
 use Rattle.std.specs.Prelude.{◌≡◌, ◌+◌, ◌-◌, ◌<◌, ◌≤◌, ℕ, None, Option, drop, length, true}
-use Rattle.determinize_below.specs.Semantics.{Nfa, Text}
+use Rattle.determinize_below.specs.Semantics.{Text}
 use Rattle.determinize_below.specs.declared.search.HalfMatch.{HalfMatch}
 use Rattle.determinize_core.specs.Chain.{units}
 use Rattle.determinize_core.specs.Walk.{last_listed}
-use Rattle.determinize_dense.specs.Least.{HasRows}
+use Rattle.determinize_dense.specs.Automaton.{HasRowsIn}
+use Rattle.determinize_dense.specs.Bytes.{Stored}
 use Rattle.determinize_dense.specs.Reading.{lists_along}
-use Rattle.determinize_dense.specs.Table.{DfaValue, Table}
+use Rattle.determinize_dense.specs.Table.{Table}
 use Rattle.determinize_linear.specs.Private.RowMarks.{HasBits, RowMarks, count_unset, is_set}
 
 -- the last match that is listed after a position, where a walk is in a row
@@ -20,12 +21,10 @@ NoneFollows d text k m = (at row : ℕ) → k ≤ at → at ≤ length text.byte
     → is_set d m at row ≡ true → following d text at row ≡ None
 
 -- walks by this DFA, with these marks, may go on from a position of a text
-pub record IsWalkable (dfa : DfaValue) (m : RowMarks) (nfa : Nfa) (text : Text) (k : ℕ) : Type 0
-  where
-    pub same : dfa.nfa ≡ nfa
-    pub rows : HasRows dfa.nfa dfa.table
-    pub bits : HasBits dfa.table (length text.bytes + 1) m
-    pub none : NoneFollows dfa.table text k m
+pub record IsWalkable (dfa : Stored) (m : RowMarks) (text : Text) (k : ℕ) : Type 0 where
+  pub rows : HasRowsIn dfa
+  pub bits : HasBits dfa.table (length text.bytes + 1) m
+  pub none : NoneFollows dfa.table text k m
 
 -- the pairs of a position of a text and a row that are not marked
 abbrev pub unmarked : Table → Text → RowMarks → ℕ

@@ -2,9 +2,9 @@
 use Rattle.std.specs.Prelude.{◌≡◌, ◌-◌, ℕ, Option, option_map}
 use Rattle.determinize_below.specs.Semantics.{Nfa, Text}
 use Rattle.determinize_below.specs.declared.search.HalfMatch.{HalfMatch}
+use Rattle.determinize_below.specs.declared.search.MatchKind.{MatchKind}
 use Rattle.determinize_below.specs.declared.search.MatchKind.TheVariants.{All, LeftmostFirst}
 use Rattle.determinize_core.specs.LastMatch.{IsFarthestMatch}
-use Rattle.determinize_dense.specs.Table.{DfaValue}
 use Rattle.determinize_find.specs.Private.BestAt.{IsBestAt, from_index}
 use Rattle.determinize_nfa.specs.Runs.{since}
 
@@ -19,8 +19,7 @@ IsLongestAt nfa text k found =
     IsFarthestMatch nfa nfa.start_anchored (since text k) (option_map (earlier k) found)
 
 -- the match that begins at a position: the most preferred one, or the longest one
-pub record IsFoundAt (dfa : DfaValue) (text : Text) (k : ℕ) (found : Option HalfMatch) : Type 0
-  where
-    pub preferred : dfa.kind ≡ LeftmostFirst
-        → IsBestAt dfa.nfa text k (option_map (from_index k) found)
-    pub longest : dfa.kind ≡ All → IsLongestAt dfa.nfa text k found
+pub record IsFoundAt (nfa : Nfa) (kind : MatchKind) (text : Text) (k : ℕ)
+    (found : Option HalfMatch) : Type 0 where
+  pub preferred : kind ≡ LeftmostFirst → IsBestAt nfa text k (option_map (from_index k) found)
+  pub longest : kind ≡ All → IsLongestAt nfa text k found

@@ -75,26 +75,31 @@ pub record IsTurned (nfa : Nfa) (asked : Asked) (before : Option ℕ) (at : ℕ)
   pub untouched : (end : ℕ) → last ≡ Some end → before ≡ Some end
   pub passed : (end : ℕ) → before ≡ Some end → end ≤ at
 
--- a cursor over the matches of an input
-pub record IsCursor (nfa : Nfa) (c : CursorValue) : Type 0 where
+-- the range of a cursor is in its haystack, and its text is that of the range
+pub record IsInside (c : CursorValue) : Type 0 where
   pub haystack : c.asked.end ≤ length c.asked.haystack
   pub limit : c.asked.end < 2 ^ 64
   pub count : length c.text.bytes ≡ c.asked.end - c.asked.start
   pub order : c.at ≤ length c.text.bytes → c.asked.start ≤ c.asked.end
   pub text : c.asked.start ≤ c.asked.end → c.text ≡ text_of false c.asked
+
+-- a cursor over the matches of an NFA in an input
+pub record IsCursor (nfa : Nfa) (c : CursorValue) : Type 0 where
   pub anchored : c.is_anchored ≡ is_anchored nfa c.asked.anchored
   pub turned : c.at ≤ length c.text.bytes → IsTurned nfa c.asked c.before (index_of c)
   pub done : length c.text.bytes < c.at
       → IsNext nfa (rest_of c.asked c.before) c.before None
 
--- the cursor moved behind the next match, if there is one
-pub record HasMoved (nfa : Nfa) (old : CursorValue) (found : Option Match) (new : CursorValue)
-    : Type 0 where
-  pub next : IsNext nfa (rest_of old.asked old.before) old.before found
+-- the cursor moved behind the next match of some NFAs, if there is one
+pub record HasMoved (Finds : Nfa → Type 0) (old : CursorValue) (found : Option Match)
+    (new : CursorValue) : Type 0 where
+  pub next : (nfa : Nfa) → Finds nfa → IsNext nfa (rest_of old.asked old.before) old.before found
   pub after : place_of new ≡ after_match (place_of old) found
-  pub is : IsCursor nfa new
+  pub inside : IsInside new
+  pub is : (nfa : Nfa) → Finds nfa → IsCursor nfa new
   pub asked : new.asked ≡ old.asked
   pub text : new.text ≡ old.text
+  pub anchored : new.is_anchored ≡ old.is_anchored
 
 -- the most tries from a cursor on: those that are left to searches from its position on, and `each`
 -- for each position from there to the end of the text

@@ -4,7 +4,8 @@ use Rattle.std.specs.Option.{IfSome, option_or}
 use Rattle.determinize_below.specs.Semantics.{Text}
 use Rattle.determinize_below.specs.declared.search.HalfMatch.{HalfMatch}
 use Rattle.determinize_core.specs.LastMatch.{ended_at}
-use Rattle.determinize_dense.specs.Table.{DfaValue, Table, patterns_at, row_over}
+use Rattle.determinize_dense.specs.Bytes.{Stored}
+use Rattle.determinize_dense.specs.Table.{Table, patterns_at, row_over}
 use Rattle.determinize_linear.specs.Private.Following.{IsWalkable, following, unmarked}
 use Rattle.determinize_linear.specs.Private.Paid.{end_of}
 use Rattle.determinize_linear.specs.Private.RowMarks.{RowMarks, is_set}
@@ -12,7 +13,7 @@ use Rattle.determinize_state.specs.Value.{is_nonempty}
 
 -- where a walk is: a row and a position, and the last match that its rows have listed
 pub record WalkValue : Type 0 where
-  pub dfa : DfaValue
+  pub dfa : Stored
   pub row : ℕ
   pub at : ℕ
   pub found : Option HalfMatch
@@ -61,10 +62,10 @@ pub record IsWalked (text : Text) (first : WalkValue) (old m : RowMarks) (now : 
 
 -- the walk from a position found this match, and left these marks; two of its steps found none and
 -- marked no pair
-pub record HasWalked (dfa : DfaValue) (text : Text) (from : ℕ) (old m : RowMarks)
+pub record HasWalked (dfa : Stored) (text : Text) (from : ℕ) (old m : RowMarks)
     (found : Option HalfMatch) (before total : ℕ) : Type 0 where
   pub order : from ≤ end_of from found
   pub within : IfSome found (λ f. f.offset ≤ length text.bytes)
-  pub walkable : (k : ℕ) → end_of from found ≤ k → IsWalkable dfa m dfa.nfa text k
+  pub walkable : (k : ℕ) → end_of from found ≤ k → IsWalkable dfa m text k
   pub cost : total + unmarked dfa.table text m
       ≤ before + unmarked dfa.table text old + matched from found + 2

@@ -8,9 +8,10 @@ use Rattle.determinize_linear.proofs.dense.find_all_with.Goals as goal
 
 pub find_all_by-requires-clause-ready : goal.find_all_by-requires-clause-ready
 find_all_by-requires-clause-ready g c = λ k. (
+  c.is_anchored.ensures.known,
   c.requires.kind,
-  rw c.of_input-text.ensures at c.begin_alike-begin_alike.ensures.alike,
-  rw c.nfa.ensures.value (rw c.of_input-text.ensures at (c.in_ok-marks.ensures.walkable k)),
+  rw c.of_input-text.ensures at c.begin_alike-begin_alike.ensures,
+  rw c.of_input-text.ensures at (c.in_ok-marks.ensures.walkable k),
 )
 
 pub returns-clause-linear : goal.returns-clause-linear
@@ -19,8 +20,8 @@ returns-clause-linear g c = λ k.
     = omega (arith, c.end.ensures.value, c.end.ensures.in_haystack) in
     let count : length c.of_input-text.result.bytes ≡ c.args.input.now.end - c.args.input.now.start
     = ap (λ (t : Text). length t.bytes) c.of_input-text.ensures ∙ length-range c.args.input.now within in
-    let most : unmarked c.args.dfa.now.table c.of_input-text.result c.in_ok-marks.marks
-    ≤ (c.args.input.now.end - c.args.input.now.start + 1) * length c.args.dfa.now.table.patterns
+    let most : unmarked (g.D.Automaton.stored c.args.dfa.now).table c.of_input-text.result c.in_ok-marks.marks
+    ≤ (c.args.input.now.end - c.args.input.now.start + 1) * length (g.D.Automaton.stored c.args.dfa.now).table.patterns
     = rw (← count) c.in_ok-marks.ensures.few in
     omega (
       arith,
@@ -28,11 +29,13 @@ returns-clause-linear g c = λ k.
       most,
       count,
       ap (λ (t : Text). length t.bytes) c.of_input-text.ensures,
-      ap (λ (t : Text). unmarked c.args.dfa.now.table t c.in_ok-marks.marks) c.of_input-text.ensures,
-      steps_enough (length c.args.dfa.now.table.patterns) (c.args.input.now.end - c.args.input.now.start),
+      ap (λ (t : Text). unmarked (g.D.Automaton.stored c.args.dfa.now).table t c.in_ok-marks.marks)
+          c.of_input-text.ensures,
+      steps_enough (length (g.D.Automaton.stored c.args.dfa.now).table.patterns)
+          (c.args.input.now.end - c.args.input.now.start),
     )
 
 pub returns-clause-counted : goal.returns-clause-counted
-returns-clause-counted g c = λ k free.
+returns-clause-counted g c = λ nfa f k free.
     IfOk-weaker c.find_all_by.result _ _ (λ found h. omega (arith, h, c.if-start-end.false))
-    (c.find_all_by.ensures.counted k (rw c.nfa.ensures.value free))
+    (c.find_all_by.ensures.counted k (c.is_anchored.ensures.value nfa f ∙ free))

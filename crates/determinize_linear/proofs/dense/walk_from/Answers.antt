@@ -1,4 +1,5 @@
-use Rattle.std.proofs.Common.{◌≡◌, ◌<◌, ◌∙◌, None, Option, Some, ap, arith, length, sym}
+use Rattle.std.proofs.Common.{◌≡◌, ◌<◌, ◌∙◌, None, Option, Some, ap, arith, length, sym, true}
+use Rattle.determinize_below.specs.Semantics.{Nfa, before_at}
 use Rattle.determinize_below.specs.declared.search.HalfMatch.{HalfMatch}
 use Rattle.determinize_engine.proofs.Texts.{unit-last}
 use Rattle.determinize_linear.specs.Private.Following.{IsWalkable, following}
@@ -10,19 +11,24 @@ use Rattle.determinize_linear.proofs.dense.walk_from.Given.{Over}
 use Rattle.determinize_linear.proofs.dense.walk_from.Goals.{After-len, After-step}
 use Rattle.determinize_linear.proofs.dense.walk_from.Goals as goal
 
-can : (g : Over) (c : After-len g) → IsWalkable c.new-walk.result.dfa c.args.marks.now c.new-walk.result.dfa.nfa
-    c.args.text.now c.new-walk.result.at
+can : (g : Over) (c : After-len g) → IsWalkable c.new-walk.result.dfa c.args.marks.now c.args.text.now
+    c.new-walk.result.at
 can g c = rw c.new-walk.ensures.value c.requires.walkable
+
+pub walk_bytes-requires-clause-below : goal.walk_bytes-requires-clause-below
+walk_bytes-requires-clause-below g c = rw c.new-walk.ensures.value
+    (c.requires.walkable.rows.starts true (before_at c.args.text.now c.args.from) c.new-walk.ensures.behind)
 
 -- the last match that is listed after the start of the walk is the one to find
 last_found : (g : Over) (c : After-len g) (found : Option HalfMatch)
     → found ≡ following c.new-walk.result.dfa.table c.args.text.now c.new-walk.result.at c.new-walk.result.row
-    → IsFoundAt c.args.dfa.now c.args.text.now c.args.from found
-last_found g c found is =
+    → (nfa : Nfa) → g.D.Automaton.is_of c.args.dfa.now nfa
+    → IsFoundAt nfa (g.D.Automaton.stored c.args.dfa.now).kind c.args.text.now c.args.from found
+last_found g c found is nfa of =
     let e = c.new-walk.ensures in
     rw (is, e.value)
-    (found_of_walk c.args.dfa.now c.args.text.now c.args.from e.accepted e.means c.requires.within e.behind
-    c.len.ensures.units)
+    (found_of_walk nfa (g.D.Automaton.stored c.args.dfa.now) c.args.text.now c.args.from (e.means nfa of)
+    c.requires.within e.behind c.len.ensures.units)
 
 pub returns-then-walk-len-clause-found : goal.returns-then-walk-len-clause-found
 returns-then-walk-len-clause-found g c =

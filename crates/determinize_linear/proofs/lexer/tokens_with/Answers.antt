@@ -14,16 +14,16 @@ use Rattle.determinize_linear.proofs.lexer.tokens_with.Goals.{in_default-via-in_
 use Rattle.determinize_linear.proofs.lexer.tokens_with.Goals as goal
 
 pub returns-then-base-end-clause-tokens : goal.returns-then-base-end-clause-tokens
-returns-then-base-end-clause-tokens g c =
+returns-then-base-end-clause-tokens g c = λ nfa of.
     let within : c.args.input.now.end ≤ length c.args.input.now.haystack
     = omega (arith, c.end.ensures.value, c.end.ensures.in_haystack) in
     let past : c.args.input.now.end ≤ c.args.input.now.start
     = omega (arith, c.end.ensures.value, c.start-base.ensures.value, c.if-base-end.true) in
-    rw c.new-found.ensures.items (no_token c.args.dfa.now.nfa c.args.input.now within past)
+    rw c.new-found.ensures.items (no_token nfa c.args.input.now within past)
 
 pub loop-at-init : goal.loop-at-init
 loop-at-init g c = record {
-  first = rw c.new-found.ensures.items (begins c.args.dfa.now.nfa c.args.input.now);
+  first = λ nfa of. rw c.new-found.ensures.items (begins nfa c.args.input.now);
   high = omega arith;
   walkable = λ k l. c.in_ok-marks.ensures.walkable k;
   paid = λ k. omega (arith, c.in_ok-marks.ensures.few);
@@ -43,11 +43,11 @@ loop-at-preserved g c =
     ≡ c.loop-at.found.items ++ in_haystack c.args.input.now.start c.loop-at.at c.in-Some.next ∷ []
     = rw c.start-base.ensures.value at c.in_ok-push_moved-in-Some.ensures in
     record {
-      first = rw items (more_tokens c.args.dfa.now.nfa c.args.input.now (c.args.input.now.start + c.loop-at.at)
+      first = λ nfa of. rw items (more_tokens nfa c.args.input.now (c.args.input.now.start + c.loop-at.at)
           c.loop-at.found.items (in_haystack c.args.input.now.start c.loop-at.at c.in-Some.next)
-          c.loop-at.invariant.first
-          (is_token c.args.dfa.now.nfa c.args.input.now c.of_input-text.result c.loop-at.at c.of_input-text.ensures here
-          c.in-Some.next (c.in-Some.ensures.found.longest c.requires.kind) c.if-next-at.true));
+          (c.loop-at.invariant.first nfa of)
+          (is_token nfa c.args.input.now c.of_input-text.result c.loop-at.at c.of_input-text.ensures here
+          c.in-Some.next ((c.in-Some.ensures.found nfa of).longest c.requires.kind) c.if-next-at.true));
       high = c.in-Some.ensures.walked.within;
       walkable = c.in-Some.ensures.walked.walkable;
       paid = λ k. omega (arith, c.in-Some.ensures.walked.cost, c.loop-at.invariant.paid k, c.if-next-at.true);
@@ -62,7 +62,7 @@ loop-at-preserved g c =
     }
 
 pub returns-in_default-clause-tokens : goal.returns-in_default-clause-tokens
-returns-in_default-clause-tokens g c =
+returns-in_default-clause-tokens g c = λ nfa of.
     let within : c.args.input.now.end ≤ length c.args.input.now.haystack
     = omega (arith, c.end.ensures.value, c.end.ensures.in_haystack) in
     let order : c.args.input.now.start ≤ c.args.input.now.end
@@ -73,20 +73,20 @@ returns-in_default-clause-tokens g c =
       | in_default-via-in-Some+else-next-at w ↦ rw w.in-Some.is (omega (arith, w.if-next-at.false))
       | in_default-via-in_default w ↦ rw w.in_default.is tt
     ] in
-    all_tokens c.args.dfa.now.nfa c.args.input.now (c.args.input.now.start + c.loop-at.at) c.loop-at.found.items
-    c.loop-at.invariant.first
-    (none_longer c.args.dfa.now.nfa c.args.input.now c.of_input-text.result c.loop-at.at c.of_input-text.ensures here
-    c.walk_from.result (c.walk_from.ensures.found.longest c.requires.kind) empty)
+    all_tokens nfa c.args.input.now (c.args.input.now.start + c.loop-at.at) c.loop-at.found.items
+    (c.loop-at.invariant.first nfa of)
+    (none_longer nfa c.args.input.now c.of_input-text.result c.loop-at.at c.of_input-text.ensures here
+    c.walk_from.result ((c.walk_from.ensures.found nfa of).longest c.requires.kind) empty)
 
 pub returns-clause-tokens : goal.returns-clause-tokens
-returns-clause-tokens g c =
+returns-clause-tokens g c = λ nfa of.
     let within : c.args.input.now.end ≤ length c.args.input.now.haystack
     = omega (arith, c.end.ensures.value, c.end.ensures.in_haystack) in
     let count : length c.of_input-text.result.bytes ≡ c.args.input.now.end - c.args.input.now.start
     = ap (λ (t : Text). length t.bytes) c.of_input-text.ensures ∙ length-range c.args.input.now within in
-    all_tokens c.args.dfa.now.nfa c.args.input.now (c.args.input.now.start + c.loop-at.at) c.loop-at.found.items
-    c.loop-at.invariant.first
-    (no_token c.args.dfa.now.nfa (from c.args.input.now (c.args.input.now.start + c.loop-at.at)) within
+    all_tokens nfa c.args.input.now (c.args.input.now.start + c.loop-at.at) c.loop-at.found.items
+    (c.loop-at.invariant.first nfa of)
+    (no_token nfa (from c.args.input.now (c.args.input.now.start + c.loop-at.at)) within
     (omega (arith, count, c.len.ensures.value, c.loop-at-test.false)))
 
 pub returns-then-base-end-clause-counted : goal.returns-then-base-end-clause-counted

@@ -1,4 +1,4 @@
-use Rattle.std.proofs.Common.{rules, ◌≡◌, ◌+◌, ◌-◌, ◌≤◌, Bool, List, arith, false, length, replicate, subst}
+use Rattle.std.proofs.Common.{rules, ◌≡◌, ◌+◌, ◌-◌, ◌≤◌, ◌∙◌, Bool, List, arith, false, length, replicate, subst}
 use Rattle.std.proofs.Common.{sym}
 use Rattle.std.proofs.lemmas.Result.{IfOk-weaker}
 use Rattle.determinize_core.specs.Tries.{edges_in_all}
@@ -14,6 +14,8 @@ pub find_all_by-requires-clause-ready : goal.find_all_by-requires-clause-ready
 find_all_by-requires-clause-ready g c = λ k.
     let rows : c.in_ok-new.field-0 ≡ replicate (length c.of_input-text.result.bytes + 1)
     (replicate (length c.args.nfa.now.states) false) = search rules in rw (← c.of_input-text.ensures) (
+      search rules,
+      c.requires.forward,
       subst (λ (r : List (List Bool)). HasPlaces c.args.nfa.now c.of_input-text.result r) (sym rows)
           (places_new c.args.nfa.now c.of_input-text.result),
       subst (λ (r : List (List Bool)). IsSpent c.args.nfa.now c.of_input-text.result k r) (sym rows)
@@ -38,4 +40,4 @@ returns-clause-linear g c = λ k.
 pub returns-clause-counted : goal.returns-clause-counted
 returns-clause-counted g c = λ k free.
     IfOk-weaker c.find_all_by.result _ _ (λ found h. omega (arith, h, c.if-start-end.false))
-    (c.find_all_by.ensures.counted k free)
+    (c.find_all_by.ensures.counted k (c.is_anchored.ensures ∙ free))

@@ -1,6 +1,6 @@
-use Rattle.std.proofs.Common.{◌≡◌, ◌∙◌, None, ap, arith, sym}
+use Rattle.std.proofs.Common.{◌∙◌, None, arith, sym}
 use Rattle.std.proofs.lemmas.Bool.{eqb-true, leb-true, true≢false}
-use Rattle.determinize_below.specs.Semantics.{Nfa, before_at}
+use Rattle.determinize_below.specs.Semantics.{before_at}
 use Rattle.determinize_linear.proofs.walks.Starts.{rows_alike, units_before}
 use Rattle.determinize_linear.proofs.starts.begin_alike.Goals.{else-len-ge-FEW, else-row_behind-first}
 use Rattle.determinize_linear.proofs.starts.begin_alike.Goals.{else-row_behind-first-2, else-row_behind-first-3}
@@ -9,11 +9,9 @@ use Rattle.determinize_linear.proofs.starts.begin_alike.Goals.{then-row_behind-f
 use Rattle.determinize_linear.proofs.starts.begin_alike.Goals.{then-row_behind-first-3, then-row_behind-first-4}
 use Rattle.determinize_linear.proofs.starts.begin_alike.Goals as goal
 
-pub returns-then-row_behind-first-5-clause-alike : goal.returns-then-row_behind-first-5-clause-alike
-returns-then-row_behind-first-5-clause-alike g c = λ e.
-    let term : c.get_line_terminator-terminator.result ≡ c.args.dfa.now.nfa.terminator
-    = c.get_line_terminator-terminator.ensures ∙ c.look_matcher.ensures.value
-    ∙ ap (λ (n : Nfa). n.terminator) c.nfa.ensures.value in
+pub returns-then-row_behind-first-5 : goal.returns-then-row_behind-first-5
+returns-then-row_behind-first-5 g c = λ e.
+    let term = c.line_terminator-terminator.ensures in
     let last = c.row_behind-then-row_behind-first-5 in
     elim c.if-row_behind-first-4.branch [
       | else-row_behind-first-4 w ↦ absurd
@@ -31,7 +29,7 @@ returns-then-row_behind-first-5-clause-alike g c = λ e.
               | else-len-ge-FEW w ↦ absurd
                   (omega (arith, leb-true _ _ (sym w.value-is ∙ w1.if-row_behind-first.true), w.if-len-ge-FEW.false))
               | then-len-ge-FEW w0 ↦
-                  let rows = rows_alike c.args.dfa.now.nfa c.args.dfa.now.table c.row_behind-first.result
+                  let rows = rows_alike (g.D.Automaton.stored c.args.dfa.now) c.row_behind-first.result
                   w4.word_byte.result c.other_byte.result (rw term at w4.word_byte.ensures)
                   (rw term at c.other_byte.ensures)
                   (sym w0.row_behind.ensures.row ∙ eqb-true _ _ (sym w0.value-is ∙ w1.if-row_behind-first.true))

@@ -1,27 +1,32 @@
-use Rattle.std.proofs.Common.{◌≡◌, ◌∙◌, ap, arith, sym}
-use Rattle.determinize_dense.specs.Table.{DfaValue}
-use Rattle.ordered_reach.proofs.Cases.{some_injective}
+use Rattle.std.proofs.Common.{◌≤◌, ◌+◌, ◌-◌, ◌∙◌, arith, length}
+use Rattle.determinize_linear.proofs.search.Left.{if_none}
+use Rattle.determinize_linear.proofs.search.Passing.{rest_same}
 use Rattle.determinize_linear.proofs.dense.Searcher.advance_with.Goals as goal
 
 pub advance-requires-clause-ready : goal.advance-requires-clause-ready
-advance-requires-clause-ready g c = λ k l. (
-  c.self.invariant.kind,
-  c.self.invariant.alike,
-  rw c.nfa-nfa.ensures.value (c.self.invariant.walkable k l),
-)
+advance-requires-clause-ready g c = λ k l.
+    (c.self.invariant.known, c.self.invariant.kind, c.self.invariant.alike, c.self.invariant.walkable k l)
 
 pub invariant_of-self : goal.invariant_of-self
 invariant_of-self g c =
-    let dfa : c.advance.new.search.dfa.now ≡ c.self.inside.walks.dfa.now = some_injective _ _ c.in-Ok.ensures.dfa in
-    let nfa : c.nfa-nfa.result.now ≡ c.advance.new.search.dfa.now.nfa
-    = c.nfa-nfa.ensures.value ∙ ap (λ (d : DfaValue). d.nfa) (sym dfa) in
-    record {
-      forward = rw dfa c.self.invariant.forward;
-      kind = rw dfa c.self.invariant.kind;
-      alike = rw c.in-Ok.ensures.moved.text (c.in-Ok.ensures.ready c.advance.new.self.at (omega arith)).1;
-      walkable = λ k l. rw c.in-Ok.ensures.moved.text (rw nfa at ((c.in-Ok.ensures.ready k l).2));
-      cursor = rw nfa at c.in-Ok.ensures.moved.is;
+    let ready = c.in-Ok.ensures.ready c.advance.new.self.at (omega arith) in
+    let moved = c.in-Ok.ensures.moved in record {
+      known = ready.0;
+      kind = ready.1;
+      alike = rw moved.text ready.2;
+      walkable = λ k l. rw moved.text ((c.in-Ok.ensures.ready k l).3);
+      inside = moved.inside;
+      cursor = λ nfa f. moved.is nfa (rw (← c.in-Ok.ensures.by) f);
     }
 
 pub returns-clause-next : goal.returns-clause-next
-returns-clause-next g c = rw (← c.self.view_is) (rw c.nfa-nfa.ensures.value at c.in-Ok.ensures.moved.next)
+returns-clause-next g c = rw (← c.self.view_is) (λ nfa f. c.in-Ok.ensures.moved.next nfa f)
+
+pub returns-clause-past : goal.returns-clause-past
+returns-clause-past g c = rw (← c.self.view_is) (λ nfa f k free.
+    let same = rest_same c.self.inside.cursor.asked c.self.inside.cursor.before in
+    let cursor = c.self.invariant.cursor nfa f in
+    if_none (g.C.Counter.total c.args.counter.now
+    + (length c.self.inside.cursor.text.bytes + 1 - c.self.inside.cursor.at)
+    ≤ g.C.Counter.total c.advance.new.counter) _ _ (λ h. omega (arith, h, c.self.invariant.inside.count, same.1))
+    (c.in-Ok.ensures.past k (cursor.anchored ∙ (rw same.0 at free))))

@@ -4,11 +4,11 @@ use Rattle.determinize_linear.proofs.in_turn.Cursor.advance.Given as goal
 
 abbrev pub invariant-loop-text : goal.invariant-loop-text
 invariant-loop-text g l = record {
-  sought : IsSought l.nfa l.text (g.S.Matcher.is_ready l.search l.nfa l.text)
-      (g.S.Matcher.left l.fn.search l.nfa l.text) (g.S.Matcher.left l.search l.nfa l.text) (g.S.Matcher.most l.nfa)
-      g.S.Matcher.extra (IsTrue g.C.Counter.counts) (g.C.Counter.total l.fn.counter) (g.C.Counter.total l.counter)
-      l.fn.self l.self;
-  dfa : g.S.Matcher.dfa l.search ≡ g.S.Matcher.dfa l.fn.search;
+  sought : IsSought (g.S.Matcher.finds (g.S.Matcher.by l.fn.search)) l.text (g.S.Matcher.is_ready l.search l.text)
+      (g.S.Matcher.left l.fn.search l.text) (g.S.Matcher.left l.search l.text)
+      (g.S.Matcher.most (g.S.Matcher.by l.fn.search)) g.S.Matcher.extra (IsTrue g.C.Counter.counts)
+      (g.C.Counter.total l.fn.counter) (g.C.Counter.total l.counter) l.fn.self l.self;
+  by : g.S.Matcher.by l.search ≡ g.S.Matcher.by l.fn.search;
 }
 
 abbrev pub decreases-loop-text : goal.decreases-loop-text

@@ -1,0 +1,6 @@
+use Rattle.determinize_dense.proofs.Offsets.{row-of}
+use Rattle.determinize_dense.proofs.reading.DfaAutomaton.lists.Goals as goal
+
+pub returns : goal.returns
+returns g c = rw (row-of c.args.self.now.table c.requires.2)
+    (c.is_listing.ensures c.requires.0 (c.requires.1, rw c.row.view_is c.requires.2))
