@@ -16,13 +16,15 @@
 //! - [`walk`] finds the preferred match without a cache, and [`counted`] makes one counted step.
 //! - [`dfa`] builds the smallest whole DFA, and lists the patterns that match at a position.
 //!   [`steps`] reads one: it steps by hand, and lists all matches of a haystack. [`stored`] draws
-//!   one, keeps it as bytes, and steps through these.
+//!   one, keeps it as bytes, and steps through these. [`from_bytes`] reads one, and finds tokens or
+//!   all matches.
 #![tactic(auto)]
 
 pub mod built;
 pub mod cache;
 pub mod counted;
 pub mod dfa;
+pub mod from_bytes;
 pub mod input;
 pub mod lexer;
 pub mod nfa;
