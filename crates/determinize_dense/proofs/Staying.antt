@@ -1,5 +1,5 @@
 -- Scans by sets.
--- Main statements: none-stays, stays-on, staying-all, staying-at, each-at.
+-- Main statements: none-stays, staying-all, staying-at, each-at.
 -- Used by: `leaving`, `all_leaving` and `scan`.
 -- Idea: a byte that is not in the set of a row leads the row to itself.
 use Rattle.determinize_dense.proofs.Common.{All, arith, by_cases, cases_lt, get_or, get_or_from_slice_get, IsUnit, List}
@@ -34,12 +34,6 @@ none-stays d row r set text from to all is staying within none i h l =
           let same : s ≡ r = same-offset d (sym e ∙ is.1) in
           rw (same, staying (get_or text.bytes i 0) unit (none i h l)) (is.0, is.1);
     }
-
--- over bytes, and over those behind them
-pub stays-on : (d : Table) (row : ℕ) (text : Text) (from now to : ℕ) → StaysOver d row text from now
-    → StaysOver d row text now to → StaysOver d row text from to
-stays-on d row text from now to a b i h l = by_cases (cases_lt i now) (λ before. a i h before)
-    (λ behind. b i behind l)
 
 -- no byte is in the set of all
 pub staying-all : (d : Table) (r : ℕ) → IsStaying d r (replicate 256 true)

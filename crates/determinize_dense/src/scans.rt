@@ -1,29 +1,25 @@
-//! Scans: a search stays in a row while the bytes that it reads do not leave it. Pauses say when it
-//! does not scan; no match depends on them.
+//! Scans: a search stays in a row while the bytes that it reads do not leave it.
 //!
 //! The first few rows that are scanned out of have a set of the bytes that leave them. By it a scan
 //! reads many bytes of a text at once.
 
-ghost use Rattle.std.specs.Prelude.{◌+◌, ◌<◌, ◌≤◌, ℕ, IsTrue, length};
+ghost use Rattle.std.specs.Prelude.{◌<◌, ◌≤◌, ℕ, length};
 ghost use Rattle.std.specs.Option.{IfSome};
-ghost use Rattle.byte_set.specs.Sets.{HasNone, is_member};
 ghost use Rattle.determinize_dense.specs.Private.Rows.{IsOffset, IsRowAt};
-ghost use Rattle.determinize_dense.specs.Private.Scans.{AreAllStaying, IsPassed, IsStaying};
+ghost use Rattle.determinize_dense.specs.Private.Scans.{AreAllStaying, IsStaying};
 ghost use Rattle.determinize_dense.specs.Private.Searching.{IsScan};
 
 use crate::dfa::Dfa;
 use crate::rows::Rows;
 use byte_set::ByteSet;
 use determinize_below::AsNfa;
+use determinize_engine::scans;
 use determinize_engine::state_table::MAX_STATES;
 use determinize_engine::text::Text;
 use std::alloc::Allocator;
 
 /// The number of rows that have a set.
 pub(crate) const SETS: usize = 8;
-
-/// The number of bytes that a scan looks up first, all at once.
-const AT_ONCE: usize = 16;
 
 /// The number of bytes that a search reads before it scans.
 pub(crate) const FIRST: usize = 64;
@@ -34,89 +30,11 @@ pub(crate) const BLOCK: usize = 64;
 /// The number of blocks without a match after which a search scans again.
 pub(crate) const BLOCKS: usize = 8;
 
+/// The number of bytes of the shortest pause between scans.
+pub(crate) const SHORTEST: usize = 32;
+
 /// The number of bytes from which on a scan saves time: a shorter one costs more than it saves.
 pub(crate) const WORTHWHILE: usize = 8;
-
-/// The number of bytes of the shortest pause.
-const SHORTEST: usize = 32;
-
-/// The number of bytes of the longest pause.
-const LONGEST: usize = 1024;
-
-/// The pauses between scans. After each scan of fewer than 8 bytes comes a pause: of 32 bytes, and
-/// twice as long each time, up to 1024. A longer scan sets it back to 32.
-#[derive(Clone, Copy)]
-pub(crate) struct Pauses {
-    /// The number of bytes that are read when the pause is over.
-    pub(crate) end: usize,
-    /// The length of the next pause.
-    next: usize,
-}
-
-impl Pauses {
-    /// Returns the pause before the first scan. It is over where `search_rest` begins.
-    #[inline(always)]
-    pub(crate) fn new() -> Pauses {
-        Pauses {
-            end: FIRST,
-            next: SHORTEST,
-        }
-    }
-
-    /// Records a scan.
-    ///
-    /// - `from` and `to` are the numbers of bytes that are read before and after it.
-    #[inline(always)]
-    pub(crate) fn record(&mut self, from: usize, to: usize)
-        requires { from ≤ to }
-    {
-        if to - from >= WORTHWHILE {
-            self.next = SHORTEST;
-            return;
-        }
-        self.end = to.saturating_add(self.next);
-        self.next = self.next.saturating_mul(2).min(LONGEST);
-    }
-}
-
-/// Returns whether none of the next sixteen bytes of a text is in a set.
-///
-/// - `read` is the number of bytes read before.
-#[inline(always)]
-fn has_none(set: &ByteSet, text: &Text<'_>, read: usize) -> bool
-    requires { read + AT_ONCE ≤ length text.now.bytes }
-    ensures { IsTrue result
-        → HasNone (is_member set.now) text.now.bytes read (read + AT_ONCE) }
-{
-    let (bytes, is_backward) = text.haystack_bytes();
-    if is_backward {
-        return set.has_none(bytes, bytes.len() - read - AT_ONCE);
-    }
-    set.has_none(bytes, read)
-}
-
-/// Returns the index of the next byte of a text that is in a set, or the length of the text.
-///
-/// - `read` is the number of bytes read before.
-#[inline(never)]
-fn find(set: &ByteSet, text: &Text<'_>, read: usize) -> usize
-    requires { read ≤ length text.now.bytes }
-    ensures { IsPassed set.now text.now read result }
-{
-    let (bytes, is_backward) = text.haystack_bytes();
-    let len = bytes.len();
-    if is_backward {
-        match set.rfind(bytes, 0, len - read) {
-            Some(index) => len - 1 - index,
-            None => len,
-        }
-    } else {
-        match set.find(bytes, read, len) {
-            Some(index) => index,
-            None => len,
-        }
-    }
-}
 
 impl<R: AsNfa, A: Allocator + Copy> Rows<R, A> {
     /// Returns the set of the bytes that leave a row, or of all bytes if the row is after the last
@@ -196,9 +114,6 @@ impl<R: AsNfa, A: Allocator + Copy> Dfa<R, A> {
     /// bytes are left, or one of the next sixteen leaves the row.
     ///
     /// - `row` is the offset of the row, and `read` the number of bytes read before.
-    ///
-    /// Most scans are over after a few bytes, and a loop over these would end at a jump that is
-    /// hard to predict.
     #[inline(always)]
     pub(crate) fn scan(&self, row: usize, text: &Text<'_>, read: usize) -> usize
         requires row { IsOffset self.now.table row }
@@ -208,9 +123,6 @@ impl<R: AsNfa, A: Allocator + Copy> Dfa<R, A> {
         let Some(set) = self.leaving(row) else {
             return self.scan_upto(row, text, read, text.len());
         };
-        if text.len() - read < AT_ONCE || !has_none(set, text, read) {
-            return read;
-        }
-        find(set, text, read + AT_ONCE)
+        scans::scan(set, text, read)
     }
 }

@@ -19,9 +19,10 @@ ghost use Rattle.determinize_dense.specs.Table.{patterns_at};
 ghost use Rattle.determinize_dense.specs.Private.Searching.{FindsFrom, HasCome, HasReadUpTo, IsFound, IsMatch, IsRead};
 
 use crate::dfa::{Dfa, SCALE};
-use crate::scans::{BLOCK, BLOCKS, FIRST, Pauses};
+use crate::scans::{BLOCK, BLOCKS, FIRST, SHORTEST, WORTHWHILE};
 use determinize_below::{Anchored, AsNfa, HalfMatch, Input, PatternID};
 use determinize_engine::engine::Engine;
+use determinize_engine::scans::Pauses;
 use determinize_engine::text::{Text, in_haystack};
 use std::alloc::Allocator;
 use std::convert::Infallible;
@@ -303,7 +304,7 @@ impl<R: AsNfa, A: Allocator + Copy> Dfa<R, A> {
         ensures { FindsFrom self.now is_earliest text.now from result }
     {
         let mut at = from;
-        let mut pauses = Pauses::new();
+        let mut pauses = Pauses::new(FIRST, SHORTEST, WORTHWHILE);
         while at.read < text.len() {
             let (stop, until) = if at.read < pauses.end {
                 (self.last_match, text.len().min(pauses.end))

@@ -1,5 +1,6 @@
 pub mod Engines
 pub mod Lists
+pub mod Passed
 pub mod Private
 pub mod Scans
 pub mod Searches

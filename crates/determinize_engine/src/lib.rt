@@ -7,12 +7,15 @@
 //! - [`text`] is what a search of an input reads: the byte behind, on which the start state
 //!   depends; the bytes of the range, forward or backward; the byte ahead, or the end of input
 //!   (EOI).
+//! - [`scans`] passes bytes of a text over which a search stays at its state.
 //! - [`state_table`] has the states of a DFA, each once, and finds the index of a state.
 //!
-//! The last two are public for the two crates only.
+//! The last three are public for the two crates only.
 #![tactic(auto)]
 
 pub mod engine;
+#[doc(hidden)]
+pub mod scans;
 #[doc(hidden)]
 pub mod state_table;
 #[doc(hidden)]

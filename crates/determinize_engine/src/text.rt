@@ -92,6 +92,24 @@ impl<'h> Text<'h> {
         }
     }
 
+    /// Returns whether the text is read in reverse.
+    #[inline(always)]
+    pub fn is_backward(&self) -> bool {
+        self.is_backward
+    }
+
+    /// Returns a copy, whose order is a constant where this argument is one.
+    #[inline(always)]
+    pub fn known(&self, is_backward: bool) -> Text<'h>
+        ensures { result ≡ self.now }
+    {
+        if is_backward == self.is_backward {
+            Text::with_order(self.behind, self.bytes, is_backward, self.ahead)
+        } else {
+            self.copied()
+        }
+    }
+
     /// Returns the byte before the first.
     #[inline(always)]
     pub fn behind(&self) -> Option<u8>

@@ -1,7 +1,8 @@
 //! The part of a search that only reads the cache: from a start state whose id is kept, over cached
-//! transitions. `search` continues at the first transition that is not cached.
+//! transitions. `search` continues at the first transition that is not cached, and behind the first
+//! 1024 bytes of a long text.
 
-ghost use Rattle.std.specs.Prelude.{◌≡◌, ◌+◌, ◌<◌, ◌≤◌, length, option_map, slice_get, slice_index_or, Some};
+ghost use Rattle.std.specs.Prelude.{◌≡◌, ◌+◌, ◌<◌, ◌≤◌, Bool, length, option_map, slice_get, slice_index_or, Some};
 ghost use Rattle.std.specs.Option.{IfSome};
 ghost use Rattle.determinize_lazy.specs.Clauses.{cache, dead, slot_number, start_value, units};
 ghost use Rattle.determinize_start.specs.declared.start.TheConstants.StartSlot.{COUNT};
@@ -10,9 +11,25 @@ ghost use Rattle.determinize_lazy.specs.Private.{cached_place, first_place, Goes
 use crate::lazy::LazyDfa;
 use determinize_below::{AsNfa, HalfMatch, NFA, StateID};
 use determinize_core::start::{Start, start_kind_of};
+use determinize_engine::scans::Pauses;
 use determinize_engine::text::Text;
 use determinize_table::{LastMatch, LazyStateId};
 use std::alloc::Allocator;
+
+/// The number of bytes that a search reads without scans: more would make short ones slower.
+const UNSCANNED: usize = 1024;
+
+/// The number of bytes that a search then reads before it may learn a loop.
+pub(crate) const PATIENCE: usize = 256;
+
+/// The number of bytes of the shortest pause between scans.
+const SHORTEST: usize = 128;
+
+/// The number of bytes from which on a scan saves time.
+const WORTHWHILE: usize = 32;
+
+/// No row.
+pub(crate) const NO_ROW: usize = usize::MAX;
 
 /// A position at a cached state.
 #[derive(Clone, Copy)]
@@ -69,23 +86,27 @@ impl<R: AsNfa, A: Allocator + Copy> LazyDfa<R, A> {
         self.table.start(number)
     }
 
-    /// Follows cached transitions over bytes of the text, up to a state at which the search ends.
+    /// Follows cached transitions over bytes of the text: up to an index, to a state at which the
+    /// search ends, or into the state whose row has the offset `stop`.
     ///
     /// The loop does not share its body with the last step of `follow_to_end`: with a call it takes
     /// six cycles a byte in place of five.
     #[inline(always)]
-    pub(crate) fn follow(
+    fn follow(
         &self,
         from: CachedPosition,
         text: &Text<'_>,
+        until: usize,
+        stop: usize,
         earliest: bool,
     ) -> CachedPosition
         requires position { IsCachedPosition self.now from }
         requires read { from.read ≤ length text.now.bytes }
+        requires until { until ≤ length text.now.bytes }
         ensures { GoesToCached earliest text.now (cached_place self.now from) self.now result }
     {
         let mut at = from;
-        while at.read < text.len() {
+        while at.read < until {
             let byte = text.byte(at.read);
             // The entry comes before the tag, since the next entry waits for it.
             let target = self.table.lookup(at.id, Some(byte));
@@ -99,8 +120,125 @@ impl<R: AsNfa, A: Allocator + Copy> LazyDfa<R, A> {
             at.last = at.last.or_match(tag, at.read);
             at.id = id;
             at.read += 1;
+            if id.row() == stop {
+                return at;
+            }
         }
         at
+    }
+
+    /// Returns the position after the bytes over which its state has a transition to itself, if the
+    /// row of the state has the offset `row`, which is that of the table's loop. Records the scan.
+    #[inline(always)]
+    fn pass(
+        &self,
+        from: CachedPosition,
+        text: &Text<'_>,
+        row: usize,
+        pauses: &mut Pauses,
+    ) -> CachedPosition
+        requires position { IsCachedPosition self.now from }
+        requires read { from.read ≤ length text.now.bytes }
+        ensures { (earliest : Bool) → GoesToCached earliest text.now
+            (cached_place self.now from) self.now result }
+    {
+        if from.id.row() != row {
+            return from;
+        }
+        let mut at = from;
+        at.read = self.table.scan(at.id, text, at.read);
+        pauses.record(from.read, at.read);
+        at
+    }
+
+    /// Follows cached transitions: in a pause between scans up to its end, and else, after a scan
+    /// if the row has the offset `row`, up to that row.
+    #[inline(always)]
+    fn follow_once(
+        &self,
+        from: CachedPosition,
+        text: &Text<'_>,
+        until: usize,
+        row: usize,
+        pauses: &mut Pauses,
+        earliest: bool,
+    ) -> CachedPosition
+        requires position { IsCachedPosition self.now from }
+        requires read { from.read ≤ length text.now.bytes }
+        requires until { until ≤ length text.now.bytes }
+        ensures { GoesToCached earliest text.now (cached_place self.now from) self.now result }
+    {
+        if from.read < pauses.end {
+            return self.follow(from, text, until.min(pauses.end), NO_ROW, earliest);
+        }
+        let passed = self.pass(from, text, row, pauses);
+        self.follow(passed, text, until, row, earliest)
+    }
+
+    /// Follows cached transitions up to an index, with scans over bytes in the loop of the table,
+    /// which may go past it.
+    #[inline(always)]
+    fn follow_with_scans(
+        &self,
+        from: CachedPosition,
+        text: &Text<'_>,
+        until: usize,
+        earliest: bool,
+    ) -> CachedPosition
+        requires position { IsCachedPosition self.now from }
+        requires read { from.read ≤ length text.now.bytes }
+        requires until { until ≤ length text.now.bytes }
+        ensures { GoesToCached earliest text.now (cached_place self.now from) self.now result }
+    {
+        let row = self.table.loop_row();
+        let mut pauses = Pauses::new(from.read, SHORTEST, WORTHWHILE);
+        let mut at = from;
+        while at.read < until {
+            let read = at.read;
+            at = self.follow_once(at, text, until, row, &mut pauses, earliest);
+            if at.read == read {
+                return at;
+            }
+        }
+        at
+    }
+
+    /// Returns what `follow_with_scans` returns. Not inlined, so that it is compiled once.
+    #[inline(never)]
+    pub(crate) fn follow_on(
+        &self,
+        from: CachedPosition,
+        text: &Text<'_>,
+        until: usize,
+        earliest: bool,
+    ) -> CachedPosition
+        requires position { IsCachedPosition self.now from }
+        requires read { from.read ≤ length text.now.bytes }
+        requires until { until ≤ length text.now.bytes }
+        ensures { GoesToCached earliest text.now (cached_place self.now from) self.now result }
+    {
+        // With the direction of the text and `earliest` as constants.
+        match (text.is_backward(), earliest) {
+            (false, false) => self.follow_with_scans(from, &text.known(false), until, false),
+            (false, true) => self.follow_with_scans(from, &text.known(false), until, true),
+            (true, false) => self.follow_with_scans(from, &text.known(true), until, false),
+            (true, true) => self.follow_with_scans(from, &text.known(true), until, true),
+        }
+    }
+
+    /// Follows cached transitions from a start state over the first bytes of a text.
+    #[inline(always)]
+    fn follow_first(&self, start: LazyStateId, text: &Text<'_>, earliest: bool) -> CachedPosition
+        requires { start < length self.now.states }
+        ensures { GoesToCached earliest text.now (first_place (cache self.now)
+            (slice_index_or self.now.states start dead)) self.now result }
+    {
+        let first = CachedPosition {
+            id: start,
+            read: 0,
+            last: LastMatch::NONE,
+        };
+        self.follow(first, text, text.len().min(UNSCANNED), NO_ROW, earliest)
     }
 
     /// Follows cached transitions over a text and the unit ahead of it, up to a state at which the
@@ -113,12 +251,7 @@ impl<R: AsNfa, A: Allocator + Copy> LazyDfa<R, A> {
             (slice_index_or self.now.states start dead)) (cached_place self.now result) }
         ensures within { result.read ≤ length text.now.bytes + 1 }
     {
-        let first = CachedPosition {
-            id: start,
-            read: 0,
-            last: LastMatch::NONE,
-        };
-        let at = self.follow(first, text, earliest);
+        let at = self.follow_first(start, text, earliest);
         if at.read < text.len() {
             return at;
         }

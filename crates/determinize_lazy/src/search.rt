@@ -16,13 +16,13 @@
 
 ghost use Rattle.std.specs.Prelude.{Decides, ◌≡◌, ◌<◌, ◌≤◌, false, true, Option, drop, length, IfOk, OnErr, Ok, None, Some};
 ghost use Rattle.determinize_lazy.specs.Clauses.{between, cache, cursor_value, Grows, has_start, HasMatch, HasSearched, HasSearchedIn, is_done, IsSearch, IsSearchResult, start_for, start_value, text_of, units};
-ghost use Rattle.determinize_lazy.specs.Private.{EndsAt, Fails, first_position, GoesTo, HasStopped, IsFailedStep, IsNext, IsOverText, IsPosition, IsShort, IsSound, place, with_cursor};
+ghost use Rattle.determinize_lazy.specs.Private.{cached_place, EndsAt, Fails, first_position, GoesTo, GoesToCached, HasStopped, IsCachedPosition, IsFailedStep, IsNext, IsOverText, IsPosition, IsShort, IsSound, place, with_cursor};
 
-use crate::cached::{CachedPosition, Reached};
+use crate::cached::{CachedPosition, PATIENCE, Reached};
 use crate::lazy::LazyDfa;
 use determinize_below::{Anchored, AsNfa, HalfMatch, Input, NFA, StateID};
 use determinize_engine::text::{Text, in_haystack};
-use determinize_table::{Cursor, LastMatch};
+use determinize_table::{Cursor, LastMatch, LazyStateId};
 use std::alloc::{AllocError, Allocator};
 
 /// Returns the start state of an NFA for an anchored mode.
@@ -105,18 +105,59 @@ impl<R: AsNfa, A: Allocator + Copy> LazyDfa<R, A> {
         })
     }
 
+    /// Follows cached transitions from a position. Where it has read many bytes, which are twice as
+    /// many each time, the state there may become the loop of the table.
+    fn follow_and_learn(
+        &mut self,
+        from: CachedPosition,
+        text: &Text<'_>,
+        earliest: bool,
+    ) -> CachedPosition
+        requires position { IsCachedPosition self.old from }
+        requires read { from.read ≤ length text.now.bytes }
+        ensures goes { GoesToCached earliest text.now (cached_place self.old from) self.new result }
+        ensures same { self.new ≡ self.old }
+    {
+        let mut at = from;
+        let mut patience = PATIENCE;
+        while at.read < text.len() {
+            let until = text.len().min(at.read.saturating_add(patience));
+            at = self.follow_on(at, text, until, earliest);
+            if at.read < until {
+                return at;
+            }
+            self.learn(at.id, text, at.read);
+            patience = patience.saturating_mul(2);
+        }
+        at
+    }
+
+    /// Makes a cached state the loop of the table, if it has a transition to itself over
+    /// the next byte of a text.
+    ///
+    /// - `read` is the number of bytes read before.
+    fn learn(&mut self, id: LazyStateId, text: &Text<'_>, read: usize)
+        requires { id < length self.old.states }
+        ensures { self.new ≡ self.old }
+    {
+        if read < text.len() {
+            self.table.learn(id, text.byte(read));
+        }
+    }
+
     /// Follows cached transitions from a position, if its state is cached.
     #[inline(always)]
-    fn run(&self, from: Position<A>, text: &Text<'_>, earliest: bool) -> Position<A>
-        requires position { IsPosition self.now from }
+    fn run(&mut self, from: Position<A>, text: &Text<'_>, earliest: bool) -> Position<A>
+        requires position { IsPosition self.old from }
         requires read { from.read ≤ length text.now.bytes }
-        ensures { GoesTo earliest text.now (place self.now from) self.now result }
+        ensures goes { GoesTo earliest text.now (place self.old from) self.new result }
+        ensures same { self.new ≡ self.old }
     {
         let Position { cursor, read, last } = from;
         match cursor {
             Cursor::Cached(id) => {
-                let at = self.follow(CachedPosition { id, read, last }, text, earliest);
-                at.with_cursor()
+                let from = CachedPosition { id, read, last };
+                self.follow_and_learn(from, text, earliest).with_cursor()
             }
             Cursor::Uncached(state) => Position {
                 cursor: Cursor::Uncached(state),

@@ -1,6 +1,7 @@
 pub mod CacheBytes
 pub mod Changes
 pub mod Cursors
+pub mod Looping
 pub mod Rows
 pub mod Spans
 pub mod Stored

@@ -10,6 +10,9 @@
 //! - The *tag* (`tag`) is what a search needs to know of a state: its first pattern, and whether it
 //!   is dead (records no NFA states, so that no match follows). So a search over cached transitions
 //!   reads two numbers a byte, and no state.
+//! - The *loop* (`looping`) is a cached state that has a transition to itself over many bytes, as
+//!   the start of an unanchored search mostly has, with the set of the other bytes: a search passes
+//!   those that are not in it many at once.
 //! - A *cursor* is a place of a walk or a search: the id of a cached state, or a state that is not
 //!   cached.
 //!
@@ -25,6 +28,7 @@
 //! A `Result` is `Err` if an allocation fails or more than 16647160 states would be cached.
 #![tactic(auto)]
 
+mod looping;
 mod spans;
 mod state_id;
 mod table;

@@ -65,7 +65,7 @@ impl LazyStateId {
 
     /// Returns the offset of the state's row.
     #[inline(always)]
-    pub(crate) fn row(self) -> usize
+    pub fn row(self) -> usize
         ensures { result ≡ self * COLUMNS }
     {
         self.row

@@ -16,6 +16,7 @@ ghost use Rattle.determinize_table.specs.Stored.{column, is_unit};
 ghost use Rattle.determinize_table.specs.Table.{in_one_class, in_range, keep, shares, with_transition, with_value};
 ghost use Rattle.determinize_table.specs.Tags.{tag_in, tag_of};
 
+use crate::looping::Loop;
 use crate::spans::ClassSpans;
 use crate::state_id::{COLUMNS, LazyStateId, UNITS};
 use crate::tag::StateTag;
@@ -56,10 +57,13 @@ pub struct TransitionTable<A: Allocator = Global> {
     rows: Vec<u32, A>,
     // The ids of start states, by the numbers of their slots. `clear` removes them.
     starts: [Option<LazyStateId>; StartSlot::COUNT],
+    // `None` wherever a transition or a state is added.
+    pub(crate) looping: Option<Loop>,
 }
 
 impl<A: Allocator> Model for TransitionTable<A> {
-    ghost use Rattle.determinize_table.specs.Rows.{IsStored, StoredTable};
+    ghost use Rattle.determinize_table.specs.Looping.{IsWhole};
+    ghost use Rattle.determinize_table.specs.Rows.{StoredTable};
 
     ghost Value = { StoredTable };
 
@@ -69,7 +73,11 @@ impl<A: Allocator> Model for TransitionTable<A> {
       starts = t.starts;
     } };
 
-    ghost invariant = { λ t. IsStored t.states t.rows.items };
+    ghost invariant = { λ t. IsWhole record {
+      states = t.states;
+      rows = t.rows.items;
+      starts = t.starts;
+    } t.looping };
 }
 
 /// Returns the column of a unit in a row.
@@ -94,6 +102,7 @@ impl<A: Allocator + Copy> TransitionTable<A> {
             states: StateTable::new(alloc),
             rows: Vec::new(alloc),
             starts: [None; StartSlot::COUNT],
+            looping: None,
         }
     }
 
@@ -106,6 +115,7 @@ impl<A: Allocator + Copy> TransitionTable<A> {
         // The borrow checker does not cover an array that is assigned to a field as it is made.
         let starts = [None; StartSlot::COUNT];
         self.starts = starts;
+        self.looping = None;
     }
 
     /// Returns the number of cached states.
@@ -218,6 +228,7 @@ impl<A: Allocator + Copy> TransitionTable<A> {
         requires { list_any (same state) self.old.states ≡ false }
         ensures { IsInterned self.old state result self.new }
     {
+        self.looping = None;
         let tag = StateTag::of(&state);
         let len = self.rows.len();
         self.rows.resize(len + COLUMNS, UNKNOWN)?;
@@ -276,6 +287,7 @@ impl<A: Allocator + Copy> TransitionTable<A> {
         requires target { target < length self.old.states }
         ensures { IsWritten (shares None unit) self.old source target self.new }
     {
+        self.looping = None;
         self.rows[source.row() + column(unit)] = target.entry();
     }
 
@@ -287,6 +299,7 @@ impl<A: Allocator + Copy> TransitionTable<A> {
         requires range { first ≤ end × end ≤ 256 }
         ensures { IsWritten (in_range first end) self.old source target self.new }
     {
+        self.looping = None;
         let row = source.row();
         self.rows[row + first..row + end].fill(target.entry());
     }

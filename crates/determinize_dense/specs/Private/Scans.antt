@@ -1,8 +1,7 @@
 -- The sets by which scans read a text: a byte that is in none does not leave the row of the set.
-use Rattle.std.specs.Prelude.{◌≡◌, ◌<◌, ◌≤◌, ◌+◌, ℕ, Bool, List, Some, false, length}
+use Rattle.std.specs.Prelude.{◌≡◌, ◌<◌, ◌+◌, ℕ, Bool, List, Some, false}
 use Rattle.std.specs.Prelude.{slice_index_or}
-use Rattle.byte_set.specs.Sets.{HasNone, is_member}
-use Rattle.determinize_below.specs.Semantics.{Text}
+use Rattle.byte_set.specs.Sets.{is_member}
 use Rattle.determinize_dense.specs.Table.{Table, row_over}
 use Rattle.determinize_dense.specs.declared.scans.TheConstants.{SETS}
 
@@ -15,9 +14,3 @@ IsStaying d r set = (byte : ℕ) → byte < 256 → is_member set byte ≡ false
 abbrev pub AreAllStaying : Table → ℕ → List (List Bool) → Type 0
 AreAllStaying d first sets = (k : ℕ) (other : List Bool) → k < SETS
     → IsStaying d (first + k) (slice_index_or sets k other)
-
--- no byte of a text from one index up to another is in a set
-pub record IsPassed (set : List Bool) (text : Text) (from to : ℕ) : Type 0 where
-  pub none : HasNone (is_member set) text.bytes from to
-  pub more : from ≤ to
-  pub within : to ≤ length text.bytes

@@ -19,6 +19,10 @@ use Rattle.determinize_lazy.proofs.steps.Rule.{grows-more, grows_none}
 use Rattle.determinize_lazy.proofs.walking.CachedWalks.{cut_off-first, cut_off-later, drop-one, left_whole}
 use Rattle.determinize_table.specs.declared.tag.LastMatch.{LastMatch}
 use Rattle.determinize_lazy.proofs.steps.Cursors.{stepped_at}
+use Rattle.determinize_lazy.specs.Private.{GoesToCached}
+use Rattle.determinize_table.specs.Looping.{IsLoopOver, IsScanned}
+use Rattle.determinize_engine.proofs.Texts.{unit-byte}
+use Rattle.std.specs.Prelude.{slice_index, zero, suc, ◌-◌}
 
 -- what the tag of a value says: whether a search ends there
 pub tag-last : (earliest : Bool) (bits : ℕ) (v : Value) {test answer : Bool} → tag_in bits ≡ tag_of v
@@ -172,6 +176,64 @@ next-cached x is at position u id looked bits tagged earliest told more last fou
         grows = grows_none;
       },
     )
+
+-- a search that reads nothing
+pub goes_none : (x : LazyValue) (earliest : Bool) (text : Text) (at : CachedPosition) → IsCachedPosition x at
+    → at.read ≤ length text.bytes → GoesToCached earliest text (cached_place x at) x at
+goes_none x earliest text at position within = record {
+  position = position;
+  forward = omega arith;
+  within = within;
+  come = λ e us begins. come_none refl;
+  grows = grows_none;
+}
+
+-- a scan passes bytes over which a state has a transition to itself, at which no search ends
+module _ (x : LazyValue) (sound : IsSound (cache x)) (text : Text) (at : CachedPosition)
+    (position : IsCachedPosition x at) (within : at.read ≤ length text.bytes) {to : ℕ}
+    (s : IsScanned (cache x).table (slice_index_or x.states at.id dead) text.bytes at.read to) where
+  abbrev value : Value
+  value = slice_index_or x.states at.id dead
+
+  there : slice_get x.states at.id ≡ Some value
+  there = slice_get-get_or x.states at.id dead position.ready.cursor
+
+  reports : (n : ℕ) (found : Option HalfMatch) → is_last_tag true (tag_of value) ≡ false
+      → found ≡ option_or (match_reported n (tag_of value).pattern) found
+  reports n found plain = grind (arith, plain)
+
+  abbrev after : ℕ → CachedPosition
+  after n = record { id = at.id; read = at.read + n; last = at.last }
+
+  one-more : (n b : ℕ) → is_last_tag true (tag_of value) ≡ false → IsLoopOver (cache x).table value b
+      → IsNext {A = Unit {0}} (cached_place x (after n)) (Some b) x (with_cursor (after (n + 1)))
+  one-more n b plain over =
+      let step : IsStepped {A = Unit {0}} {E = Unit {0}} x value (Some b) (Ok (Cached at.id)) x =
+      stepped_at x value (Some b) at.id sound (over ∙ sym there, position.ready.cursor) in
+      let read : at.read + (n + 1) ≡ at.read + n + 1 = omega arith in
+      let last = reports (at.read + n) (match_of at.last) plain in record {
+        position = record { ready = step.ready; unmatched = λ e. absurd (omega (arith, e)) };
+        place = rw read (cc (step.value, step.after, last));
+        grows = grows_none;
+      }
+
+  goes-by : (earliest : Bool) (n : ℕ) → at.read + n ≤ to
+      → GoesToCached earliest text (cached_place x at) x (after n)
+  goes-by earliest zero few =
+      let none : at.read + 0 ≡ at.read = omega arith in rw none (goes_none x earliest text at position within)
+  goes-by earliest (suc n) few =
+      let plain = s.plain (omega (arith, few)) in
+      let b : ℕ = slice_index text.bytes (at.read + n) in
+      let next : n + 1 ≡ suc n = omega arith in
+      rw (← next) (goes-next (goes-by earliest n (omega (arith, few)))
+      (unit-byte text.bytes (at.read + n) b (omega (arith, few, s.within)) refl)
+      (grind (arith, plain)) (one-more n b plain (s.over (at.read + n) (omega arith) (omega (arith, few)))))
+
+  pub goes-scanned : (earliest : Bool)
+      → GoesToCached earliest text (cached_place x at) x (record { id = at.id; read = to; last = at.last })
+  goes-scanned earliest =
+      let whole : at.read + (to - at.read) ≡ to = omega (arith, s.more) in
+      rw whole at (goes-by earliest (to - at.read) (omega (arith, s.more)))
 
 -- the last match where a search ends is that of the walk over all units
 pub last-is : (us : List (Option ℕ)) (p : Place)

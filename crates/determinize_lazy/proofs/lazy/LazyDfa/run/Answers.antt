@@ -1,8 +1,8 @@
 use Rattle.determinize_lazy.proofs.lazy.LazyDfa.run.Goals as goal
 
-pub returns-in-Cached : goal.returns-in-Cached
-returns-in-Cached g c =
-    let h = c.follow-at.ensures in rw (c.with_cursor.ensures, c.in-Cached.is) record {
+pub returns-in-Cached-clause-goes : goal.returns-in-Cached-clause-goes
+returns-in-Cached-clause-goes g c =
+    let h = c.follow_and_learn.ensures.goes in rw (c.with_cursor.ensures, c.in-Cached.is) record {
       position = record {
         ready = record { cursor = h.position.ready.cursor; known = tt };
         unmatched = h.position.unmatched;

@@ -20,4 +20,4 @@ returns-in_err-next-clause-failed g c =
 pub loop-at-preserved : goal.loop-at-preserved
 loop-at-preserved g c =
     goes_twice (goes-next c.loop-at.invariant c.byte-byte.ensures
-    (more g (goal.at.loop-at-preserved g c).After-byte-byte) c.in_ok-next.ensures.next) c.run-at.ensures
+    (more g (goal.at.loop-at-preserved g c).After-byte-byte) c.in_ok-next.ensures.next) c.run-at.ensures.goes
