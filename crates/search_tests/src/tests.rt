@@ -18,6 +18,7 @@ mod finders;
 mod idle;
 mod kept;
 mod linear;
+mod loops;
 mod patterns;
 mod pieces;
 mod reading;

@@ -1,10 +1,12 @@
 //! Whole DFAs in bytes: a file that was written by hand, and what is wrong with others.
 
 use crate::tests::dense::{dfa, nfa};
-use crate::tests::{expect_end, holds, same};
+use crate::tests::patterns::regex_of;
+use crate::tests::{Ends, expect_end, expect_matches, holds, same};
 use determinize_below::{Anchored, Input, MatchKind};
 use determinize_dense::{Automaton, Overlapping};
 use determinize_stored::{FormatError, FormatErrorKind, StoredDfa};
+use determinize_uses::from_bytes::pieces;
 use std::mem;
 use std::process::Abort;
 
@@ -105,6 +107,37 @@ fn a_file_is_read(rt: HostRuntime) {
     same(&rt, dfa.match_len(last), 1);
     holds(&rt, dfa.is_match_state(last) && !dfa.is_dead_state(last));
     holds(&rt, dfa.is_dead_state(dfa.next_state(last, b'a')));
+}
+
+/// The tokens of `if iffy if` by `if`, `[a-z]+` and a blank, and all matches, worked out by hand.
+static PIECES: [(MatchKind, &[Ends]); 2] = [
+    (
+        MatchKind::All,
+        &[(0, 0, 2), (2, 2, 3), (1, 3, 7), (2, 7, 8), (0, 8, 10)],
+    ),
+    (
+        MatchKind::LeftmostFirst,
+        &[
+            (0, 0, 2),
+            (2, 2, 3),
+            (0, 3, 5),
+            (1, 5, 7),
+            (2, 7, 8),
+            (0, 8, 10),
+        ],
+    ),
+];
+
+/// Finds the tokens and all matches by the bytes of a DFA.
+#[test]
+fn a_file_finds_tokens_and_matches(rt: HostRuntime) {
+    let regex = regex_of(&rt, &["if", "[a-z]+", " "]);
+    for &(kind, wanted) in &PIECES {
+        let dfa = dfa(&rt, regex.nfa(), kind, 100);
+        let bytes = dfa.to_bytes(rt.alloc()).expect(&rt, "memory");
+        let found = pieces(rt.alloc(), &bytes, b"if iffy if");
+        expect_matches(&rt, &found.expect(&rt, "a DFA"), wanted);
+    }
 }
 
 #[test]
