@@ -2,6 +2,10 @@
 //! They are one text and not a table, since a proof would read a table text by text wherever it is
 //! named.
 
+ghost use Rattle.std.specs.Prelude.{◌≡◌, bytes_eq, is_some, map};
+ghost use Rattle.std.specs.List.{list_any};
+ghost use Rattle.example_walks.specs.Names.{is_name, names};
+
 use crate::fields::Fields;
 
 /// An example walk.
@@ -16,24 +20,18 @@ pub struct Example {
 }
 
 impl Example {
-    /// Returns the example with this name, or `None` if none has it.
-    pub fn named(name: &str) -> Option<Example> {
-        for part in EXAMPLES.split("= ") {
-            if let Some((known, rest)) = part.split_once('\n') {
-                if known == name {
-                    let (job, output) = rest.split_once('\n')?;
-                    let name = known;
-                    return Some(Example { name, job, output });
+    /// Returns the example with this name, or one with an empty job if none has it.
+    pub fn of(name: &'static str) -> Example {
+        for part in examples().split("= ") {
+            if let Some((first, rest)) = part.split_once('\n') {
+                if first == name {
+                    let (job, output) = rest.split_once('\n').unwrap_or((rest, ""));
+                    return Example { name, job, output };
                 }
             }
         }
-        None
-    }
-
-    /// Returns the example with this name, or one with an empty job if none has it.
-    pub fn of(name: &'static str) -> Example {
         let (job, output) = ("", "");
-        Example::named(name).unwrap_or(Example { name, job, output })
+        Example { name, job, output }
     }
 
     /// Returns the fields of the job.
@@ -43,8 +41,30 @@ impl Example {
     }
 }
 
+/// Returns the example with this name, or `None` if none has it.
+pub fn named(name: &str) -> Option<Example>
+    ensures { is_some result ≡ is_name name.now }
+{
+    find(names(), name)
+}
+
+/// Returns the example with this name if it is among these names, or `None` if it is not.
+fn find(names: &'static [&'static str], name: &str) -> Option<Example>
+    ensures { is_some result ≡ list_any (λ known. bytes_eq known.now name.now) names.now }
+{
+    for known in names {
+        if *known == name {
+            return Some(Example::of(known));
+        }
+    }
+    None
+}
+
 /// Returns the names of the examples.
-pub fn names() -> &'static [&'static str] {
+#[tactic(auto, unfolding(crate::specs::Names::names))]
+pub fn names() -> &'static [&'static str]
+    ensures { map (λ name. name.now) result.now ≡ names }
+{
     NAMES.as_slice()
 }
 
@@ -57,8 +77,13 @@ static NAMES: [&str; 45] = [
     "31c", "32",
 ];
 
-/// The examples: for each a line with its name, one with its job, and its output. Only
-/// [`Example::named`] names this text: a proof reads all of it at each mention.
+/// Returns the examples.
+fn examples() -> &'static str {
+    EXAMPLES
+}
+
+/// The examples: for each a line with its name, one with its job, and its output. Only [`examples`]
+/// names this text: a proof reads all of it at each mention.
 const EXAMPLES: &str = "\
 = 2
 walk text=- | B:61>1 M:0

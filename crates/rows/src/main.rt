@@ -11,7 +11,7 @@ fn main(rt: HostRuntime) -> ExitCode {
     let mut err = rt.stderr();
     let status = match arguments(&rt) {
         Ok(words) => run_rows(rt.alloc(), words.as_slice(), &mut out, &mut err),
-        Err(error) => report(RowError::of_arguments(&error), &mut err),
+        Err(error) => report(Err(RowError::of_arguments(&error)), &mut err),
     };
     ExitCode::from(status)
 }
