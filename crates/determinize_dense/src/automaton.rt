@@ -1,7 +1,7 @@
 //! What reads a whole DFA row by row, however it is kept: in memory, or in the bytes of a file.
 //!
 //! A [`RowId`] is the number of a row. Every call takes any id: one that is no row of the DFA, as
-//! one of a larger DFA may be, lists no patterns, and the dead row follows it.
+//! one of a larger DFA may be, lists no patterns, and row 0 follows it.
 
 ghost use Rattle.std.specs.Prelude.{◌≡◌, ◌+◌, ◌*◌, ℕ, List, Option, Some, None, drop, length, nat_eq, slice_get, true};
 ghost use Rattle.std.specs.Iterator.{YieldsFirst, item_count};
