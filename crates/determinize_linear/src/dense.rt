@@ -6,7 +6,7 @@
 //! row that it was at is marked, if the next row listed no match. A later walk begins where that
 //! match ends or further on. So a marked pair that it comes to was marked after the match, from
 //! where no further match was listed, and the walk ends there: all walks go on alike from a pair.
-//! It ends in the dead row, too, whose pairs are marked from the start.
+//! It ends in row 0, too, if that is known to be dead: its pairs are then marked from the start.
 //!
 //! No later walk is at the position where a walk begins, except to begin there. So its first step
 //! marks nothing, and neither does the last one of a walk that reads the whole text.
@@ -49,7 +49,7 @@ struct Walk<'d, D: Automaton> {
     walker: Walker<'d, D>,
     /// The position of the next unit.
     at: usize,
-    /// The last row that listed a match, or no row.
+    /// The last row that listed a match, or an id that is no row's.
     listing: RowId,
     /// The end of its match.
     end: usize,
@@ -204,7 +204,7 @@ pub(crate) fn walk_from<D: Automaton, A: Allocator, C: Counter>(
     walk.found()
 }
 
-/// Returns marks for walks over a text: those of row 0 are set, if it is dead.
+/// Returns marks for walks over a text: those of row 0 are set, if it is known to be dead.
 pub(crate) fn new_marks<D: Automaton, A: Allocator>(
     alloc: A,
     dfa: &D,
@@ -447,13 +447,15 @@ fn find_all_with<D: Automaton, A: Allocator + Copy, C: Counter>(
     find_all_by(alloc, &mut walks, input, is_anchored(dfa, input), counter)
 }
 
-/// Returns all matches of an input, in their order: the same as [`crate::find_all`] of the NFA.
+/// Returns all matches of an input, in their order: the same as [`crate::find_all`] of an NFA that
+/// the DFA `finds`.
 ///
 /// The DFA must be for `MatchKind::LeftmostFirst`, and its NFA must read forward; it needs no
-/// prefix. If the two starts of the NFA are one state, the input is anchored. The bytes next to the
-/// range are seen by assertions. The number of steps is linear in the length of the range, as
-/// [`find_all_counted`] says. The memory is, too: a bit for each row of the DFA at each index of
-/// the range, and at most eight bytes for each entry of its table.
+/// prefix. If the two starts of the NFA of a `Dfa` are one state, the input is anchored. A DFA from
+/// a file does not know this, and searches from each index: then pass `Anchored::Yes`. The bytes
+/// next to the range are seen by assertions. The number of steps is linear in the length of the
+/// range, as [`find_all_counted`] says. The memory is, too: a bit for each row of the DFA at each
+/// index of the range, and at most eight bytes for each entry of its table.
 pub fn find_all<D: Automaton, A: Allocator + Copy>(
     alloc: A,
     dfa: &D,

@@ -17,7 +17,7 @@ pub(crate) trait Matcher {
     /// The error of a search: `AllocError`, or `Infallible` if no search fails.
     type Error: Drop;
 
-    /// By what it searches, which no search changes.
+    /// What it searches by: an NFA or a DFA, which no search changes.
     ghost By: { Type 0 };
 
     ghost by: { Self → By };

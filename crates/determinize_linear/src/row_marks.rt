@@ -1,5 +1,5 @@
 //! Marks of the pairs of a position and a row from which the next step of a walk listed no match,
-//! and of those with row 0, the row of the dead state.
+//! and of those with row 0, if that is known to be the row of the dead state.
 //!
 //! A walk knows its row by the offset in the table of the DFA, which is the number of the row times
 //! the number of columns. So the words of a row begin at its offset times the number of words for

@@ -6,10 +6,10 @@ use determinize_linear::{dense, lexer};
 use determinize_stored::{FormatError, StoredDfa};
 use std::alloc::{AllocError, Global};
 
-/// An error of `pieces`.
+/// An error of `tokens_or_matches`.
 #[derive(Debug, Drop)]
 pub enum Error {
-    /// The bytes are not those of a DFA.
+    /// The bytes do not have the format of a DFA.
     Format(FormatError),
     /// The NFA of the DFA reads backward.
     Backward,
@@ -18,8 +18,8 @@ pub enum Error {
 }
 
 /// Returns the tokens of a text by a DFA for `MatchKind::All`, and all its matches by one for
-/// `MatchKind::LeftmostFirst`.
-pub fn pieces(alloc: Global, bytes: &[u8], text: &[u8]) -> Result<Vec<Match>, Error> {
+/// `MatchKind::LeftmostFirst`, from each index on.
+pub fn tokens_or_matches(alloc: Global, bytes: &[u8], text: &[u8]) -> Result<Vec<Match>, Error> {
     let dfa = StoredDfa::from_bytes(bytes).map_err(Error::Format)?;
     if dfa.is_reverse() {
         return Err(Error::Backward);

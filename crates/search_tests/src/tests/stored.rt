@@ -6,7 +6,7 @@ use crate::tests::{Ends, expect_end, expect_matches, holds, same};
 use determinize_below::{Anchored, Input, MatchKind};
 use determinize_dense::{Automaton, Overlapping};
 use determinize_stored::{FormatError, FormatErrorKind, StoredDfa};
-use determinize_uses::from_bytes::pieces;
+use determinize_uses::from_bytes::tokens_or_matches;
 use std::mem;
 use std::process::Abort;
 
@@ -135,7 +135,7 @@ fn a_file_finds_tokens_and_matches(rt: HostRuntime) {
     for &(kind, wanted) in &PIECES {
         let dfa = dfa(&rt, regex.nfa(), kind, 100);
         let bytes = dfa.to_bytes(rt.alloc()).expect(&rt, "memory");
-        let found = pieces(rt.alloc(), &bytes, b"if iffy if");
+        let found = tokens_or_matches(rt.alloc(), &bytes, b"if iffy if");
         expect_matches(&rt, &found.expect(&rt, "a DFA"), wanted);
     }
 }
