@@ -1,6 +1,6 @@
 //! The part of a search that only reads the cache: from a start state whose id is kept, over cached
 //! transitions. `search` continues at the first transition that is not cached, and behind the first
-//! 1024 bytes of a long text.
+//! bytes of a text that is longer than 1024 bytes.
 
 ghost use Rattle.std.specs.Prelude.{◌≡◌, ◌+◌, ◌<◌, ◌≤◌, Bool, length, option_map, slice_get, slice_index_or, Some};
 ghost use Rattle.std.specs.Option.{IfSome};
@@ -16,8 +16,13 @@ use determinize_engine::text::Text;
 use determinize_table::{LastMatch, LazyStateId};
 use std::alloc::Allocator;
 
-/// The number of bytes that a search reads without scans: more would make short ones slower.
+/// The number of bytes that a search reads without scans, if the table has no loop or the text is
+/// not longer. With fewer, searches of short texts would take longer.
 const UNSCANNED: usize = 1024;
+
+/// The number of bytes that a search of a longer text reads without scans, if the table has a loop.
+/// With fewer, searches that end soon would take longer.
+const UNSCANNED_BEFORE_LOOP: usize = 64;
 
 /// The number of bytes that a search then reads before it may learn a loop.
 pub(crate) const PATIENCE: usize = 256;
@@ -226,6 +231,20 @@ impl<R: AsNfa, A: Allocator + Copy> LazyDfa<R, A> {
         }
     }
 
+    /// Returns how many bytes of a text are read without scans.
+    #[inline(always)]
+    fn unscanned(&self, len: usize) -> usize
+        ensures { result ≤ len }
+    {
+        if len <= UNSCANNED {
+            len
+        } else if self.table.loop_row() == NO_ROW {
+            UNSCANNED
+        } else {
+            UNSCANNED_BEFORE_LOOP
+        }
+    }
+
     /// Follows cached transitions from a start state over the first bytes of a text.
     #[inline(always)]
     fn follow_first(&self, start: LazyStateId, text: &Text<'_>, earliest: bool) -> CachedPosition
@@ -238,7 +257,7 @@ impl<R: AsNfa, A: Allocator + Copy> LazyDfa<R, A> {
             read: 0,
             last: LastMatch::NONE,
         };
-        self.follow(first, text, text.len().min(UNSCANNED), NO_ROW, earliest)
+        self.follow(first, text, self.unscanned(text.len()), NO_ROW, earliest)
     }
 
     /// Follows cached transitions over a text and the unit ahead of it, up to a state at which the

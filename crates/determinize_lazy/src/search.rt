@@ -4,9 +4,10 @@
 //! transitions from row to row (`cached`). For each byte `follow` reads two numbers in the row
 //! of the current state: the entry of the byte, which is the offset of the next row, and the tag.
 //! It neither allocates nor hashes, and computes no state. From the first transition that is not
-//! cached, `search_rest` continues (its loop is `search_bytes`): it computes that step and follows
-//! cached transitions again. If the id of the start state is not kept, it computes that state and
-//! looks it up first.
+//! cached, or behind the first bytes of a long text, `search_rest` continues (its loop is
+//! `search_bytes`): it takes that step, and follows cached transitions again, with scans over the
+//! loop of the table. If the id of the start state is not kept, it computes that state and looks it
+//! up first.
 //!
 //! A search ends after the unit ahead of its text, at a dead state (one that records no NFA states)
 //! and, in `is_match`, at the first match state.
@@ -337,8 +338,8 @@ impl<R: AsNfa, A: Allocator + Copy> LazyDfa<R, A> {
         }
     }
 
-    /// Continues a search that came so far as it only read the cache: to a position, or to none,
-    /// since the id of its start state is not kept.
+    /// Continues a search behind what it read without scans and without a computed step: from a
+    /// position, or, if the id of its start state is not kept, from the start.
     #[cold]
     #[inline(never)]
     pub(crate) fn search_rest(
