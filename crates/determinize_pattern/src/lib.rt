@@ -28,5 +28,5 @@ mod utf8;
 
 pub use chars::ClassUnicodeRange;
 pub use class::{ClassBytes, ClassBytesRange};
-pub use nfa::{CompileError, Config, compile};
+pub use nfa::{CompileError, Config, compile, compile_anchored};
 pub use pattern::Pattern;

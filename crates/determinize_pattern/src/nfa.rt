@@ -133,6 +133,32 @@ pub fn compile<A: Allocator + Copy>(
     Ok(compiler.builder.build_with_prefix(start)?)
 }
 
+/// Returns the NFA of the patterns, as `compile` does, but without the prefix: both starts are the
+/// anchored one, so each search by it is anchored. A whole DFA of it has no rows for matches that
+/// begin later, as a lexer needs none.
+///
+/// The errors are those of `compile`.
+pub fn compile_anchored<A: Allocator + Copy>(
+    alloc: A,
+    patterns: &[Pattern],
+    config: Config,
+) -> Result<NFA<A>, CompileError>
+    ensures means { IfOk result (λ nfa. IsNfaOf (map meaning patterns.now) nfa) }
+    ensures anchored { IfOk result (λ nfa. nfa.start_unanchored ≡ nfa.start_anchored) }
+    ensures forward { IfOk result (λ nfa. nfa.reverse ≡ false) }
+    ensures terminator { IfOk result (λ nfa. nfa.terminator ≡ config.look_matcher) }
+    ensures few { IfOk result (λ nfa. length nfa.states ≤ config.state_limit) }
+    ensures nested { config.nest_limit < deepest patterns.now
+        → result ≡ Err (NestLimitExceeded config.nest_limit) }
+{
+    if !are_within(patterns, config.nest_limit) {
+        return Err(CompileError::NestLimitExceeded(config.nest_limit));
+    }
+    let mut compiler = Compiler::new(alloc, config);
+    let start = compiler.all(patterns)?;
+    Ok(compiler.builder.build(start, start)?)
+}
+
 impl<A: Allocator + Copy> Compiler<A> {
     /// Adds the states of all patterns, and returns where they begin.
     fn all(&mut self, patterns: &[Pattern]) -> Result<StateID, CompileError>

@@ -1,6 +1,6 @@
 -- Several patterns, each before its `Match` state, and the NFA of all.
--- Main statements: matches_more, begins_more, begins_all, finds_all, nfa_of_built.
--- Used by: the proofs of `compile` and of the calls that it makes.
+-- Main statements: matches_more, begins_more, begins_all, finds_all, nfa_of_continued, nfa_of_built.
+-- Used by: the proofs of `compile`, `compile_anchored` and of the calls that they make.
 -- Idea: the prefix adds two states, and the NFA has those of the builder.
 use Rattle.std.specs.List.{flat_map}
 use Rattle.std.specs.Prelude.{map, nat_lt, slice_index}
@@ -144,8 +144,14 @@ continues_built b start nfa e = rw e (record {
   forward = refl;
 })
 
+pub continues_without_prefix : (b : BuilderValue) (start : ℕ) (nfa : Nfa) → nfa ≡ built b start start → Continues b nfa
+continues_without_prefix b start nfa e = rw e (record { states = λ q l w. refl; terminator = refl; forward = refl })
+
+pub nfa_of_continued : (b : BuilderValue) (res : List Re) (start : ℕ) (nfa : Nfa) → FindsAll b res start
+    → nfa.start_anchored ≡ start → Continues b nfa → IsNfaOf res nfa
+nfa_of_continued b res start nfa f s c = nfa_of nfa res (λ text k. rw s (f nfa c text k))
+
 pub nfa_of_built : (b : BuilderValue) (res : List Re) (start : ℕ) (nfa : Nfa) → FindsAll b res start
     → nfa ≡ built (prefixed b start) start (length b.states) → IsNfaOf res nfa
 nfa_of_built b res start nfa f e =
-    let s : nfa.start_anchored ≡ start = rw e refl in
-    nfa_of nfa res (λ text k. rw s (f nfa (continues_built b start nfa e) text k))
+    nfa_of_continued b res start nfa f (rw e refl) (continues_built b start nfa e)
