@@ -330,8 +330,9 @@ impl<P: AsSlice<Pattern> + Drop, R: AsNfa, A: Allocator + Copy> Finder for Regex
     }
 }
 
-/// Returns the patterns of texts.
-pub(crate) fn parse_all(alloc: Global, texts: &[&str], flags: Flags) -> Result<Vec<Pattern>, Error>
+/// Returns the patterns of texts, each with the flags that hold where it begins. Returns `Parse`
+/// with the index of the first text that `parse_with` rejects.
+pub fn parse_all(alloc: Global, texts: &[&str], flags: Flags) -> Result<Vec<Pattern>, Error>
     ensures spelled { IfOk result (λ patterns.
         AreSpelled flags (map meaning patterns.items) (map (λ t. t.now) texts.now)) }
     ensures rejected { IfErr result (λ e. IsRejected flags (map (λ t. t.now) texts.now) e) }

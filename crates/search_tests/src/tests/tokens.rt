@@ -4,6 +4,7 @@ use crate::tests::linear::Case;
 use crate::tests::patterns::regex_of;
 use crate::tests::{dense, expect_found, same};
 use determinize_below::MatchKind;
+use determinize_lexer::{Lexer, LexerConfig, rest};
 use determinize_linear::lexer as linear;
 use determinize_regex::Input;
 use determinize_uses::tokens;
@@ -54,6 +55,21 @@ fn tokens_by_hand(rt: HostRuntime) {
         let dfa = dense::dfa(&rt, regex.nfa(), MatchKind::All, 100);
         expect_found(&rt, linear::tokens(rt.alloc(), &dfa, &input), wanted);
     }
+}
+
+/// Cuts each whole text by a lexer, and compares what is left where no token begins.
+#[test]
+fn lexers_by_hand(rt: HostRuntime) {
+    for &(patterns, text, start, end, wanted) in &TOKENS {
+        if start == 0 && end == text.len() {
+            let lexer = Lexer::new(rt.alloc(), patterns, LexerConfig::new());
+            let lexer = lexer.expect(&rt, "few states");
+            expect_found(&rt, lexer.tokens(rt.alloc(), text), wanted);
+        }
+    }
+    let lexer = Lexer::new(rt.alloc(), &["[a-z]+"], LexerConfig::new()).expect(&rt, "few states");
+    let tokens = lexer.tokens(rt.alloc(), b"ab-c").expect(&rt, "memory");
+    assert!(rt; rest(b"ab-c", &tokens) == b"-c");
 }
 
 /// Of bytes `a` each is a token, behind which the others are read: there may be a `b`.

@@ -1,0 +1,31 @@
+-- What a lexer is seen as.
+use Rattle.std.specs.Prelude.{◌≡◌, ℕ, List, false, map}
+use Rattle.determinize_below.specs.declared.search.MatchKind.TheVariants.{All}
+use Rattle.determinize_dense.specs.Least.{IsLeast}
+use Rattle.determinize_dense.specs.Table.{DfaValue}
+use Rattle.determinize_pattern.specs.Compiled.{IsNfaOf}
+use Rattle.determinize_pattern.specs.Meaning.{Re}
+use Rattle.determinize_pattern.specs.Patterns.{meaning}
+use Rattle.determinize_pattern.specs.declared.pattern.Pattern.{Pattern}
+
+-- the patterns, and the line terminator of their assertions
+pub record LexerValue : Type 0 where
+  pub patterns : List Pattern
+  pub terminator : ℕ
+
+-- the meanings of the patterns
+abbrev pub meanings : LexerValue → List Re
+meanings lexer = map meaning lexer.patterns
+
+-- a smallest DFA of all patterns, each search by which is anchored
+pub record IsLexerOf (patterns : List Pattern) (dfa : DfaValue) : Type 0 where
+  pub means : IsNfaOf (map meaning patterns) dfa.nfa
+  pub kind : dfa.kind ≡ All
+  pub forward : dfa.nfa.reverse ≡ false
+  pub anchored : dfa.nfa.start_unanchored ≡ dfa.nfa.start_anchored
+  pub least : IsLeast dfa.nfa dfa.table
+
+-- this is the DFA of a lexer
+pub record IsDfaFor (lexer : LexerValue) (dfa : DfaValue) : Type 0 where
+  pub is : IsLexerOf lexer.patterns dfa
+  pub terminator : dfa.nfa.terminator ≡ lexer.terminator

@@ -1,0 +1,2 @@
+pub mod Lexers
+pub mod Tokens

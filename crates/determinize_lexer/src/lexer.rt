@@ -1,0 +1,154 @@
+//! The type of a lexer.
+
+ghost use Rattle.std.specs.Prelude.{◌≡◌, IfOk, drop, map};
+ghost use Rattle.std.specs.Coded.{codes};
+ghost use Rattle.determinize_below.specs.declared.search.MatchKind.TheVariants as kinds;
+ghost use Rattle.determinize_dense.specs.Least.{IsLeast};
+ghost use Rattle.determinize_find.specs.Streams.{whole};
+ghost use Rattle.determinize_lexer.specs.Lexers.{IsDfaFor, LexerValue, meanings};
+ghost use Rattle.determinize_lexer.specs.Tokens.{AreTokensOf};
+ghost use Rattle.determinize_linear.specs.Tokens.{end_of_last};
+ghost use Rattle.determinize_pattern.specs.contracts.pattern.Pattern as e;
+ghost use Rattle.determinize_regex.specs.Spelled.{AreSpelled};
+
+use crate::error::Error;
+use determinize_below::{Input, Match, MatchKind, NFA};
+use determinize_dense::{Dfa, DfaError};
+use determinize_linear::lexer;
+use determinize_pattern::{Config, Pattern, compile_anchored};
+use determinize_regex::parse_all;
+use determinize_syntax::Flags;
+use std::alloc::{AllocError, Allocator, Global};
+use std::marker::Model;
+
+/// The options of a lexer: its limits, its line terminator, and the flags that hold where a pattern
+/// begins.
+#[derive(Debug, Drop)]
+pub struct LexerConfig {
+    /// The options of `compile_anchored`.
+    pub compile: Config,
+    /// The most states of the whole DFA before it is minimized.
+    pub dfa_limit: usize,
+    /// The flags that hold where the text of a pattern begins.
+    pub flags: Flags,
+}
+
+impl LexerConfig {
+    /// Returns the usual options: those of `Config::new`, 10,000 states of the whole DFA, and no
+    /// flag.
+    pub fn new() -> LexerConfig {
+        LexerConfig {
+            compile: Config::new(),
+            dfa_limit: 10_000,
+            flags: Flags::new(),
+        }
+    }
+}
+
+/// Patterns, one for each kind of token, and their smallest whole DFA. The first pattern is pattern
+/// 0, and is preferred to those behind it where both match the same bytes.
+///
+/// It owns all its parts, so a function can return it, and a struct can hold it. Nothing in it
+/// changes, so it may be shared.
+#[derive(Drop)]
+pub struct Lexer {
+    patterns: Vec<Pattern>,
+    dfa: Dfa<NFA>,
+}
+
+impl Model for Lexer {
+    ghost use Rattle.determinize_lexer.specs.Lexers.{IsLexerOf};
+
+    ghost Value = { LexerValue };
+
+    ghost coded = { Prim.hlevel (codes, e.the_row.coded) };
+
+    ghost view = { λ l. record { patterns = l.patterns.items; terminator = l.dfa.nfa.terminator } };
+
+    ghost invariant = { λ l. IsLexerOf l.patterns.items l.dfa };
+}
+
+impl Lexer {
+    /// Returns the lexer of pattern strings. The first is pattern 0.
+    ///
+    /// Returns `Patterns` with the index of the first text that `parse_with` rejects, or if
+    /// `compile_anchored` returns an error, and `Dfa` if the whole DFA would have too many states
+    /// or an allocation fails.
+    pub fn new(alloc: Global, patterns: &[&str], config: LexerConfig) -> Result<Lexer, Error>
+        ensures spelled { IfOk result (λ lexer.
+            AreSpelled config.flags (meanings lexer) (map (λ t. t.now) patterns.now)) }
+        ensures terminator { IfOk result (λ lexer.
+            lexer.terminator ≡ config.compile.look_matcher) }
+    {
+        let parsed = parse_all(alloc, patterns, config.flags)?;
+        Lexer::from_patterns(alloc, parsed, config)
+    }
+
+    /// Returns the lexer of patterns. The errors are as in `new`, but none is of a text.
+    pub fn from_patterns(
+        alloc: Global,
+        patterns: Vec<Pattern>,
+        config: LexerConfig,
+    ) -> Result<Lexer, Error>
+        ensures patterns { IfOk result (λ lexer. lexer.patterns ≡ patterns.items) }
+        ensures terminator { IfOk result (λ lexer.
+            lexer.terminator ≡ config.compile.look_matcher) }
+    {
+        let nfa = compile_anchored(alloc, &patterns, config.compile)?;
+        let dfa = smallest(alloc, nfa, config.dfa_limit)?;
+        Ok(Lexer { patterns, dfa })
+    }
+
+    /// Returns the patterns.
+    pub fn patterns(&self) -> &[Pattern]
+        ensures { result.now ≡ self.now.patterns }
+    {
+        self.patterns.as_slice()
+    }
+
+    /// Returns the whole DFA, to be drawn or kept as bytes. Each search by it is anchored.
+    pub fn dfa(&self) -> &Dfa<NFA>
+        ensures { IsDfaFor self.now result.now }
+    {
+        &self.dfa
+    }
+
+    /// Returns the tokens of a text: each begins where the one before it ends, has one byte or
+    /// more, and is the longest match there, of the first pattern that has it. The list ends with
+    /// the text, or where no token begins: [`rest`] is what is left.
+    ///
+    /// The number of steps is linear in the length of the text, for any patterns
+    /// (`lexer::tokens_counted` of `determinize_linear`). The list and a mark for each row and each
+    /// byte are allocated from `alloc`.
+    pub fn tokens<A: Allocator + Copy>(
+        &self,
+        alloc: A,
+        text: &[u8],
+    ) -> Result<Vec<Match, A>, AllocError>
+        ensures { IfOk result (λ found. AreTokensOf self.now.terminator (meanings self.now)
+            (whole text.now) found.items) }
+    {
+        lexer::tokens(alloc, &self.dfa, &Input::new(text))
+    }
+}
+
+/// Returns the smallest whole DFA under `MatchKind::All`.
+fn smallest(alloc: Global, nfa: NFA, limit: usize) -> Result<Dfa<NFA>, DfaError>
+    ensures nfa { IfOk result (λ dfa. dfa.nfa ≡ nfa) }
+    ensures kind { IfOk result (λ dfa. dfa.kind ≡ kinds.All) }
+    ensures least { IfOk result (λ dfa. IsLeast dfa.nfa dfa.table) }
+{
+    let dfa = Dfa::build(alloc, nfa, MatchKind::All, limit)?;
+    Ok(dfa.into_minimized(alloc)?)
+}
+
+/// Returns the bytes of a text behind the last of its tokens. They are none if the tokens cover the
+/// text; otherwise no token begins where they do.
+pub fn rest<'t>(text: &'t [u8], tokens: &[Match]) -> &'t [u8]
+    ensures { result.now ≡ drop (end_of_last 0 tokens.now) text.now }
+{
+    match tokens.last() {
+        Some(last) => text.get(last.end..).unwrap_or(&[]),
+        None => text,
+    }
+}
