@@ -2,4 +2,5 @@ pub mod characters
 mod classes
 mod compiled
 pub mod entries
+mod in_lines
 mod levels

@@ -4,6 +4,7 @@ pub mod Compiled
 pub mod Examples
 pub mod Laws
 pub mod LeftmostOf
+pub mod Lines
 pub mod Meaning
 pub mod Nesting
 pub mod Patterns

@@ -5,6 +5,7 @@ ghost use Rattle.determinize_below.specs.declared.look.Look.{Look as Assertion};
 ghost use Rattle.determinize_pattern.specs.Characters.{IsCharClass, ReadsCharacters};
 ghost use Rattle.determinize_pattern.specs.Examples.{a_or_lazy_star, a_or_nothing, a_then_lazy_b, boundary_or_a, first_end, lazy_star_inside, nothing_or_a, star_of_lazy, star_of_lazy_inside, star_of_star, star_or_b, text_aa, text_aab, text_ab, text_abb};
 ghost use Rattle.determinize_pattern.specs.Laws.{AccentMatches, EachCharEndsOnce, EachCharIsPreferred, EachCharIsUtf8, EachEndIsBoundary, EachEndMatches, EachLeftmostIsOf, EachStartIsBoundary};
+ghost use Rattle.determinize_pattern.specs.Lines.{EndsInLine, EndsInPlace, LeftmostInLine, NoneInLine, SomeInLine};
 ghost use Rattle.determinize_pattern.specs.Meaning.{Look, Re};
 ghost use Rattle.determinize_pattern.specs.Patterns.{IsClass, choice, literal, repeated, sequence};
 
@@ -43,6 +44,17 @@ pub fn boundaries_law()
         → ReadsCharacters (repeated min max greedy re) }
     ensures end { EachEndIsBoundary }
     ensures start { EachStartIsBoundary }
+{}
+
+/// States that a pattern that does not read the line terminator has, from a position of a line, the
+/// ends that it has in the line with the bytes around it, and in the line alone if none of its
+/// assertions tells the terminator from an end of the text.
+pub fn lines_law()
+    ensures in_place { EndsInPlace }
+    ensures in_line { EndsInLine }
+    ensures leftmost { LeftmostInLine }
+    ensures none { NoneInLine }
+    ensures some { SomeInLine }
 {}
 
 /// States the end of the preferred match for loops whose body may read nothing, where engines
