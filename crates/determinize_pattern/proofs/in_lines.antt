@@ -1,3 +1,4 @@
 pub mod Edges
+pub mod FirstLines
 pub mod LeftmostLines
 pub mod Placed

@@ -5,7 +5,7 @@ ghost use Rattle.determinize_below.specs.declared.look.Look.{Look as Assertion};
 ghost use Rattle.determinize_pattern.specs.Characters.{IsCharClass, ReadsCharacters};
 ghost use Rattle.determinize_pattern.specs.Examples.{a_or_lazy_star, a_or_nothing, a_then_lazy_b, boundary_or_a, first_end, lazy_star_inside, nothing_or_a, star_of_lazy, star_of_lazy_inside, star_of_star, star_or_b, text_aa, text_aab, text_ab, text_abb};
 ghost use Rattle.determinize_pattern.specs.Laws.{AccentMatches, EachCharEndsOnce, EachCharIsPreferred, EachCharIsUtf8, EachEndIsBoundary, EachEndMatches, EachLeftmostIsOf, EachStartIsBoundary};
-ghost use Rattle.determinize_pattern.specs.Lines.{EndsInLine, EndsInPlace, LeftmostInLine, NoneInLine, SomeInLine};
+ghost use Rattle.determinize_pattern.specs.Lines.{EndsInLine, EndsInPlace, LeftmostInLine, NoneInLine, NoneIsFirst, SomeInLine, SomeIsFirst};
 ghost use Rattle.determinize_pattern.specs.Meaning.{Look, Re};
 ghost use Rattle.determinize_pattern.specs.Patterns.{IsClass, choice, literal, repeated, sequence};
 
@@ -55,6 +55,14 @@ pub fn lines_law()
     ensures leftmost { LeftmostInLine }
     ensures none { NoneInLine }
     ensures some { SomeInLine }
+{}
+
+/// States that where the matches of patterns stay in a line, a search of a block of lines finds the
+/// first line with a match: that in which the leftmost match ends, or none. A terminator at the end
+/// of the block is left out of the search, since no line begins after it.
+pub fn first_line_law()
+    ensures none { NoneIsFirst }
+    ensures some { SomeIsFirst }
 {}
 
 /// States the end of the preferred match for loops whose body may read nothing, where engines

@@ -1,6 +1,6 @@
 -- The ends of a pattern in a line are those of the line alone.
 -- Main statements: ends_in_place, ends_in_line.
--- Used by: nothing yet.
+-- Used by: LeftmostLines, FirstLines and lines_law.
 -- Idea: the assertions of lines do not tell a terminator from an end of the text.
 use Rattle.std.specs.List.{slice_range}
 use Rattle.std.specs.Prelude.{nat_lt, slice_get}
@@ -61,13 +61,16 @@ module _ (t : ℕ) (p q r s : Option ℕ) (behind : Alike t p r) (ahead : Alike 
   holds_alike WordStartHalfUnicode h = rw ((words h).0) refl
   holds_alike WordEndHalfUnicode h = rw ((words h).1) refl
 
+pub length-line : (bytes : List ℕ) (a b : ℕ) → b ≤ length bytes → length (slice_range bytes a b) ≡ b - a
+length-line bytes a b within = simp (length-take, length-drop) (omega arith)
+
 module _ (t : ℕ) (text : Text) (a b : ℕ) (order : a ≤ b) (within : b ≤ length text.bytes)
     (stops : is_edge t (after_at text b) ≡ true) where
   abbrev row : List ℕ
   row = slice_range text.bytes a b
 
   row_length : length row ≡ b - a
-  row_length = simp (length-take, length-drop) (omega arith)
+  row_length = length-line text.bytes a b within
 
   inside : (k : ℕ) → k < length row → slice_get text.bytes (a + k) ≡ slice_get row k
   inside k l = let m : k < b - a = omega (arith, row_length) in
@@ -112,8 +115,8 @@ module _ (t : ℕ) (text : Text) (a b : ℕ) (order : a ≤ b) (within : b ≤ l
 
 pub ends_in_line : EndsInLine
 ends_in_line t text a k b lines l re h = ends_of_row t text a b lines.order lines.within lines.stops None None
-    (is_of_lines t) (Alike t) (λ p q e. inl e) (λ p q u v x y look o. holds_alike t p q u v x y look o) (inr (lines.starts, refl))
-    (inr (lines.stops, refl)) k l re h
+    (is_of_lines t) (Alike t) (λ p q e. inl e) (λ p q u v x y look o. holds_alike t p q u v x y look o)
+    (inr (lines.starts, refl)) (inr (lines.stops, refl)) k l re h
 
 pub ends_in_place : EndsInPlace
 ends_in_place t text a k b l within stops re h = ends_of_row t text a b (omega arith) within stops

@@ -4,51 +4,48 @@
 -- Idea: an end of the line stays in the line, and a loop in the line has rounds enough.
 use Rattle.std.specs.List.{flat_map}
 use Rattle.std.specs.Prelude.{cond, nat_lt, slice_get}
-use Rattle.std.proofs.Common.{◌≡◌, ◌-◌, ◌+◌, ◌<◌, ◌≤◌, ◌∙◌, ◌∷◌, ◌&&◌, ℕ, Bool, List, Some, [], ap, arith, false, length, ltb-false, ltb-true, map, not, refl, suc, sym, true, zero}
-use Rattle.std.proofs.lemmas.Bool.{false≢true}
+use Rattle.std.proofs.Common.{◌≡◌, ◌-◌, ◌+◌, ◌<◌, ◌≤◌, ◌∙◌, ◌∷◌, ℕ, Bool, List, Some, [], ap, arith, false, length, ltb-false, ltb-true, map, refl, suc, sym, true, zero}
+use Rattle.std.proofs.lemmas.Bool.{and_parts, not-true}
 use Rattle.std.proofs.lemmas.List.{map-append}
 use Rattle.std.proofs.lemmas.List.Folds.{flat_map-map}
 use Rattle.std.proofs.lemmas.Option.{slice_get_past}
 use Rattle.ordered_reach.proofs.Cases.{by_cases, by_test}
-use Rattle.ordered_reach.proofs.lists.Elements.{In, In_head, In_tail, flat_map_same}
+use Rattle.ordered_reach.proofs.lists.Elements.{In, flat_map_same}
+use Rattle.ordered_reach.proofs.lists.Pieces.{flat_map_none}
 use Rattle.determinize_below.specs.Semantics.{Text}
 use Rattle.determinize_below.specs.declared.look.Look.{Look as Assertion}
 use Rattle.determinize_pattern.proofs.entries.Ends.{Onward, ends_onward}
 use Rattle.determinize_pattern.specs.Lines.{stays_by}
 use Rattle.determinize_pattern.specs.Meaning.{Byte, Empty, Look, Or, Plus, Re, Then, ends, holds_at, is_in, prefer, rounds}
 
-pub both_left : (p q : Bool) → (p && q) ≡ true → p ≡ true
-both_left true q h = refl
-both_left false q h = absurd (false≢true h)
+map_flat_map : {A B X : Type 0} (f : A → B) (g : X → List A) (xs : List X)
+    → map f (flat_map g xs) ≡ flat_map (λ x. map f (g x)) xs
+map_flat_map f g [] = refl
+map_flat_map f g (x ∷ xs) = rw (map-append f (g x) (flat_map g xs), map_flat_map f g xs) refl
 
-pub both_right : (p q : Bool) → (p && q) ≡ true → q ≡ true
-both_right true q h = h
-both_right false q h = absurd (false≢true h)
-
-not_true : (p : Bool) → not p ≡ true → p ≡ false
-not_true true h = absurd (false≢true h)
-not_true false h = refl
-
-module _ {A B : Type 0} (f : A → B) where
-  pub map_flat_map : {X : Type 0} (g : X → List A) (xs : List X) → map f (flat_map g xs) ≡ flat_map (λ x. map f (g x)) xs
-  map_flat_map g [] = refl
-  map_flat_map g (x ∷ xs) = rw (map-append f (g x) (flat_map g xs), map_flat_map g xs) refl
-
-pub flat_map_none : {X A : Type 0} (g : X → List A) (xs : List X) → ((x : X) → In x xs → g x ≡ []) → flat_map g xs ≡ []
-flat_map_none g [] h = refl
-flat_map_none g (x ∷ xs) h = rw (h x (In_head x xs), flat_map_none g xs (λ y k. h y (In_tail y x xs k))) refl
+each_none : {X A : Type 0} (g : X → List A) (xs : List X) → ((x : X) → In x xs → g x ≡ []) → flat_map g xs ≡ []
+each_none g xs h = flat_map_same g (λ x. []) xs h ∙ flat_map_none (λ x. []) xs (λ x. refl)
 
 prefer_none : (greedy : Bool) (j : ℕ) → prefer greedy [] (j ∷ []) ≡ j ∷ []
 prefer_none true j = refl
 prefer_none false j = refl
 
-map_prefer : (f : ℕ → ℕ) (greedy : Bool) (xs ys : List ℕ) → map f (prefer greedy xs ys) ≡ prefer greedy (map f xs) (map f ys)
+map_prefer : (f : ℕ → ℕ) (greedy : Bool) (xs ys : List ℕ)
+    → map f (prefer greedy xs ys) ≡ prefer greedy (map f xs) (map f ys)
 map_prefer f true xs ys = map-append f xs ys
 map_prefer f false xs ys = map-append f ys xs
 
-map_cond : {A B : Type 0} (f : A → B) (b : Bool) (xs ys : List A) → map f (cond b xs ys) ≡ cond b (map f xs) (map f ys)
+map_cond : {A B : Type 0} (f : A → B) (b : Bool) (xs ys : List A)
+    → map f (cond b xs ys) ≡ cond b (map f xs) (map f ys)
 map_cond f true xs ys = refl
 map_cond f false xs ys = refl
+
+lt_moved : (a k l : ℕ) → nat_lt (a + k) (a + l) ≡ nat_lt k l
+lt_moved a k l = by_test (nat_lt k l)
+    (λ e. let x : k < l = ltb-true k l e in rw e (by_test (nat_lt (a + k) (a + l)) (λ q. q)
+    (λ q. absurd (let y : a + l ≤ a + k = ltb-false (a + k) (a + l) q in omega arith))))
+    (λ e. let x : l ≤ k = ltb-false k l e in rw e (by_test (nat_lt (a + k) (a + l))
+    (λ q. absurd (let y : a + k < a + l = ltb-true (a + k) (a + l) q in omega arith)) (λ q. q)))
 
 module _ (text line : Text) (a : ℕ) where
   abbrev moved : ℕ → ℕ
@@ -57,20 +54,18 @@ module _ (text line : Text) (a : ℕ) where
   abbrev n : ℕ
   n = length line.bytes
 
-  lt_moved : (k l : ℕ) → nat_lt (a + k) (a + l) ≡ nat_lt k l
-  lt_moved k l = by_test (nat_lt k l)
-      (λ e. let x : k < l = ltb-true k l e in rw e (by_test (nat_lt (a + k) (a + l)) (λ q. q)
-      (λ q. absurd (let y : a + l ≤ a + k = ltb-false (a + k) (a + l) q in omega arith))))
-      (λ e. let x : l ≤ k = ltb-false k l e in rw e (by_test (nat_lt (a + k) (a + l))
-      (λ q. absurd (let y : a + k < a + l = ltb-true (a + k) (a + l) q in omega arith)) (λ q. q)))
-
   module _ (greedy : Bool) (f g : ℕ → List ℕ) (same : (k : ℕ) → k ≤ n → f (a + k) ≡ map moved (g k))
       (onward : (k l : ℕ) → In l (g k) → Onward line k l) where
     -- what follows each end of one round
-    each_moved : (F G : ℕ → List ℕ) (k : ℕ) → k ≤ n
-        → ((l : ℕ) → In l (g k) → F (a + l) ≡ map moved (G l)) → flat_map F (f (a + k)) ≡ map moved (flat_map G (g k))
+    each_moved : (F G : ℕ → List ℕ) (k : ℕ) → k ≤ n → ((l : ℕ) → In l (g k) → F (a + l) ≡ map moved (G l))
+        → flat_map F (f (a + k)) ≡ map moved (flat_map G (g k))
     each_moved F G k w h = ap (flat_map F) (same k w) ∙ flat_map-map F moved (g k)
         ∙ flat_map_same (λ l. F (a + l)) (λ l. map moved (G l)) (g k) h ∙ sym (map_flat_map moved G (g k))
+
+    in_line : (k l : ℕ) → k ≤ n → In l (g k) → (k ≤ l) × (l ≤ n)
+    in_line k l w h = by_cases (onward k l h)
+        (λ q. (omega arith, omega arith))
+        (λ q. let x : k < l = q.0 in let y : l ≤ n = q.1 in (omega arith, omega arith))
 
     -- at the end of the line no round follows
     at_end : (k l : ℕ) → n ≤ k → In l (g k) → nat_lt k l ≡ false
@@ -80,40 +75,38 @@ module _ (text line : Text) (a : ℕ) where
         (λ q. let y : l ≤ n = q.1 in absurd (omega arith)))
         (λ e. e)
 
-    in_line : (k l : ℕ) → k ≤ n → In l (g k) → (k ≤ l) × (l ≤ n)
-    in_line k l w h = by_cases (onward k l h)
-        (λ q. (omega arith, omega arith))
-        (λ q. let x : k < l = q.0 in let y : l ≤ n = q.1 in (omega arith, omega arith))
+    -- what follows an end in a later round, or nothing
+    abbrev later : (ℕ → List ℕ) → ℕ → ℕ → ℕ → List ℕ
+    later body count i l = cond (nat_lt i l) (rounds greedy body count l) []
 
     rounds_moved : (N M k : ℕ) → n - k ≤ N → n - k ≤ M → k ≤ n
         → rounds greedy f N (a + k) ≡ map moved (rounds greedy g M k)
     rounds_moved zero zero k p q w = refl
     rounds_moved zero (suc M) k p q w =
-        let none : flat_map (λ l. cond (nat_lt k l) (rounds greedy g M l) []) (g k) ≡ [] =
-        flat_map_none _ (g k) (λ l h. rw (at_end k l (omega arith) h) refl) in
+        let none : flat_map (later g M k) (g k) ≡ [] =
+        each_none (later g M k) (g k) (λ l h. rw (at_end k l (omega arith) h) refl) in
         rw (none, prefer_none greedy k) refl
     rounds_moved (suc N) zero k p q w =
-        let none : flat_map (λ l. cond (nat_lt (a + k) l) (rounds greedy f N l) []) (f (a + k)) ≡ [] =
-        each_moved (λ l. cond (nat_lt (a + k) l) (rounds greedy f N l) []) (λ l. []) k w
-        (λ l h. rw (lt_moved k l, at_end k l (omega arith) h) refl) ∙ ap (map moved) (flat_map_none (λ l. []) (g k) (λ l h. refl)) in
+        let none : flat_map (later f N (a + k)) (f (a + k)) ≡ [] =
+        each_moved (later f N (a + k)) (λ l. []) k w
+        (λ l h. rw (lt_moved a k l, at_end k l (omega arith) h) refl)
+        ∙ ap (map moved) (each_none (λ l. []) (g k) (λ l h. refl)) in
         rw (none, prefer_none greedy (a + k)) refl
     rounds_moved (suc N) (suc M) k p q w =
-        let more : flat_map (λ l. cond (nat_lt (a + k) l) (rounds greedy f N l) []) (f (a + k))
-        ≡ map moved (flat_map (λ l. cond (nat_lt k l) (rounds greedy g M l) []) (g k)) =
-        each_moved (λ l. cond (nat_lt (a + k) l) (rounds greedy f N l) []) (λ l. cond (nat_lt k l) (rounds greedy g M l) [])
-        k w (λ l h. by_test (nat_lt k l)
+        let more : flat_map (later f N (a + k)) (f (a + k)) ≡ map moved (flat_map (later g M k) (g k)) =
+        each_moved (later f N (a + k)) (later g M k) k w (λ l h. by_test (nat_lt k l)
         (λ e. let x : k < l = ltb-true k l e in let v = in_line k l w h in
-        rw (lt_moved k l, e) (rounds_moved N M l (omega (arith, v.1)) (omega (arith, v.1)) v.1))
-        (λ e. rw (lt_moved k l, e) refl)) in
-        rw (more, map_prefer moved greedy (flat_map (λ l. cond (nat_lt k l) (rounds greedy g M l) []) (g k)) (k ∷ [])) refl
+        rw (lt_moved a k l, e) (rounds_moved N M l (omega (arith, v.1)) (omega (arith, v.1)) v.1))
+        (λ e. rw (lt_moved a k l, e) refl)) in
+        rw (more, map_prefer moved greedy (flat_map (later g M k) (g k)) (k ∷ [])) refl
 
     plus_moved : (size : ℕ) → a + n ≤ size → (k : ℕ) → k ≤ n
         → flat_map (λ j. cond (nat_lt (a + k) j) (rounds greedy f (size - j) j) (j ∷ [])) (f (a + k))
         ≡ map moved (flat_map (λ j. cond (nat_lt k j) (rounds greedy g (n - j) j) (j ∷ [])) (g k))
     plus_moved size fits k w = each_moved _ _ k w (λ l h. by_test (nat_lt k l)
         (λ e. let v = in_line k l w h in
-        rw (lt_moved k l, e) (rounds_moved (size - (a + l)) (n - l) l (omega (arith, v.1)) (omega arith) v.1))
-        (λ e. rw (lt_moved k l, e) refl))
+        rw (lt_moved a k l, e) (rounds_moved (size - (a + l)) (n - l) l (omega (arith, v.1)) (omega arith) v.1))
+        (λ e. rw (lt_moved a k l, e) refl))
 
   module _ (t : ℕ) (ok : Assertion → Bool)
       (inside : (k : ℕ) → k < n → slice_get text.bytes (a + k) ≡ slice_get line.bytes k)
@@ -130,18 +123,20 @@ module _ (text line : Text) (a : ℕ) where
         rw (inside k x, next) (sym (map_cond moved (is_in c (slice_get line.bytes k)) (suc k ∷ []) [])))
         (λ e. let x : n ≤ k = ltb-false k n e in
         let here : k ≡ n = omega arith in
-        let out : is_in c (slice_get text.bytes (a + k)) ≡ false = rw here (stop c (not_true (is_in c (Some t)) s)) in
+        let out : is_in c (slice_get text.bytes (a + k)) ≡ false =
+        rw here (stop c (not-true (is_in c (Some t)) s)) in
         rw (out, slice_get_past line.bytes k x) refl)
     placed_ends (Look look) s k w = rw (looks k w look s) (sym (map_cond moved (holds_at t line k look) (k ∷ []) []))
     placed_ends (Then b c) s k w =
-        ap (flat_map (ends t text c)) (placed_ends b (both_left (stays_by ok t b) (stays_by ok t c) s) k w)
+        let both = and_parts (stays_by ok t b) (stays_by ok t c) s in
+        ap (flat_map (ends t text c)) (placed_ends b both.0 k w)
         ∙ flat_map-map (ends t text c) moved (ends t line b k)
         ∙ flat_map_same (λ l. ends t text c (a + l)) (λ l. map moved (ends t line c l)) (ends t line b k)
-        (λ l h. placed_ends c (both_right (stays_by ok t b) (stays_by ok t c) s) l (by_cases (ends_onward t line b k l h)
-        (λ q. omega arith) (λ q. q.1)))
+        (λ l h. placed_ends c both.1 l (by_cases (ends_onward t line b k l h) (λ q. omega arith) (λ q. q.1)))
         ∙ sym (map_flat_map moved (ends t line c) (ends t line b k))
     placed_ends (Or b c) s k w =
-        rw (placed_ends b (both_left (stays_by ok t b) (stays_by ok t c) s) k w, placed_ends c (both_right (stays_by ok t b) (stays_by ok t c) s) k w)
+        let both = and_parts (stays_by ok t b) (stays_by ok t c) s in
+        rw (placed_ends b both.0 k w, placed_ends c both.1 k w)
         (sym (map-append moved (ends t line b k) (ends t line c k)))
     placed_ends (Plus greedy b) s k w = plus_moved greedy (ends t text b) (ends t line b)
         (λ l v. placed_ends b s l v) (λ l j h. ends_onward t line b l j h) (length text.bytes) fits k w
