@@ -2,3 +2,4 @@ pub mod Edges
 pub mod FirstLines
 pub mod LeftmostLines
 pub mod Placed
+pub mod Staying

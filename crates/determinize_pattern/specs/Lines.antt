@@ -118,7 +118,7 @@ IsFirstLine t res bytes (Some (a, b)) =
     × ((c d : ℕ) → c < a → IsLine t bytes c d
     → HasMatchAlone t res (slice_range bytes c d) → ⊥)
 
--- if bytes have no match, then neither has a line of them alone, and so with a terminator after them
+-- if bytes have no match, no line of them has one alone, also if a terminator follows them
 abbrev pub NoneIsFirst : Type 0
 NoneIsFirst = (t : ℕ) (res : List Re) (bytes whole : List ℕ)
     → (whole ≡ bytes) ⊎ (whole ≡ bytes ++ t ∷ []) → all_stay t res ≡ true

@@ -1,9 +1,10 @@
 //! Classes of bytes.
 
-ghost use Rattle.std.specs.Prelude.{◌≡◌, ◌≤◌, ◌∷◌, IfOk, IfSome, OnOk, [], false, true};
+ghost use Rattle.std.specs.Prelude.{◌≡◌, ◌≤◌, ◌∷◌, IfOk, IfSome, OnOk, Some, [], false, true};
 ghost use Rattle.std.specs.List.{list_any};
 ghost use Rattle.determinize_below.specs.Semantics.{within};
 ghost use Rattle.determinize_pattern.specs.Classes.{HasBytes, is_apart, is_chosen, pairs};
+ghost use Rattle.determinize_pattern.specs.Meaning.{is_in};
 ghost use Rattle.determinize_pattern.specs.Private.Scanning.{with_range};
 
 use std::alloc::{AllocError, Global};
@@ -82,6 +83,13 @@ impl ClassBytes {
             [range] if range.start == range.end => Some(range.start),
             _ => None,
         }
+    }
+
+    /// Returns whether the byte is in the class.
+    pub fn contains(&self, byte: u8) -> bool
+        ensures { result ≡ is_in self.now (Some byte) }
+    {
+        is_in_some(&self.ranges, byte)
     }
 
     /// Returns the ranges.

@@ -3,6 +3,7 @@
 //! - [`pattern`] is the type of patterns, with a constructor for each kind.
 //! - [`class`] is that of classes of bytes, and [`chars`] that of ranges of characters.
 //! - [`nfa`] compiles several patterns, of which the first is preferred, to one NFA.
+//! - [`lines`] tells whether the matches of patterns stay in a line.
 //! - [`laws`] are laws of the meaning and of compiled NFAs that callers may use in addition to the
 //!   contracts.
 //!
@@ -18,6 +19,7 @@ mod display;
 mod first_class;
 mod head;
 pub mod laws;
+pub mod lines;
 mod nesting;
 pub mod nfa;
 mod parts;
@@ -28,5 +30,6 @@ mod utf8;
 
 pub use chars::ClassUnicodeRange;
 pub use class::{ClassBytes, ClassBytesRange};
+pub use lines::stay_in_lines;
 pub use nfa::{CompileError, Config, compile, compile_anchored};
 pub use pattern::Pattern;

@@ -75,11 +75,11 @@ module _ (t : ℕ) (bytes rest : List ℕ) (ended : (rest ≡ []) ⊎ (rest ≡ 
   lines_of : (a b : ℕ) → IsLine t whole a b → AreLines t text a b
   lines_of a b line =
       let high = line_within a b line in record {
-    order = line.order;
-    within = high;
-    starts = starts_at a (let low = line.order in omega (arith, low, high)) line.starts;
-    stops = stops_at b line.stops;
-  }
+        order = line.order;
+        within = high;
+        starts = starts_at a (let low = line.order in omega (arith, low, high)) line.starts;
+        stops = stops_at b line.stops;
+      }
 
   same_line : (a b : ℕ) → a ≤ b → b ≤ length bytes → slice_range whole a b ≡ slice_range bytes a b
   same_line a b l m =
@@ -126,9 +126,12 @@ module _ (t : ℕ) (bytes rest : List ℕ) (ended : (rest ≡ []) ⊎ (rest ≡ 
       has_match : HasMatchAlone t res (slice_range whole a b)
       has_match =
           let within = line_within a b line in
-          rw (same_line a b line.order within) (in_line a m, rw (length-line bytes a b within)
-          (leftmost_in_line t res text a b (lines_of a b line) stay (length bytes) m is begins_in
-          (let e = ordered in omega (arith, e, high))))
+          rw (same_line a b line.order within) (
+            in_line a m,
+            rw (length-line bytes a b within)
+                (leftmost_in_line t res text a b (lines_of a b line) stay (length bytes) m is begins_in
+                (let e = ordered in omega (arith, e, high))),
+          )
 
       -- an earlier line ends before it
       ends_before : (c d : ℕ) → c < a → IsLine t whole c d → d < a
