@@ -18,7 +18,7 @@ stays_by ok t (Then a b) = stays_by ok t a && stays_by ok t b
 stays_by ok t (Or a b) = stays_by ok t a && stays_by ok t b
 stays_by ok t (Plus greedy a) = stays_by ok t a
 
--- whether the assertion does not tell the terminator from an end of the text
+-- whether the assertion does not distinguish the terminator from an end of the text
 abbrev pub is_of_lines : ℕ → Assertion → Bool
 is_of_lines t Start = false
 is_of_lines t End = false
@@ -28,11 +28,16 @@ is_of_lines t StartLF = true
 is_of_lines t EndLF = true
 is_of_lines t look = not (is_word_byte t)
 
--- whether each match of the pattern is in a line, and is one of the line alone
+-- whether no class of the pattern has the terminator, and all its assertions are of lines
 abbrev pub stays_in_line : ℕ → Re → Bool
 stays_in_line t re = stays_by (is_of_lines t) t re
 
--- whether it is the terminator or nothing
+-- whether all of the patterns stay in a line
+abbrev pub all_stay : ℕ → List Re → Bool
+all_stay t [] = true
+all_stay t (re ∷ res) = stays_in_line t re && all_stay t res
+
+-- whether there is no byte, or it is the terminator
 abbrev pub is_edge : ℕ → Option ℕ → Bool
 is_edge t u = is_none u || is u t
 
@@ -43,59 +48,54 @@ pub record AreLines (t : ℕ) (text : Text) (a b : ℕ) : Type 0 where
   pub starts : is_edge t (before_at text a) ≡ true
   pub stops : is_edge t (after_at text b) ≡ true
 
--- the bytes from a to b, between the bytes around them
+-- the bytes from a to b as a text, between the bytes around them
 abbrev pub in_place : Text → ℕ → ℕ → Text
 in_place text a b = between (before_at text a) (slice_range text.bytes a b) (after_at text b)
 
--- the bytes from a to b, alone
+-- the bytes from a to b as a text, with nothing around them
 abbrev pub alone : Text → ℕ → ℕ → Text
 alone text a b = between None (slice_range text.bytes a b) None
 
--- a pattern that does not read the terminator has in a text, from a position of a line, the ends
--- that it has in the line, where it sees the bytes around it
+-- from a position of a line, a pattern that does not read the terminator has the ends that it has
+-- in the line, between the bytes around it
 abbrev pub EndsInPlace : Type 0
 EndsInPlace = (t : ℕ) (text : Text) (a k b : ℕ) → a + k ≤ b → b ≤ length text.bytes
     → is_edge t (after_at text b) ≡ true → (re : Re) → stays_by (λ look. true) t re ≡ true
     → ends t text re (a + k) ≡ map (λ j. a + j) (ends t (in_place text a b) re k)
 
--- and if its assertions are of lines, the ends are those in the line alone
+-- from a position of a line, a pattern that stays in a line has the ends that it has in the line,
+-- as a text
 abbrev pub EndsInLine : Type 0
 EndsInLine = (t : ℕ) (text : Text) (a k b : ℕ) → AreLines t text a b → a + k ≤ b
     → (re : Re) → stays_in_line t re ≡ true
     → ends t text re (a + k) ≡ map (λ j. a + j) (ends t (alone text a b) re k)
 
--- the match, moved to the line
+-- the match, from the start of the line on
 abbrev pub in_line : ℕ → Match → Match
 in_line a m = record { pattern = m.pattern; start = m.start - a; end = m.end - a }
 
--- whether all of the patterns stay in a line
-abbrev pub all_stay : ℕ → List Re → Bool
-all_stay t [] = true
-all_stay t (re ∷ res) = stays_in_line t re && all_stay t res
-
--- if the leftmost match of the text begins in a line, it is the leftmost of the line alone
+-- if the leftmost match of the text begins in a line, it is that of the line as a text
 abbrev pub LeftmostInLine : Type 0
 LeftmostInLine = (t : ℕ) (res : List Re) (text : Text) (a b : ℕ) → AreLines t text a b
     → all_stay t res ≡ true → (latest : ℕ) (m : Match) → IsLeftmostOf t res text latest (Some m)
     → a ≤ m.start → m.start ≤ b
     → IsLeftmostOf t res (alone text a b) (b - a) (Some (in_line a m))
 
--- a line in which no match of the text begins has none alone
+-- a line in which no match of the text begins has no match as a text
 abbrev pub NoneInLine : Type 0
 NoneInLine = (t : ℕ) (res : List Re) (text : Text) (a b : ℕ) → AreLines t text a b
     → all_stay t res ≡ true → ((k : ℕ) → a ≤ k → k ≤ b → all_ends t text 0 res k ≡ [])
     → IsLeftmostOf t res (alone text a b) (b - a) None
 
--- and a line with a match has one in the text
+-- the leftmost match of a line as a text is the preferred match of all the text from its start
 abbrev pub SomeInLine : Type 0
 SomeInLine = (t : ℕ) (res : List Re) (text : Text) (a b : ℕ) → AreLines t text a b
     → all_stay t res ≡ true → (latest : ℕ) (m : Match)
-    → IsLeftmostOf t res (alone text a b) latest (Some m)
-    → a + m.start ≤ b
+    → IsLeftmostOf t res (alone text a b) latest (Some m) → a + m.start ≤ b
     → slice_get (all_ends t text 0 res (a + m.start)) 0 ≡ Some (m.pattern, a + m.end)
 
--- the bytes from a to b are a line, which ends before a terminator or at the end of all the bytes;
--- behind a last terminator there is none
+-- the bytes from a to b are a line: it ends before a terminator or at the end of all bytes; after a
+-- terminator at the end of all bytes there is no line
 pub record IsLine (t : ℕ) (bytes : List ℕ) (a b : ℕ) : Type 0 where
   pub begun : a < length bytes
   pub order : a ≤ b
@@ -109,7 +109,7 @@ abbrev pub HasMatchAlone : ℕ → List Re → List ℕ → Type 0
 HasMatchAlone t res bytes =
     (m : Match) × IsLeftmostOf t res (between None bytes None) (length bytes) (Some m)
 
--- no line of the bytes has a match alone, or the line from a to b is the first that has one
+-- no line of the bytes has a match; or the line from a to b has one, and no line before it has
 abbrev pub IsFirstLine : ℕ → List Re → List ℕ → Option (ℕ × ℕ) → Type 0
 IsFirstLine t res bytes None =
     (c d : ℕ) → IsLine t bytes c d → HasMatchAlone t res (slice_range bytes c d) → ⊥
@@ -118,14 +118,14 @@ IsFirstLine t res bytes (Some (a, b)) =
     × ((c d : ℕ) → c < a → IsLine t bytes c d
     → HasMatchAlone t res (slice_range bytes c d) → ⊥)
 
--- if bytes have no match, no line of them has one alone, also if a terminator follows them
+-- if the bytes have no match, no line of them has one, also with a terminator after the bytes
 abbrev pub NoneIsFirst : Type 0
 NoneIsFirst = (t : ℕ) (res : List Re) (bytes whole : List ℕ)
     → (whole ≡ bytes) ⊎ (whole ≡ bytes ++ t ∷ []) → all_stay t res ≡ true
     → IsLeftmostOf t res (between None bytes None) (length bytes) None
     → IsFirstLine t res whole None
 
--- and if they have one, the line in which the leftmost ends is the first with a match
+-- if they have one, the line in which the leftmost match ends is the first line with a match
 abbrev pub SomeIsFirst : Type 0
 SomeIsFirst = (t : ℕ) (res : List Re) (bytes whole : List ℕ)
     → (whole ≡ bytes) ⊎ (whole ≡ bytes ++ t ∷ []) → all_stay t res ≡ true → (m : Match)

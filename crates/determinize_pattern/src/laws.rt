@@ -46,9 +46,10 @@ pub fn boundaries_law()
     ensures start { EachStartIsBoundary }
 {}
 
-/// States that a pattern that does not read the line terminator has, from a position of a line, the
-/// ends that it has in the line with the bytes around it, and in the line alone if none of its
-/// assertions tells the terminator from an end of the text.
+/// States that from a position of a line a pattern that does not read the line terminator has the
+/// ends that it has in the line, between the bytes around it, and if its assertions do not
+/// distinguish the terminator from an end of the text, as in the line as a text. So the leftmost
+/// match in a line is that of the line as a text.
 pub fn lines_law()
     ensures in_place { EndsInPlace }
     ensures in_line { EndsInLine }
@@ -57,9 +58,9 @@ pub fn lines_law()
     ensures some { SomeInLine }
 {}
 
-/// States that where the matches of patterns stay in a line, a search of a block of lines finds the
-/// first line with a match: that in which the leftmost match ends, or none. A terminator at the end
-/// of the block is left out of the search, since no line begins after it.
+/// States that one search of a block of lines finds the first line with a match, if the matches of
+/// the patterns stay in a line: it is the line in which the leftmost match ends. A terminator at
+/// the end of the block is not searched, since no line begins after it.
 pub fn first_line_law()
     ensures none { NoneIsFirst }
     ensures some { SomeIsFirst }

@@ -3,7 +3,7 @@
 //! - [`pattern`] is the type of patterns, with a constructor for each kind.
 //! - [`class`] is that of classes of bytes, and [`chars`] that of ranges of characters.
 //! - [`nfa`] compiles several patterns, of which the first is preferred, to one NFA.
-//! - [`lines`] tells whether the matches of patterns stay in a line.
+//! - [`lines`] tests whether the matches of patterns stay in a line.
 //! - [`laws`] are laws of the meaning and of compiled NFAs that callers may use in addition to the
 //!   contracts.
 //!

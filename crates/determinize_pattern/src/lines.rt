@@ -1,7 +1,7 @@
 //! Patterns whose matches stay in a line.
 //!
-//! Over them a search of many lines at once finds what a search of each line finds: the laws are
-//! `lines_law` and `first_line_law` of [`laws`](crate::laws).
+//! Over them one search of a block of lines finds what a search of each of its lines finds, as
+//! `lines_law` and `first_line_law` of [`laws`](crate::laws) state.
 
 ghost use Rattle.std.specs.Prelude.{◌≡◌, map};
 ghost use Rattle.determinize_pattern.specs.Lines as lines;
@@ -12,9 +12,9 @@ use crate::pattern::Pattern;
 use determinize_below::Look;
 use determinize_below::alphabet::is_word_byte;
 
-/// Returns whether the matches of the patterns in a text are those in each of its lines alone: no
-/// pattern reads the byte that ends a line, and no assertion distinguishes that byte from an end of
-/// the text.
+/// Returns whether no pattern reads the byte that ends a line, and none has an assertion that
+/// distinguishes this byte from an end of the text. Then the matches in a text are those of each of
+/// its lines as a text. What is repeated zero times does not count.
 #[cycle(stay_in_lines)]
 pub fn stay_in_lines(patterns: &[Pattern], terminator: u8) -> bool
     ensures { result ≡ all_stay terminator (map meaning patterns.now) }
@@ -46,7 +46,7 @@ fn stays_in_line(pattern: &Pattern, terminator: u8) -> bool
 }
 
 /// Returns whether the assertion does not distinguish the byte that ends a line from an end of the
-/// text.
+/// text: one about words does if that byte is a word byte.
 fn is_of_lines(look: Look, terminator: u8) -> bool
     ensures { result ≡ lines.is_of_lines terminator look }
 {

@@ -1,7 +1,7 @@
--- The ends of a pattern in a line are those of the line alone.
--- Main statements: ends_in_place, ends_in_line.
+-- The ends of a pattern in a line are those of the line as a text.
+-- Main statements: length-line, ends_in_place, ends_in_line.
 -- Used by: LeftmostLines, FirstLines and lines_law.
--- Idea: the assertions of lines do not tell a terminator from an end of the text.
+-- Idea: the assertions of lines do not distinguish a terminator from an end of the text.
 use Rattle.std.specs.List.{slice_range}
 use Rattle.std.specs.Prelude.{nat_lt, slice_get}
 use Rattle.std.proofs.Common.{◌≡◌, ◌-◌, ◌+◌, ◌<◌, ◌≤◌, ◌⊎◌, ◌∙◌, ℕ, Bool, List, None, Option, Some, arith, drop, eqb-true, false, inl, inr, length, ltb-false, ltb-true, map, not, refl, suc, sym, true, zero}
@@ -85,7 +85,7 @@ module _ (t : ℕ) (text : Text) (a b : ℕ) (order : a ≤ b) (within : b ≤ l
       (λ e. rw e refl)
       (λ x e. let z : x ≡ t = edge_is t x (rw e at stops) in rw (e, z) out))
 
-  -- the line with any bytes behind and ahead that the assertions do not tell from those around it
+  -- the line with any bytes behind and ahead that the assertions do not distinguish from those around it
   module _ (r s : Option ℕ) (ok : Assertion → Bool) (R : Option ℕ → Option ℕ → Type 0)
       (equal : (p q : Option ℕ) → p ≡ q → R p q) (alike : (p q u v : Option ℕ) → R p u → R q v
       → (look : Assertion) → ok look ≡ true → holds false t p q look ≡ holds false t u v look)

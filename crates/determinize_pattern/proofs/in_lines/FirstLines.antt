@@ -87,7 +87,7 @@ module _ (t : ℕ) (bytes rest : List ℕ) (ended : (rest ≡ []) ⊎ (rest ≡ 
       (take-append-le (b - a) (drop a bytes) rest (let left = length-drop a bytes in omega (arith, l, m, left)))
 
   module _ (res : List Re) (stay : all_stay t res ≡ true) where
-    -- a line without a match of all the bytes has none alone
+    -- a line in which no match of all the bytes begins has none as a text
     line_none : (a b : ℕ) → IsLine t whole a b → ((k : ℕ) → a ≤ k → k ≤ b → all_ends t text 0 res k ≡ [])
         → HasMatchAlone t res (slice_range whole a b) → ⊥
     line_none a b line none =

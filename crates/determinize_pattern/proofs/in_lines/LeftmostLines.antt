@@ -1,4 +1,4 @@
--- The leftmost match of a text is that of its line.
+-- The leftmost match of a text is that of the line in which it begins.
 -- Main statements: leftmost_in_line, none_in_line, some_in_line, all_onward, end_in_line.
 -- Used by: FirstLines and lines_law.
 -- Idea: from each position of the line the patterns have the ends that they have in the text.
