@@ -14,7 +14,8 @@ use determinize_below::alphabet::is_word_byte;
 
 /// Returns whether no pattern reads the byte that ends a line, and none has an assertion that
 /// distinguishes this byte from an end of the text. Then the matches in a text are those of each of
-/// its lines as a text. What is repeated zero times does not count.
+/// its lines as a text. What is repeated zero times does not count. The recursion is as deep as the
+/// patterns are nested.
 #[cycle(stay_in_lines)]
 pub fn stay_in_lines(patterns: &[Pattern], terminator: u8) -> bool
     ensures { result ≡ all_stay terminator (map meaning patterns.now) }
