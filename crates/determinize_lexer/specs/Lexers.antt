@@ -1,12 +1,16 @@
--- What a lexer is seen as.
+-- What a lexer is seen as, and what its errors say.
 use Rattle.std.specs.Prelude.{◌≡◌, ℕ, List, false, map}
 use Rattle.determinize_below.specs.declared.search.MatchKind.TheVariants.{All}
 use Rattle.determinize_dense.specs.Least.{IsLeast}
 use Rattle.determinize_dense.specs.Table.{DfaValue}
+use Rattle.determinize_lexer.specs.declared.error.Error.{Error}
+use Rattle.determinize_lexer.specs.declared.error.Error.TheVariants.{Dfa, Patterns}
 use Rattle.determinize_pattern.specs.Compiled.{IsNfaOf}
 use Rattle.determinize_pattern.specs.Meaning.{Re}
 use Rattle.determinize_pattern.specs.Patterns.{meaning}
 use Rattle.determinize_pattern.specs.declared.pattern.Pattern.{Pattern}
+use Rattle.determinize_regex.specs.declared.error.Error.{Error as PatternError}
+use Rattle.determinize_regex.specs.declared.error.Error.TheVariants.{Compile, Parse}
 
 -- the patterns, and the line terminator of their assertions
 pub record LexerValue : Type 0 where
@@ -29,3 +33,13 @@ pub record IsLexerOf (patterns : List Pattern) (dfa : DfaValue) : Type 0 where
 pub record IsDfaFor (lexer : LexerValue) (dfa : DfaValue) : Type 0 where
   pub is : IsLexerOf lexer.patterns dfa
   pub terminator : dfa.nfa.terminator ≡ lexer.terminator
+
+-- this holds of the error of the patterns, if it is one
+abbrev pub OfPatterns : (PatternError → Type 0) → Error → Type 0
+OfPatterns P (Patterns e) = P e
+OfPatterns P (Dfa e) = ⊤
+
+-- it is not of the text of a pattern
+abbrev pub WasParsed : PatternError → Type 0
+WasParsed (Parse index e) = ⊥
+WasParsed (Compile e) = ⊤

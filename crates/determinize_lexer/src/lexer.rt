@@ -1,15 +1,15 @@
 //! The type of a lexer.
 
-ghost use Rattle.std.specs.Prelude.{◌≡◌, IfOk, drop, map};
+ghost use Rattle.std.specs.Prelude.{◌≡◌, IfErr, IfOk, drop, map};
 ghost use Rattle.std.specs.Coded.{codes};
 ghost use Rattle.determinize_below.specs.declared.search.MatchKind.TheVariants as kinds;
 ghost use Rattle.determinize_dense.specs.Least.{IsLeast};
 ghost use Rattle.determinize_find.specs.Streams.{whole};
-ghost use Rattle.determinize_lexer.specs.Lexers.{IsDfaFor, LexerValue, meanings};
+ghost use Rattle.determinize_lexer.specs.Lexers.{IsDfaFor, LexerValue, OfPatterns, WasParsed, meanings};
 ghost use Rattle.determinize_lexer.specs.Tokens.{AreTokensOf};
 ghost use Rattle.determinize_linear.specs.Tokens.{end_of_last};
 ghost use Rattle.determinize_pattern.specs.contracts.pattern.Pattern as e;
-ghost use Rattle.determinize_regex.specs.Spelled.{AreSpelled};
+ghost use Rattle.determinize_regex.specs.Spelled.{AreSpelled, IsRejected};
 
 use crate::error::Error;
 use determinize_below::{Input, Match, MatchKind, NFA};
@@ -77,6 +77,8 @@ impl Lexer {
     pub fn new(alloc: Global, patterns: &[&str], config: LexerConfig) -> Result<Lexer, Error>
         ensures spelled { IfOk result (λ lexer.
             AreSpelled config.flags (meanings lexer) (map (λ t. t.now) patterns.now)) }
+        ensures rejected { IfErr result (OfPatterns
+            (IsRejected config.flags (map (λ t. t.now) patterns.now))) }
         ensures terminator { IfOk result (λ lexer.
             lexer.terminator ≡ config.compile.look_matcher) }
     {
@@ -91,6 +93,7 @@ impl Lexer {
         config: LexerConfig,
     ) -> Result<Lexer, Error>
         ensures patterns { IfOk result (λ lexer. lexer.patterns ≡ patterns.items) }
+        ensures parsed { IfErr result (OfPatterns WasParsed) }
         ensures terminator { IfOk result (λ lexer.
             lexer.terminator ≡ config.compile.look_matcher) }
     {
