@@ -16,22 +16,22 @@ use determinize_engine::text::Text;
 use determinize_table::{LastMatch, LazyStateId};
 use std::alloc::Allocator;
 
-/// The number of bytes that a search reads without scans, if the table has no loop or the text is
-/// not longer. With fewer, searches of short texts would take longer.
+/// The number of bytes that a search reads without scans, unless scans were found to save time.
+/// With fewer, searches of short texts would take longer.
 const UNSCANNED: usize = 1024;
 
-/// The number of bytes that a search of a longer text reads without scans, if the table has a loop.
-/// With fewer, searches that end soon would take longer.
+/// The number of bytes that a search of a longer text then reads without scans. With fewer,
+/// searches that end soon would take longer.
 const UNSCANNED_BEFORE_LOOP: usize = 64;
 
 /// The number of bytes that a search then reads before it may learn a loop.
 pub(crate) const PATIENCE: usize = 256;
 
 /// The number of bytes of the shortest pause between scans.
-const SHORTEST: usize = 128;
+pub(crate) const SHORTEST: usize = 128;
 
 /// The number of bytes from which on a scan saves time.
-const WORTHWHILE: usize = 32;
+pub(crate) const WORTHWHILE: usize = 32;
 
 /// No row.
 pub(crate) const NO_ROW: usize = usize::MAX;
@@ -188,6 +188,7 @@ impl<R: AsNfa, A: Allocator + Copy> LazyDfa<R, A> {
         from: CachedPosition,
         text: &Text<'_>,
         until: usize,
+        pauses: &mut Pauses,
         earliest: bool,
     ) -> CachedPosition
         requires position { IsCachedPosition self.now from }
@@ -196,11 +197,10 @@ impl<R: AsNfa, A: Allocator + Copy> LazyDfa<R, A> {
         ensures { GoesToCached earliest text.now (cached_place self.now from) self.now result }
     {
         let row = self.table.loop_row();
-        let mut pauses = Pauses::new(from.read, SHORTEST, WORTHWHILE);
         let mut at = from;
         while at.read < until {
             let read = at.read;
-            at = self.follow_once(at, text, until, row, &mut pauses, earliest);
+            at = self.follow_once(at, text, until, row, pauses, earliest);
             if at.read == read {
                 return at;
             }
@@ -215,6 +215,7 @@ impl<R: AsNfa, A: Allocator + Copy> LazyDfa<R, A> {
         from: CachedPosition,
         text: &Text<'_>,
         until: usize,
+        pauses: &mut Pauses,
         earliest: bool,
     ) -> CachedPosition
         requires position { IsCachedPosition self.now from }
@@ -224,10 +225,16 @@ impl<R: AsNfa, A: Allocator + Copy> LazyDfa<R, A> {
     {
         // With the direction of the text and `earliest` as constants.
         match (text.is_backward(), earliest) {
-            (false, false) => self.follow_with_scans(from, &text.known(false), until, false),
-            (false, true) => self.follow_with_scans(from, &text.known(false), until, true),
-            (true, false) => self.follow_with_scans(from, &text.known(true), until, false),
-            (true, true) => self.follow_with_scans(from, &text.known(true), until, true),
+            (false, false) => self.follow_with_scans(
+                from,
+                &text.known(false),
+                until,
+                pauses,
+                false,
+            ),
+            (false, true) => self.follow_with_scans(from, &text.known(false), until, pauses, true),
+            (true, false) => self.follow_with_scans(from, &text.known(true), until, pauses, false),
+            (true, true) => self.follow_with_scans(from, &text.known(true), until, pauses, true),
         }
     }
 
@@ -238,7 +245,7 @@ impl<R: AsNfa, A: Allocator + Copy> LazyDfa<R, A> {
     {
         if len <= UNSCANNED {
             len
-        } else if self.table.loop_row() == NO_ROW {
+        } else if self.credit == 0 || self.table.loop_row() == NO_ROW {
             UNSCANNED
         } else {
             UNSCANNED_BEFORE_LOOP

@@ -16,6 +16,9 @@ use std::alloc::{Allocator, Global};
 use std::fmt;
 use std::marker::Model;
 
+/// The credit of scans before any.
+const CREDIT: u16 = 64;
+
 /// A lazy DFA: an NFA with a bounded cache of the transitions of its DFA.
 ///
 /// `LazyDfa<NFA<N>, A>` owns its NFA, so a function can return it and a struct can hold it.
@@ -47,6 +50,8 @@ pub struct LazyDfa<R: AsNfa, A: Allocator = Global> {
     pub(crate) computed: u64,
     pub(crate) table: TransitionTable<A>,
     pub(crate) spans: Option<ClassSpans>,
+    /// How many more scans may be too short to save time until searches scan late only.
+    pub(crate) credit: u16,
 }
 
 /// A lazy DFA that borrows its NFA.
@@ -65,6 +70,7 @@ impl<R: AsNfa, A: Allocator> Drop for LazyDfa<R, A> {
             computed: _,
             table: _,
             spans: _,
+            credit: _,
         } = self;
     }
 }
@@ -162,6 +168,7 @@ impl<R: AsNfa, A: Allocator + Copy> LazyDfa<R, A> {
             computed: 0,
             table: TransitionTable::new(alloc),
             spans,
+            credit: CREDIT,
         }
     }
 

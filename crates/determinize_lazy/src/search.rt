@@ -19,12 +19,16 @@ ghost use Rattle.std.specs.Prelude.{Decides, ◌≡◌, ◌<◌, ◌≤◌, fals
 ghost use Rattle.determinize_lazy.specs.Clauses.{between, cache, cursor_value, Grows, has_start, HasMatch, HasSearched, HasSearchedIn, is_done, IsSearch, IsSearchResult, start_for, start_value, text_of, units};
 ghost use Rattle.determinize_lazy.specs.Private.{cached_place, EndsAt, Fails, first_position, GoesTo, GoesToCached, HasStopped, IsCachedPosition, IsFailedStep, IsNext, IsOverText, IsPosition, IsShort, IsSound, place, with_cursor};
 
-use crate::cached::{CachedPosition, PATIENCE, Reached};
+use crate::cached::{CachedPosition, PATIENCE, Reached, SHORTEST, WORTHWHILE};
 use crate::lazy::LazyDfa;
 use determinize_below::{Anchored, AsNfa, HalfMatch, Input, NFA, StateID};
+use determinize_engine::scans::Pauses;
 use determinize_engine::text::{Text, in_haystack};
 use determinize_table::{Cursor, LastMatch, LazyStateId};
 use std::alloc::{AllocError, Allocator};
+
+/// The greatest credit of scans.
+const MOST_CREDIT: u16 = 512;
 
 /// Returns the start state of an NFA for an anchored mode.
 pub(crate) fn start_for<N: Allocator>(nfa: &NFA<N>, anchored: Anchored) -> StateID
@@ -123,7 +127,7 @@ impl<R: AsNfa, A: Allocator + Copy> LazyDfa<R, A> {
         let mut patience = PATIENCE;
         while at.read < text.len() {
             let until = text.len().min(at.read.saturating_add(patience));
-            at = self.follow_on(at, text, until, earliest);
+            at = self.follow_and_record(at, text, until, earliest);
             if at.read < until {
                 return at;
             }
@@ -131,6 +135,42 @@ impl<R: AsNfa, A: Allocator + Copy> LazyDfa<R, A> {
             patience = patience.saturating_mul(2);
         }
         at
+    }
+
+    /// Follows cached transitions up to an index, as `follow_on` does. Records whether all scans
+    /// saved time, if it begins at the loop of the table.
+    fn follow_and_record(
+        &mut self,
+        from: CachedPosition,
+        text: &Text<'_>,
+        until: usize,
+        earliest: bool,
+    ) -> CachedPosition
+        requires position { IsCachedPosition self.old from }
+        requires read { from.read ≤ length text.now.bytes }
+        requires until { until ≤ length text.now.bytes }
+        ensures goes { GoesToCached earliest text.now (cached_place self.old from) self.new result }
+        ensures same { self.new ≡ self.old }
+    {
+        let CachedPosition { id, read, .. } = from;
+        let mut pauses = Pauses::new(read, SHORTEST, WORTHWHILE);
+        let at = self.follow_on(from, text, until, &mut pauses, earliest);
+        if id.row() == self.table.loop_row() {
+            self.record(pauses.end == read);
+        }
+        at
+    }
+
+    /// Records whether scans saved time. Searches scan early as long as those that did are at least
+    /// half as many as those that did not.
+    fn record(&mut self, saved_time: bool)
+        ensures { self.new ≡ self.old }
+    {
+        self.credit = if saved_time {
+            self.credit.saturating_add(2).min(MOST_CREDIT)
+        } else {
+            self.credit.saturating_sub(1)
+        };
     }
 
     /// Makes a cached state the loop of the table, if it has a transition to itself over

@@ -3,7 +3,7 @@
 -- Used by: `Lexer::tokens`.
 -- Idea: a run from the anchored start accepts what the patterns match from the first position on, and the first pattern
 -- that a walk lists is before all others that it lists.
-use Rattle.determinize_regex.proofs.Common.{Accepts, all_ends, arith, Asked, by_cases, Contains, from, IsNfaOf, length}
+use Rattle.determinize_regex.proofs.Common.{Accepts, all_ends, arith, Asked, by_cases, Contains, false, from, IsNfaOf}
 use Rattle.determinize_regex.proofs.Common.{List, Match, Nfa, Re, refl, suc, Text, text_of, zero, [], ℕ, ◌-◌, ◌∷◌, ◌≡◌, ◌≤◌}
 use Rattle.std.specs.List.{AllPairs, slice_index_or}
 use Rattle.determinize_linear.specs.Tokens.{AreTokens, IsToken}

@@ -1,5 +1,5 @@
 -- What a lexer is seen as, and what its errors say.
-use Rattle.std.specs.Prelude.{◌≡◌, ℕ, List, false, map}
+use Rattle.std.specs.Prelude.{◌≡◌, ℕ, List, false, map, ⊤}
 use Rattle.determinize_below.specs.declared.search.MatchKind.TheVariants.{All}
 use Rattle.determinize_dense.specs.Least.{IsLeast}
 use Rattle.determinize_dense.specs.Table.{DfaValue}

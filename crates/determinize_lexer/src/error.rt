@@ -1,5 +1,9 @@
 //! Why a lexer was not made.
 
+ghost use Rattle.std.specs.Prelude.{◌≡◌};
+ghost use Rattle.determinize_lexer.specs.declared.error.Error.TheVariants.{Dfa, Patterns};
+ghost use Rattle.determinize_regex.specs.declared.error.Error.TheVariants.{Compile};
+
 use determinize_dense::DfaError;
 use determinize_pattern::CompileError;
 use determinize_regex::Error as PatternError;
@@ -26,8 +30,6 @@ impl fmt::Display for Error {
 impl error::Error for Error {}
 
 impl From<PatternError> for Error {
-    ghost use Rattle.determinize_lexer.specs.declared.error.Error.TheVariants.{Patterns};
-
     ghost from_gives = { λ error e. e ≡ Patterns error };
 
     fn from(error: PatternError) -> Error {
@@ -36,12 +38,16 @@ impl From<PatternError> for Error {
 }
 
 impl From<CompileError> for Error {
+    ghost from_gives = { λ error e. e ≡ Patterns (Compile error) };
+
     fn from(error: CompileError) -> Error {
         Error::Patterns(PatternError::Compile(error))
     }
 }
 
 impl From<DfaError> for Error {
+    ghost from_gives = { λ error e. e ≡ Dfa error };
+
     fn from(error: DfaError) -> Error {
         Error::Dfa(error)
     }

@@ -5,11 +5,12 @@ ghost use Rattle.std.specs.Coded.{codes};
 ghost use Rattle.determinize_below.specs.declared.search.MatchKind.TheVariants as kinds;
 ghost use Rattle.determinize_dense.specs.Least.{IsLeast};
 ghost use Rattle.determinize_find.specs.Streams.{whole};
-ghost use Rattle.determinize_lexer.specs.Lexers.{IsDfaFor, LexerValue, OfPatterns, WasParsed, meanings};
+ghost use Rattle.determinize_lexer.specs.Lexers.{IsDfaFor, IsLexerOf, LexerValue, OfPatterns, WasParsed, meanings};
 ghost use Rattle.determinize_lexer.specs.Tokens.{AreTokensOf};
 ghost use Rattle.determinize_linear.specs.Tokens.{end_of_last};
 ghost use Rattle.determinize_pattern.specs.contracts.pattern.Pattern as e;
 ghost use Rattle.determinize_regex.specs.Spelled.{AreSpelled, IsRejected};
+ghost use Rattle.determinize_syntax.specs.Words.{no_flags};
 
 use crate::error::Error;
 use determinize_below::{Input, Match, MatchKind, NFA};
@@ -36,7 +37,13 @@ pub struct LexerConfig {
 impl LexerConfig {
     /// Returns the usual options: those of `Config::new`, 10,000 states of the whole DFA, and no
     /// flag.
-    pub fn new() -> LexerConfig {
+    pub fn new() -> LexerConfig
+        ensures state_limit { result.compile.state_limit ≡ 100000 }
+        ensures nest_limit { result.compile.nest_limit ≡ 250 }
+        ensures terminator { result.compile.look_matcher ≡ 10 }
+        ensures dfa_limit { result.dfa_limit ≡ 10000 }
+        ensures flags { result.flags ≡ no_flags }
+    {
         LexerConfig {
             compile: Config::new(),
             dfa_limit: 10_000,
@@ -57,8 +64,6 @@ pub struct Lexer {
 }
 
 impl Model for Lexer {
-    ghost use Rattle.determinize_lexer.specs.Lexers.{IsLexerOf};
-
     ghost Value = { LexerValue };
 
     ghost coded = { Prim.hlevel (codes, e.the_row.coded) };
@@ -150,8 +155,9 @@ fn smallest(alloc: Global, nfa: NFA, limit: usize) -> Result<Dfa<NFA>, DfaError>
 pub fn rest<'t>(text: &'t [u8], tokens: &[Match]) -> &'t [u8]
     ensures { result.now ≡ drop (end_of_last 0 tokens.now) text.now }
 {
-    match tokens.last() {
-        Some(last) => text.get(last.end..).unwrap_or(&[]),
-        None => text,
-    }
+    let end = match tokens.last() {
+        Some(last) => last.end.min(text.len()),
+        None => 0,
+    };
+    &text[end..]
 }

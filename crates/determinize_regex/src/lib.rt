@@ -31,6 +31,6 @@ pub use determinize_pattern::{
 };
 pub use determinize_syntax::{ErrorKind, Flags, ParseError};
 pub use error::Error;
-pub use regex::{Matcher, Regex, RegexConfig};
+pub use regex::{Matcher, Regex, RegexConfig, parse_all};
 pub use set::RegexSet;
 pub use stream::Stream;

@@ -1,4 +1,4 @@
-use Rattle.determinize_lazy.proofs.{arith, goes_none, goes_twice, refl}
+use Rattle.determinize_lazy.proofs.{arith, goes_none, goes_twice, refl, ◌∙◌}
 use Rattle.determinize_lazy.proofs.lazy.LazyDfa.follow_and_learn.Goals as goal
 
 pub loop-at-init : goal.loop-at-init
@@ -9,7 +9,7 @@ loop-at-init g c = record {
 }
 
 pub returns-then-at-until-clause-goes : goal.returns-then-at-until-clause-goes
-returns-then-at-until-clause-goes g c = goes_twice c.loop-at.invariant.goes c.follow_on-at.ensures
+returns-then-at-until-clause-goes g c = goes_twice c.loop-at.invariant.goes c.follow_and_record-at.ensures.goes
 
 pub loop-at-smaller : goal.loop-at-smaller
 loop-at-smaller g c = omega (
@@ -21,14 +21,14 @@ loop-at-smaller g c = omega (
   c.len.ensures.value,
   c.len-in-loop-at.ensures.value,
   c.len-in-loop-at.ensures.limit,
-  c.follow_on-at.ensures.within,
+  c.follow_and_record-at.ensures.goes.within,
   c.loop-at.invariant.some,
 )
 
 pub loop-at-preserved : goal.loop-at-preserved
 loop-at-preserved g c = rw c.learn.ensures record {
-  goes = goes_twice c.loop-at.invariant.goes c.follow_on-at.ensures;
-  same = c.loop-at.invariant.same;
+  goes = goes_twice c.loop-at.invariant.goes c.follow_and_record-at.ensures.goes;
+  same = c.follow_and_record-at.ensures.same ∙ c.loop-at.invariant.same;
   some = omega (arith, c.saturating_mul-patience.ensures, c.loop-at.invariant.some);
 }
 
