@@ -1,11 +1,13 @@
 -- What a regex is seen as, and what it finds.
 use Rattle.std.specs.Prelude.{◌≡◌, ◌+◌, ◌-◌, ◌≤◌, ℕ, Contains, List, None, Option, Some, false, length}
-use Rattle.std.specs.Prelude.{map}
+use Rattle.std.specs.Prelude.{map, option_map}
 use Rattle.determinize_below.specs.Search.{Asked}
 use Rattle.determinize_below.specs.Semantics.{Nfa}
+use Rattle.determinize_below.specs.declared.search.HalfMatch.{HalfMatch}
 use Rattle.determinize_below.specs.declared.search.Match.{Match}
 use Rattle.determinize_engine.specs.Searches.{text_of}
 use Rattle.determinize_find.specs.Cursors.{SearcherValue}
+use Rattle.determinize_find.specs.Laws.{end_of}
 use Rattle.determinize_find.specs.Matches.{IsNextBy}
 use Rattle.determinize_find.specs.Streams.{whole}
 use Rattle.determinize_nfa.specs.Prefix.{HasPrefix, HasPrefixApart}
@@ -54,6 +56,11 @@ pub record HasOptions (config : RegexConfig) (regex : RegexValue) : Type 0 where
 -- the leftmost match of the patterns in the input
 abbrev pub IsFirst : RegexValue → Asked → Option Match → Type 0
 IsFirst regex = IsLeftmostOfIn regex.terminator (meanings regex)
+
+-- the pattern and the end of that match
+abbrev pub IsFirstEnd : RegexValue → Asked → Option HalfMatch → Type 0
+IsFirstEnd regex asked found =
+    (m : Option Match) × IsFirst regex asked m × (found ≡ option_map end_of m)
 
 -- all matches of the patterns in the input, in their order
 abbrev pub AreAll : RegexValue → Asked → List Match → Type 0

@@ -22,7 +22,7 @@ pub mod stream;
 pub mod utf8;
 
 pub use determinize_below::{
-    Anchored, AsNfa, BuildError, Input, Look, LookMatcher, Match, NFA, PatternID,
+    Anchored, AsNfa, BuildError, HalfMatch, Input, Look, LookMatcher, Match, NFA, PatternID,
 };
 pub use determinize_find::{Finder, Searcher};
 pub use determinize_linear::Tries;

@@ -13,14 +13,14 @@ ghost use Rattle.determinize_linear.specs.Tries.{most_tries};
 ghost use Rattle.determinize_pattern.specs.contracts.pattern.Pattern as e;
 ghost use Rattle.determinize_regex.specs.RegexBytes.{AreBytesOf, regex_bytes};
 ghost use Rattle.determinize_regex.specs.Private.Searched.{IsSearchOf, value_of};
-ghost use Rattle.determinize_regex.specs.Regexes.{AreAll, HasFirst, HasFull, HasOptions, IsFirst, IsNextOf, IsNfaIn, IsRegex, meanings, RegexValue};
+ghost use Rattle.determinize_regex.specs.Regexes.{AreAll, HasFirst, HasFull, HasOptions, IsFirst, IsFirstEnd, IsNextOf, IsNfaIn, IsRegex, meanings, RegexValue};
 ghost use Rattle.determinize_regex.specs.Spelled.{AreSpelled, IsRejected};
 ghost use Rattle.determinize_regex.specs.Streams.{IsStreamOf};
 ghost use Rattle.determinize_syntax.specs.Words.{no_flags};
 
 use crate::error::Error;
 use crate::stream::Stream;
-use determinize_below::{AsNfa, Input, Match, NFA};
+use determinize_below::{AsNfa, HalfMatch, Input, Match, NFA};
 use determinize_find::{Finder, Pieces, Regex as Search, Searcher, cached_memory_usage};
 use determinize_lazy::LazyDfa;
 use determinize_linear::Tries;
@@ -206,6 +206,18 @@ impl<P: AsSlice<Pattern> + Drop, R: AsNfa, A: Allocator + Copy> Regex<P, R, A> {
         ensures same { self.new ≡ self.old }
     {
         self.search.find(input)
+    }
+
+    /// Returns the pattern and the end of the leftmost match of an input, if any, as `find` does,
+    /// but searches for no start.
+    pub fn search_half(&mut self, input: &Input<'_>) -> Result<Option<HalfMatch>, AllocError>
+        requires start { has_start input.now.anchored ≡ true }
+        ensures leftmost { IfOk result (λ found. IsFirstEnd self.old input.now found) }
+        ensures within { IfOk result (λ found. IfSome found
+            (λ m. (input.now.start ≤ m.offset) × (m.offset ≤ input.now.end))) }
+        ensures same { self.new ≡ self.old }
+    {
+        self.search.search_half(input)
     }
 
     /// Returns whether an input has a match. Stops where the end of one is found.

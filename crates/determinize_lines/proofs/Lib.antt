@@ -1,0 +1,4 @@
+mod Alone
+mod Buffers
+mod FirstLines
+mod Stops

@@ -1,0 +1,4 @@
+pub mod Blocks
+pub mod Finders
+pub mod Private
+pub mod Texts
