@@ -1,5 +1,5 @@
 //! Uses of the libraries, to read and to copy. Each module is one use, and its contracts are
-//! proved. `search_tests` runs all but [`counted`], [`pieces`] and [`stored`].
+//! proved. `search_tests` runs all but [`counted`], [`log`], [`pieces`] and [`stored`].
 //!
 //! - [`values`] makes one value of each small type: sets, start kinds, closures, states.
 //! - [`nfa`] makes an NFA by hand, and [`built`] one by a `Builder`.
@@ -12,6 +12,7 @@
 //! - [`input`] finds whether a haystack has a match.
 //! - [`pieces`] finds all matches of patterns in a text of several pieces.
 //!   [`strings`] prints where strings in double quotes are in an input that it reads in pieces.
+//! - [`log`] lists the numbers of the lines of a log that have a match.
 //! - [`search`] and [`cache`] search and walk many texts through one cache.
 //! - [`walk`] finds the preferred match without a cache, and [`counted`] makes one counted step.
 //! - [`dfa`] builds the smallest whole DFA, and lists the patterns that match at a position.
@@ -27,6 +28,7 @@ pub mod dfa;
 pub mod from_bytes;
 pub mod input;
 pub mod lexer;
+pub mod log;
 pub mod nfa;
 pub mod patterns;
 pub mod pieces;
