@@ -47,9 +47,9 @@ pub fn boundaries_law()
 {}
 
 /// States that from a position of a line a pattern that does not read the line terminator has the
-/// ends that it has in the line, between the bytes around it, and if its assertions do not
-/// distinguish the terminator from an end of the text, as in the line as a text. So the leftmost
-/// match in a line is that of the line as a text.
+/// ends that it has in the line, between the bytes around it. If its assertions treat the
+/// terminator as they treat an end of the text, these are the ends in the line as a text. So if the
+/// leftmost match of a text begins in a line, it is that of the line as a text.
 pub fn lines_law()
     ensures in_place { EndsInPlace }
     ensures in_line { EndsInLine }

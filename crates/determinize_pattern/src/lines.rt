@@ -1,7 +1,7 @@
 //! Patterns whose matches stay in a line.
 //!
-//! Over them one search of a block of lines finds what a search of each of its lines finds, as
-//! `lines_law` and `first_line_law` of [`laws`](crate::laws) state.
+//! One search of a block of lines then finds the first of its lines that has a match, as
+//! `first_line_law` of [`laws`](crate::laws) states.
 
 ghost use Rattle.std.specs.Prelude.{◌≡◌, map};
 ghost use Rattle.determinize_pattern.specs.Lines as lines;
@@ -12,10 +12,12 @@ use crate::pattern::Pattern;
 use determinize_below::Look;
 use determinize_below::alphabet::is_word_byte;
 
-/// Returns whether no pattern reads the byte that ends a line, and none has an assertion that
-/// distinguishes this byte from an end of the text. Then the matches in a text are those of each of
-/// its lines as a text. What is repeated zero times does not count. The recursion is as deep as the
-/// patterns are nested.
+/// Returns whether no pattern reads the line terminator, and all assertions treat it as they treat
+/// an end of the text. Then the leftmost match of a text is that of the first line that has one, if
+/// this line is taken as a text. What is repeated zero times does not count. The recursion is as
+/// deep as the patterns are nested.
+///
+/// - `terminator` is the line terminator of the options that the patterns are compiled with.
 #[cycle(stay_in_lines)]
 pub fn stay_in_lines(patterns: &[Pattern], terminator: u8) -> bool
     ensures { result ≡ all_stay terminator (map meaning patterns.now) }

@@ -16,7 +16,7 @@ use std::alloc::{AllocError, AllocFailed, Allocator};
 use std::error::Error;
 use std::fmt;
 
-/// The options of `compile`.
+/// The options of `compile` and `compile_anchored`.
 #[derive(Debug, Drop)]
 pub struct Config {
     /// The budget of `compile`, for the patterns together: each state costs one, and so does each
@@ -47,7 +47,7 @@ impl Config {
     }
 }
 
-/// An error from `compile`.
+/// An error from `compile` or `compile_anchored`.
 #[derive(Clone, Copy, Debug, PartialEq, Eq)]
 pub enum CompileError {
     /// The patterns need more states, or more calls, than the limit allows.
@@ -134,8 +134,8 @@ pub fn compile<A: Allocator + Copy>(
 }
 
 /// Returns the NFA of the patterns, as `compile` does, but without the prefix: both starts are the
-/// anchored one, so each search by it is anchored. A whole DFA of it has no rows for matches that
-/// begin later, as a lexer needs none.
+/// anchored one, so each search by it is anchored. So a whole DFA of it has fewer rows, and a lexer
+/// needs no more.
 ///
 /// The errors are those of `compile`.
 pub fn compile_anchored<A: Allocator + Copy>(

@@ -342,8 +342,10 @@ impl<P: AsSlice<Pattern> + Drop, R: AsNfa, A: Allocator + Copy> Finder for Regex
     }
 }
 
-/// Returns the patterns of texts, each with the flags that hold where it begins. Returns `Parse`
-/// with the index of the first text that `parse_with` rejects.
+/// Returns the patterns of texts, in their order. The flags hold where each begins.
+///
+/// Returns `Parse` with the index of the first text that `parse_with` rejects, and `Compile` if
+/// there is no memory for the list.
 pub fn parse_all(alloc: Global, texts: &[&str], flags: Flags) -> Result<Vec<Pattern>, Error>
     ensures spelled { IfOk result (λ patterns.
         AreSpelled flags (map meaning patterns.items) (map (λ t. t.now) texts.now)) }
