@@ -1,9 +1,10 @@
 //! The command line.
 
-use crate::blocks::{set_of, split_once};
 use crate::error::Error;
 use crate::flags::{Flag, Takes};
 use crate::options::{Action, Binary, Colors, Names, Options, Settings, Shows};
+use crate::split::split_once;
+use determinize_lines::blocks::set_of;
 use std::alloc::AllocError;
 use std::io::Read;
 use std::{fs, io, slice, str};

@@ -1,10 +1,10 @@
 //! The files that are searched.
 
-use crate::blocks::Blocks;
 use crate::error::SearchError;
 use crate::lines::Lines;
 use crate::options::{Names, Options};
 use crate::quoted::{Quoted, Reason};
+use determinize_lines::Blocks;
 use std::alloc::AllocError;
 use std::fs::{self, Metadata};
 use std::io::{self, Read, Write};

@@ -1,11 +1,13 @@
 //! A search in one text after the other, line by line.
 
-use crate::blocks::{Blocks, set_of, split_once};
 use crate::engines::Engines;
 use crate::error::SearchError;
 use crate::options::{Binary, Settings};
 use crate::printer::{Head, Printer};
+use crate::split::split_once;
 use byte_set::ByteSet;
+use determinize_lines::Blocks;
+use determinize_lines::blocks::set_of;
 use std::alloc::{AllocError, Global};
 use std::collections::VecDeque;
 use std::io::Read;
@@ -124,7 +126,7 @@ impl<'a> Lines<'a> {
         blocks.begin();
         for block in 0..u64::MAX {
             self.printer.flush()?;
-            if self.is_done(&text) || !blocks.advance(input)? {
+            if self.is_done(&text) || !blocks.advance(input).map_err(SearchError::Input)? {
                 break;
             }
             if block == 0 && self.makes_binary(blocks.first_bytes()) {
@@ -153,7 +155,6 @@ impl<'a> Lines<'a> {
 
     /// Takes the lines of a block.
     fn take_block(&mut self, text: &mut Text<'_>, block: &[u8]) -> Result<(), SearchError> {
-        self.engines.prepare(block.len());
         let mut rest = block;
         for _ in 0..block.len() {
             if rest.is_empty() || self.is_done(text) {
@@ -180,18 +181,19 @@ impl<'a> Lines<'a> {
         text: &mut Text<'_>,
         lines: &'t [u8],
     ) -> Result<&'t [u8], SearchError> {
-        let Some(at) = self.engines.find(lines) else {
+        let Some(line) = self.engines.find(lines)? else {
             self.take_others(text, lines)?;
             return Ok(&[]);
         };
-        let (passed, found) = self.split_before(lines, at);
+        let passed = lines.get(..line.start).unwrap_or(&[]);
+        let found = lines.get(line.start..).unwrap_or(lines);
         self.take_others(text, passed)?;
         if self.is_done(text) {
             return Ok(&[]);
         }
         // In a binary text the parts of the line may have no match.
         let is_known = self.engines.finds_matches() && !text.is_binary;
-        self.take_first(text, found, is_known.then_some(true))
+        self.take_prefix(text, found, line.len(), is_known.then_some(true))
     }
 
     /// Takes lines one by one. It may be known whether each has a match, or else none.
@@ -219,12 +221,24 @@ impl<'a> Lines<'a> {
         lines: &'t [u8],
         has_match: Option<bool>,
     ) -> Result<&'t [u8], SearchError> {
-        let (line, behind) = split_once(lines, &self.ends);
+        let end = self.ends.find(lines, 0, lines.len());
+        self.take_prefix(text, lines, end.unwrap_or(lines.len()), has_match)
+    }
+
+    /// Takes the first of these lines, which has this length. Returns the others.
+    fn take_prefix<'t>(
+        &mut self,
+        text: &mut Text<'_>,
+        lines: &'t [u8],
+        length: usize,
+        has_match: Option<bool>,
+    ) -> Result<&'t [u8], SearchError> {
+        let line = lines.get(..length).unwrap_or(lines);
         match has_match {
             Some(has_match) => self.take_known(text, line, has_match)?,
             None => self.take(text, line)?,
         }
-        let rest = behind.unwrap_or(&[]);
+        let rest = lines.get(length.saturating_add(1)..).unwrap_or(&[]);
         text.place.pass(1, lines.len().saturating_sub(rest.len()));
         Ok(rest)
     }
@@ -241,15 +255,6 @@ impl<'a> Lines<'a> {
         };
         text.place.pass(count, lines.len());
         Ok(())
-    }
-
-    /// Returns the lines before the one with the byte at an index, and the others.
-    fn split_before<'t>(&self, lines: &'t [u8], index: usize) -> (&'t [u8], &'t [u8]) {
-        let before = lines.get(..index).unwrap_or(&[]);
-        match self.ends.rfind(before, 0, before.len()) {
-            Some(end) => lines.split_at_checked(end + 1).unwrap_or((&[], lines)),
-            None => (&[], lines),
-        }
     }
 
     /// Takes a line. In a binary text a zero byte ends a line too.

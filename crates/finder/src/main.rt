@@ -2,7 +2,6 @@
 #![tactic(auto)]
 
 mod args;
-mod blocks;
 mod command;
 mod engines;
 mod error;
@@ -16,6 +15,7 @@ mod pairs;
 mod patterns;
 mod printer;
 mod quoted;
+mod split;
 mod usage;
 
 use crate::engines::Engines;

@@ -1,8 +1,8 @@
 //! The regex of the patterns.
 
-use crate::engines::are_local;
 use crate::error::Error;
 use crate::options::Settings;
+use determinize_lines::stay_in_lines;
 use determinize_regex::{Error as RegexError, Flags, Regex, RegexConfig};
 use std::alloc::{AllocError, Global};
 
@@ -92,6 +92,8 @@ fn surrounded(
 ///
 /// In a line that ends in LF, assertions about texts and those about lines mean the same. Only with
 /// the second may several lines be searched at once; with the first a search of one ends sooner.
+/// Lines that end in another byte are searched at once if no assertion is about those that end in
+/// LF, as one after `(?m)` is.
 fn regex_of<'a>(
     alloc: Global,
     texts: &Vec<String>,
@@ -104,18 +106,30 @@ fn regex_of<'a>(
     flags.unicode = settings.reads_characters && !settings.is_fixed;
     flags.dot_matches_new_line = !ends_lines;
     flags.multi_line = ends_lines;
-    let regex = parsed(alloc, texts, flags)?;
-    if !ends_lines || are_local(regex.patterns(), b'\n', true) {
+    let regex = parsed(alloc, texts, flags, settings.terminator)?;
+    let is_wanted = if ends_lines {
+        stay_in_lines(regex.patterns(), b'\n')
+    } else {
+        !regex.nfa().look_set_any().contains_anchor_line()
+    };
+    if is_wanted {
         return Ok(regex);
     }
     flags.multi_line = false;
-    parsed(alloc, texts, flags)
+    parsed(alloc, texts, flags, b'\n')
 }
 
-/// Returns the regex of texts, with these flags where each begins.
-fn parsed<'a>(alloc: Global, texts: &Vec<String>, flags: Flags) -> Result<Regex, Error<'a>> {
+/// Returns the regex of texts, with these flags where each begins. The byte is the one that ends
+/// lines for assertions.
+fn parsed<'a>(
+    alloc: Global,
+    texts: &Vec<String>,
+    flags: Flags,
+    terminator: u8,
+) -> Result<Regex, Error<'a>> {
     let mut config = RegexConfig::new();
     config.flags = flags;
+    config.compile.look_matcher.set_line_terminator(terminator);
     let mut borrowed = Vec::new(alloc);
     for text in texts {
         borrowed.push(text.as_str())?;
