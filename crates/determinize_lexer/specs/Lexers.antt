@@ -21,7 +21,7 @@ pub record LexerValue : Type 0 where
 abbrev pub meanings : LexerValue → List Re
 meanings lexer = map meaning lexer.patterns
 
--- a smallest DFA of all patterns, each search by which is anchored
+-- a smallest DFA under `All` of an NFA of the patterns, all of whose searches are anchored
 pub record IsLexerOf (patterns : List Pattern) (dfa : DfaValue) : Type 0 where
   pub means : IsNfaOf (map meaning patterns) dfa.nfa
   pub kind : dfa.kind ≡ All
@@ -34,12 +34,12 @@ pub record IsDfaFor (lexer : LexerValue) (dfa : DfaValue) : Type 0 where
   pub is : IsLexerOf lexer.patterns dfa
   pub terminator : dfa.nfa.terminator ≡ lexer.terminator
 
--- this holds of the error of the patterns, if it is one
+-- if the error is of the patterns, this holds of it
 abbrev pub OfPatterns : (PatternError → Type 0) → Error → Type 0
 OfPatterns P (Patterns e) = P e
 OfPatterns P (Dfa e) = ⊤
 
--- it is not of the text of a pattern
+-- the error is not of the text of a pattern
 abbrev pub WasParsed : PatternError → Type 0
 WasParsed (Parse index e) = ⊥
 WasParsed (Compile e) = ⊤

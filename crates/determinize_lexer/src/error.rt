@@ -22,7 +22,7 @@ impl fmt::Display for Error {
     fn fmt<W: fmt::Write>(&self, f: &mut fmt::Formatter<W>) -> fmt::Result {
         match self {
             Error::Patterns(error) => fmt::Display::fmt(error, f),
-            Error::Dfa(error) => fmt::Display::fmt(error, f),
+            Error::Dfa(error) => write!(f, "whole DFA: {error}"),
         }
     }
 }

@@ -1,15 +1,19 @@
 //! The type of a lexer.
 
-ghost use Rattle.std.specs.Prelude.{◌≡◌, IfErr, IfOk, drop, map};
+ghost use Rattle.std.specs.Prelude.{◌≡◌, ◌<◌, Err, IfErr, IfOk, drop, map};
 ghost use Rattle.std.specs.Coded.{codes};
 ghost use Rattle.determinize_below.specs.declared.search.MatchKind.TheVariants as kinds;
 ghost use Rattle.determinize_dense.specs.Least.{IsLeast};
 ghost use Rattle.determinize_find.specs.Streams.{whole};
 ghost use Rattle.determinize_lexer.specs.Lexers.{IsDfaFor, IsLexerOf, LexerValue, OfPatterns, WasParsed, meanings};
 ghost use Rattle.determinize_lexer.specs.Tokens.{AreTokensOf};
+ghost use Rattle.determinize_lexer.specs.declared.error.Error.TheVariants.{Patterns};
 ghost use Rattle.determinize_linear.specs.Tokens.{end_of_last};
+ghost use Rattle.determinize_pattern.specs.Nesting.{deepest};
 ghost use Rattle.determinize_pattern.specs.contracts.pattern.Pattern as e;
+ghost use Rattle.determinize_pattern.specs.declared.nfa.CompileError.TheVariants.{NestLimitExceeded};
 ghost use Rattle.determinize_regex.specs.Spelled.{AreSpelled, IsRejected};
+ghost use Rattle.determinize_regex.specs.declared.error.Error.TheVariants.{Compile};
 ghost use Rattle.determinize_syntax.specs.Words.{no_flags};
 
 use crate::error::Error;
@@ -53,14 +57,23 @@ impl LexerConfig {
 }
 
 /// Patterns, one for each kind of token, and their smallest whole DFA. The first pattern is pattern
-/// 0, and is preferred to those behind it where both match the same bytes.
+/// 0; of patterns that match the same bytes, the first is preferred.
 ///
 /// It owns all its parts, so a function can return it, and a struct can hold it. Nothing in it
 /// changes, so it may be shared.
-#[derive(Drop)]
 pub struct Lexer {
     patterns: Vec<Pattern>,
     dfa: Dfa<NFA>,
+}
+
+// Derived code is proved at each exit of each function that owns a lexer.
+impl Drop for Lexer {
+    fn drop(self) {
+        let Lexer {
+            patterns: _,
+            dfa: _,
+        } = self;
+    }
 }
 
 impl Model for Lexer {
@@ -76,7 +89,7 @@ impl Model for Lexer {
 impl Lexer {
     /// Returns the lexer of pattern strings. The first is pattern 0.
     ///
-    /// Returns `Patterns` with the index of the first text that `parse_with` rejects, or if
+    /// Returns `Patterns` if a text is rejected (the first such, with its index) or if
     /// `compile_anchored` returns an error, and `Dfa` if the whole DFA would have too many states
     /// or an allocation fails.
     pub fn new(alloc: Global, patterns: &[&str], config: LexerConfig) -> Result<Lexer, Error>
@@ -99,6 +112,8 @@ impl Lexer {
     ) -> Result<Lexer, Error>
         ensures patterns { IfOk result (λ lexer. lexer.patterns ≡ patterns.items) }
         ensures parsed { IfErr result (OfPatterns WasParsed) }
+        ensures nested { config.compile.nest_limit < deepest patterns.items → result
+            ≡ Err (Patterns (Compile (NestLimitExceeded config.compile.nest_limit))) }
         ensures terminator { IfOk result (λ lexer.
             lexer.terminator ≡ config.compile.look_matcher) }
     {
@@ -126,8 +141,8 @@ impl Lexer {
     /// the text, or where no token begins: [`rest`] is what is left.
     ///
     /// The number of steps is linear in the length of the text, for any patterns
-    /// (`lexer::tokens_counted` of `determinize_linear`). The list and a mark for each row and each
-    /// byte are allocated from `alloc`.
+    /// (`lexer::tokens_counted` of `determinize_linear`). The list and a bit for each row of the
+    /// DFA and each byte of the text are allocated from `alloc`.
     pub fn tokens<A: Allocator + Copy>(
         &self,
         alloc: A,
@@ -136,7 +151,20 @@ impl Lexer {
         ensures { IfOk result (λ found. AreTokensOf self.now.terminator (meanings self.now)
             (whole text.now) found.items) }
     {
-        lexer::tokens(alloc, &self.dfa, &Input::new(text))
+        self.tokens_in(alloc, &Input::new(text))
+    }
+
+    /// Returns the tokens of an input, as `tokens` does: the first begins where its range starts.
+    /// The bytes next to the range are seen by assertions. The anchored mode makes no difference.
+    pub fn tokens_in<A: Allocator + Copy>(
+        &self,
+        alloc: A,
+        input: &Input<'_>,
+    ) -> Result<Vec<Match, A>, AllocError>
+        ensures { IfOk result (λ found. AreTokensOf self.now.terminator (meanings self.now)
+            input.now found.items) }
+    {
+        lexer::tokens(alloc, &self.dfa, input)
     }
 }
 
@@ -150,8 +178,8 @@ fn smallest(alloc: Global, nfa: NFA, limit: usize) -> Result<Dfa<NFA>, DfaError>
     Ok(dfa.into_minimized(alloc)?)
 }
 
-/// Returns the bytes of a text behind the last of its tokens. They are none if the tokens cover the
-/// text; otherwise no token begins where they do.
+/// Returns the bytes of a text behind the last of these tokens: none if the tokens cover the text.
+/// After `Lexer::tokens` no token begins where they do.
 pub fn rest<'t>(text: &'t [u8], tokens: &[Match]) -> &'t [u8]
     ensures { result.now ≡ drop (end_of_last 0 tokens.now) text.now }
 {
