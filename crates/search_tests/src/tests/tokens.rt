@@ -69,7 +69,7 @@ fn lexers_by_hand(rt: HostRuntime) {
     }
     let lexer = Lexer::new(rt.alloc(), &["[a-z]+"], LexerConfig::new()).expect(&rt, "few states");
     let tokens = lexer.tokens(rt.alloc(), b"ab-c").expect(&rt, "memory");
-    assert!(rt; rest(b"ab-c", &tokens) == b"-c");
+    assert!(rt; rest(b"ab-c", &tokens) == b"-c".as_slice());
 }
 
 /// Of bytes `a` each is a token, behind which the others are read: there may be a `b`.
