@@ -1,6 +1,6 @@
 -- The flags of one byte, and the parts of a buffer.
--- Main statements: one_member, both_parts, front, last_of_front, part_of_rest.
--- Used by: `set_of` and the calls of `Blocks`.
+-- Main statements: one_member, both_parts, front, last_of_front, part_of_rest, in_part.
+-- Used by: `set_of` and the calls of `Blocks` and `Lines`.
 -- Idea: the block and what follows it are the first bytes of the buffer.
 use Rattle.std.specs.List.{slice_range}
 use Rattle.std.specs.Prelude.{◌==◌, min, slice_get, slice_index}
@@ -9,7 +9,9 @@ use Rattle.std.proofs.Common.{set}
 use Rattle.std.proofs.Math.Seq.{take-add}
 use Rattle.std.proofs.lemmas.Bool.{cases_lt}
 use Rattle.determinize_nfa.proofs.runs.Mirrors.{slice_get-take}
+use Rattle.determinize_nfa.proofs.runs.Shifts.{slice_get-drop}
 use Rattle.std.proofs.lemmas.List.{drop-drop, get_or-set_other, get_or-set_same, take-take}
+use Rattle.std.proofs.lemmas.Option.{slice_get_past}
 
 -- where no other flag is set, the byte of the flag that is set is the only member
 pub one_member : (flags : List Bool) (x b : ℕ) → x < length flags → get_or flags b false ≡ false
@@ -43,3 +45,11 @@ pub part_of_rest : (xs : List ℕ) (n a b : ℕ) → slice_range xs (n + a) (n +
 part_of_rest xs n a b =
     let size : n + b - (n + a) ≡ b - a = omega arith in
     rw (size, drop-drop a n xs) refl
+
+-- an element of a part is one of the list, before the end of the part
+pub in_part : (xs : List ℕ) (a b i x : ℕ) → slice_get (slice_range xs a b) i ≡ Some x
+    → (a + i < b) × (slice_get xs (a + i) ≡ Some x)
+in_part xs a b i x is = by_cases (cases_lt i (b - a))
+    (λ low. (omega (arith, low), sym (slice_get-take (b - a) (drop a xs) i low ∙ slice_get-drop a xs i) ∙ is))
+    (λ past. let none = slice_get_past (slice_range xs a b) i (omega (arith, past, length-take (b - a) (drop a xs))) in
+    absurd (cc))

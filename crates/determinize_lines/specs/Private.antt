@@ -1,1 +1,2 @@
 pub mod Finding
+pub mod Reading

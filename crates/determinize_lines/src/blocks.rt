@@ -44,7 +44,7 @@ impl Model for Blocks {
 }
 
 impl Blocks {
-    /// Returns room for texts whose lines end in this byte, before a first text.
+    /// Returns an empty buffer for texts whose lines end in this byte.
     pub fn new(alloc: Global, terminator: u8) -> Result<Blocks, AllocError>
         ensures begun { IfOk result (λ blocks. blocks ≡ begun blocks.ends) }
         ensures ends { IfOk result (λ blocks. IsOnly blocks.ends terminator) }
@@ -60,7 +60,7 @@ impl Blocks {
         })
     }
 
-    /// Begins a text of which nothing is read yet, and the block is empty.
+    /// Begins a new text: drops all that was read, so that the block is empty.
     pub fn begin(&mut self)
         ensures { self.new ≡ begun self.old.ends }
     {
@@ -84,12 +84,11 @@ impl Blocks {
         &self.bytes[..self.filled.min(BLOCK)]
     }
 
-    /// Passes the block, and reads until another line is whole or the text ends. Returns whether
-    /// there is a line.
+    /// Drops the block, and reads until another line is whole or the text ends. Returns whether
+    /// there is a line. No clause says that the blocks are those of the text.
     ///
     /// Returns an error if a read fails, unless it was interrupted, or if there is no memory for a
-    /// longer line. The block is then empty, and what was read of the next line is kept: it may be
-    /// called again.
+    /// longer line, of kind `OutOfMemory`. The block is then empty, and it may be called again.
     pub fn advance<R: Read>(&mut self, input: &mut R) -> io::Result<bool>
         ensures whole { OnOk result (AreWhole self.new) }
         ensures any { IfOk result (λ any. IsTrue any ↔ (self.new.lines ≢ [])) }

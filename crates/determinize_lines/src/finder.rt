@@ -21,8 +21,8 @@ use std::alloc::{AllocError, Global};
 use std::marker::Model;
 use std::ops::Range;
 
-/// The numbers of bytes after which a whole DFA is built, until one is: a small text is searched at
-/// once, and where much is searched, more states may be built.
+/// The numbers of bytes after which a whole DFA is built, until one is: a small text is searched
+/// without one, and where much is searched, it may have more states.
 const MUCH: [usize; 3] = [1 << 20, 1 << 22, 1 << 24];
 
 /// The number of bytes that are searched for each state of a whole DFA, so that it takes less time
@@ -119,7 +119,7 @@ impl<'r> LineFinder<'r> {
     /// Returns where the first of these lines is that has a match, without the byte that ends it,
     /// or `None` if none has one. The last of them may have no such byte.
     ///
-    /// After an error later results are the same.
+    /// An error does not change what later calls return.
     pub fn find(&mut self, lines: &[u8]) -> Result<Option<Range<usize>>, AllocError>
         ensures first { IfOk result (λ found. IsFirstWithMatch self.old lines.now found) }
         ensures same { self.new ≡ self.old }
@@ -141,7 +141,11 @@ impl<'r> LineFinder<'r> {
         self.has_match(line)
     }
 
-    /// Returns all matches of a line, in linear time if it is long, but not too long.
+    /// Returns all matches of a line, in their order.
+    ///
+    /// A line of 16 KB to 1 MB is searched by `find_all_linear` of the regex, which allocates up to
+    /// a byte for each byte of the line and state of the NFA. Other lines are searched by
+    /// `find_all`, whose time may grow with the square of the length.
     pub fn find_all(&mut self, line: &[u8]) -> Result<Vec<Match>, AllocError>
         ensures all { IfOk result (λ found. AreAllIn self.old.regex line.now found.items) }
         ensures same { self.new ≡ self.old }
@@ -281,50 +285,5 @@ fn text_of(lines: &[u8], terminator: u8) -> &[u8]
     match lines {
         [text @ .., last] if *last == terminator => text,
         _ => lines,
-    }
-}
-
-#[cfg(test)]
-mod tests {
-    use super::LineFinder;
-    use determinize_regex::Regex;
-    use std::process::Abort;
-
-    /// Asserts whether lines are searched at once, and which is the first that has a match.
-    fn expect<R: Abort + AllocGlobal>(
-        rt: &R,
-        pattern: &str,
-        is_at_once: bool,
-        lines: &str,
-        wanted: Option<(usize, usize)>,
-    ) {
-        let regex = Regex::new(rt.alloc(), pattern).expect(rt, "valid");
-        let mut finder = LineFinder::new(rt.alloc(), &regex, b'\n', 1000);
-        assert!(rt; finder.is_at_once() == is_at_once);
-        let found = finder.find(lines.as_bytes()).expect(rt, "memory");
-        let Some(line) = found else {
-            assert!(rt; wanted.is_none());
-            return;
-        };
-        assert!(rt; wanted == Some((line.start, line.end)));
-        let line = lines.as_bytes().get(line).expect(rt, "in the lines");
-        assert!(rt; finder.is_match(line).expect(rt, "memory"));
-    }
-
-    /// No line is behind a last line break, so it has no match.
-    #[test]
-    fn first_lines(rt: HostRuntime) {
-        for (pattern, is_at_once, lines, wanted) in [
-            ("[0-9]+", true, "one\ntwo 2\nthree 3\n", Some((4, 9))),
-            ("(?m)^$", true, "a\n\nb", Some((2, 2))),
-            ("(?m)^$", true, "a\n", None),
-            ("x*", true, "\n", Some((0, 0))),
-            ("x*", true, "", None),
-            ("^b", false, "a\nb\nb", Some((2, 3))),
-            ("e[^x]t", false, "one\ntwo\nest", Some((8, 11))),
-            ("^$", false, "a\n", None),
-        ] {
-            expect(&rt, pattern, is_at_once, lines, wanted);
-        }
     }
 }

@@ -1,8 +1,9 @@
 //! The lines of a text that have a match of patterns.
 //!
-//! [`Lines`] reads a text from any `Read`, and returns one line after the other that has a match:
-//! its number, its offset in the text, its bytes and its matches. [`LineFinder`] finds the first
-//! such line among lines that are in memory, and [`Blocks`] reads a text in blocks of whole lines.
+//! [`Lines`] reads a text from any `Read`, and returns the lines that have a match, one by one: the
+//! number of each, its offset in the text, its bytes and its matches. [`LineFinder`] finds the
+//! first such line among lines that are in memory, and [`Blocks`] reads a text in blocks of whole
+//! lines.
 //!
 //! A line has a match if its bytes have one as a text by themselves, without the byte that ends the
 //! line: so `^` and `\A` hold at its start, and `$` and `\z` at its end.

@@ -1,8 +1,8 @@
 //! The lines of a text that have a match, one after the other.
 
-ghost use Rattle.std.specs.Prelude.{◌≡◌, ◌≤◌, [], IfOk, IfSome, length};
+ghost use Rattle.std.specs.Prelude.{◌≡◌, ◌≤◌, [], IfNone, IfOk, IfSome, OnErr, length};
 ghost use Rattle.determinize_lines.specs.Finders.{FinderValue, IsMatching};
-ghost use Rattle.determinize_lines.specs.Texts.{TextValue};
+ghost use Rattle.determinize_lines.specs.Texts.{IsUnbroken, TextValue};
 ghost use Rattle.determinize_regex.specs.Regexes.{AreAllIn};
 
 use crate::blocks::{Blocks, set_of};
@@ -64,8 +64,9 @@ pub struct Lines<'r, R: Read + Drop> {
 }
 
 impl<'r, R: Read + Drop> Model for Lines<'r, R> {
-    ghost use Rattle.std.specs.Prelude.{◌≤◌, length, slice_range};
+    ghost use Rattle.std.specs.Prelude.{slice_range};
     ghost use Rattle.std.specs.Coded.{codes};
+    ghost use Rattle.determinize_lines.specs.Private.Reading.{IsReading};
     ghost use Rattle.determinize_lines.specs.Texts.{TextValue};
     ghost use Rattle.determinize_pattern.specs.contracts.pattern.Pattern as e;
 
@@ -78,8 +79,7 @@ impl<'r, R: Read + Drop> Model for Lines<'r, R> {
       line = slice_range l.blocks.lines l.start l.end;
     } };
 
-    ghost invariant = { λ l. (l.start ≤ l.end) × (l.end ≤ length l.blocks.lines)
-        × (l.next ≤ length l.blocks.lines) };
+    ghost invariant = { λ l. IsReading l.finder l.blocks l.ends l.start l.end l.next };
 }
 
 impl<'r, R: Read + Drop> Lines<'r, R> {
@@ -112,14 +112,19 @@ impl<'r, R: Read + Drop> Lines<'r, R> {
         })
     }
 
-    /// Moves to the next line that has a match, and returns where it is, or `None` if there is no
-    /// other. Reads no more blocks of the text than it needs to.
+    /// Moves to the next line that has a match, and returns where it is, or `None` if there are no
+    /// more. Reads no more blocks of the text than it needs to. No clause says that no such line is
+    /// skipped, and none speaks of numbers and offsets: they are tested.
     ///
     /// Returns an error where `advance` of [`Blocks`] does, or if an allocation fails. It may be
-    /// called again, and passes no line.
+    /// called again.
     pub fn advance(&mut self) -> io::Result<Option<Line>>
         ensures matches { IfOk result (λ found. IfSome found
             (λ _. IsMatching self.new.finder self.new.line)) }
+        ensures unbroken { IfOk result (λ found. IfSome found
+            (λ _. IsUnbroken self.new.finder.terminator self.new.line)) }
+        ensures none { IfOk result (λ found. IfNone found (self.new.line ≡ [])) }
+        ensures failed { OnErr result (self.new.line ≡ []) }
         ensures same { self.new.finder ≡ self.old.finder }
     {
         self.start = 0;
@@ -151,6 +156,7 @@ impl<'r, R: Read + Drop> Lines<'r, R> {
     }
 
     /// Returns all matches in the line that was returned last, as `find_all` of [`LineFinder`].
+    /// Their ends are indices into its bytes.
     pub fn find_all(&mut self) -> Result<Vec<Match>, AllocError>
         ensures all { IfOk result
             (λ found. AreAllIn self.old.finder.regex self.old.line found.items) }
@@ -158,56 +164,5 @@ impl<'r, R: Read + Drop> Lines<'r, R> {
     {
         self.finder
             .find_all(&self.blocks.lines()[self.start..self.end])
-    }
-}
-
-#[cfg(test)]
-mod tests {
-    use super::{Line, Lines};
-    use determinize_regex::Regex;
-    use std::io::Read;
-
-    /// A text that is read a few bytes at a time.
-    #[derive(Drop)]
-    struct Slow<'t> {
-        rest: &'t [u8],
-    }
-
-    impl Read for Slow<'_> {
-        fn read(&mut self, buf: &mut [u8]) -> std::io::Result<usize> {
-            let count = self.rest.len().min(buf.len()).min(3);
-            buf[..count].copy_from_slice(&self.rest[..count]);
-            self.rest = &self.rest[count..];
-            Ok(count)
-        }
-    }
-
-    #[test]
-    fn is_numbered(rt: HostRuntime) {
-        let text = b"one\ntwo 2\n\nthree\n44 four 4";
-        let regex = Regex::new(rt.alloc(), "[0-9]+").expect(&rt, "valid");
-        let mut lines = Lines::new(rt.alloc(), &regex, b'\n', 1000, Slow { rest: text }).expect(
-            &rt, "memory",
-        );
-        let first = lines.advance().expect(&rt, "read");
-        assert!(rt;
-            first
-                == Some(Line {
-                    number: 2,
-                    offset: 4
-                })
-        );
-        assert!(rt; lines.bytes() == b"two 2".as_slice());
-        let second = lines.advance().expect(&rt, "read");
-        assert!(rt;
-            second
-                == Some(Line {
-                    number: 5,
-                    offset: 17
-                })
-        );
-        assert!(rt; lines.bytes() == b"44 four 4".as_slice());
-        assert!(rt; lines.find_all().expect(&rt, "memory").len() == 2);
-        assert!(rt; lines.advance().expect(&rt, "read").is_none());
     }
 }

@@ -18,6 +18,7 @@ mod finders;
 mod idle;
 mod kept;
 mod linear;
+mod lines;
 mod loops;
 mod patterns;
 mod pieces;
